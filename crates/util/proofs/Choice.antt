@@ -1,0 +1,29 @@
+-- What holds of both ways of a choice holds of the choice.
+use mathlib.Core.Path.{_≡_, refl}
+use mathlib.Core.Bool.{Bool, true, false}
+use Rattle.util.specs.Choice.{choose}
+
+-- by the test
+pub split {ℓ} : {A : Type 0} (P : A → Type ℓ) (t : Bool) (a b : A) → (t ≡ true → P a) → (t ≡ false → P b) → P (choose t a b)
+unfolding choose
+split P true a b f g = f refl
+split P false a b f g = g refl
+
+-- whatever the test says
+pub chosen {ℓ} : {A : Type 0} (P : A → Type ℓ) (t : Bool) (a b : A) → P a → P b → P (choose t a b)
+chosen P t a b p q = split P t a b (λ _. p) (λ _. q)
+
+-- a choice whose test holds, and one whose test fails
+pub choose-true : {A : Type 0} (t : Bool) (a b : A) → t ≡ true → choose t a b ≡ a
+unfolding choose
+choose-true t a b e = rw e
+
+pub choose-false : {A : Type 0} (t : Bool) (a b : A) → t ≡ false → choose t a b ≡ b
+unfolding choose
+choose-false t a b e = rw e
+
+-- a function of a choice
+pub choose-ap : {A B : Type 0} (f : A → B) (t : Bool) (a b : A) → f (choose t a b) ≡ choose t (f a) (f b)
+unfolding choose
+choose-ap f true a b = refl
+choose-ap f false a b = refl

@@ -1,0 +1,8 @@
+-- Laws that belong to no one function.
+pub mod Choice
+pub mod Shift
+pub mod Word
+pub mod Part
+pub mod Diagram
+pub mod Range
+pub mod Bytes

@@ -1,0 +1,27 @@
+-- `util::in_range` meets its contract: the sum that wraps is in range just where the signed number is.
+-- Assumes nothing.
+use native.Mathlib.Omega.{arith}
+use Rattle.util.proofs.Range.{range-pos}
+use borrow.Author.Needs.{needs}
+use Rattle.util.proofs.in_range.Statement.{statement}
+use Rattle.util.proofs.in_range.Tie as tie
+use Rattle.util.proofs.in_range.Reads as reads
+use Rattle.util.proofs.in_range.Lts as lts
+use Rattle.util.proofs.wrapping_add.Reads as wrapping-add-reads
+
+-- src/lib.rt:90:5
+wrapping-add-requires : tie.Need-wrapping-add-requires
+wrapping-add-requires c κs = search needs
+
+-- src/lib.rt:90:44
+add-result : tie.Need-add-result
+add-result c = search needs
+
+-- src/lib.rt:86:1
+returns : tie.Need-returns
+returns c =
+    let a = c .before .args in
+    rw (c .wrapping-add .ensures) (range-pos (a .d) (a .below) (a .above) (omega arith) (omega arith) (omega arith) (omega arith))
+
+pub in-range-spec : {M : Type 1} → statement M
+in-range-spec = tie.close (tie.spec wrapping-add-requires add-result returns)

@@ -1,0 +1,12 @@
+-- Fields of a number's bits (macho/util/mod.rs, `bits` and `sign_extend`).
+use Prim.Native.Nat.{ℕ, _+_, _-_, _/_, _%_, _^_}
+use lib.Dec.{ltb}
+use Rattle.util.specs.Choice.{choose}
+
+-- the n bits of x from bit lo on
+abbrev pub field : ℕ → ℕ → ℕ → ℕ
+field x lo n = x / 2 ^ lo % 2 ^ n
+
+-- the n low bits of x as a signed number, as the 64 bits that hold it
+abbrev pub extend : ℕ → ℕ → ℕ
+extend x n = choose (ltb (x % 2 ^ n) (2 ^ (n - 1))) (x % 2 ^ n) (x % 2 ^ n + (2 ^ 64 - 2 ^ n))
