@@ -35,7 +35,8 @@ splice-set xs a k ys i v ha hi =
     ∙ ap (λ (n : ℕ). set (splice xs a k ys) (n + i) v) (length-take-le a xs ha)
 
 -- and so is a word of n bytes
-pub splice-put : (n : ℕ) (xs : List ℕ) (a k : ℕ) (ys : List ℕ) (i v : ℕ) → a ≤ length xs → i + n ≤ length ys → splice xs a k (put n ys i v) ≡ put n (splice xs a k ys) (a + i) v
+pub splice-put : (n : ℕ) (xs : List ℕ) (a k : ℕ) (ys : List ℕ) (i v : ℕ) → a ≤ length xs → i + n ≤ length ys
+    → splice xs a k (put n ys i v) ≡ put n (splice xs a k ys) (a + i) v
 unfolding put
 splice-put zero xs a k ys i v ha h = refl
 splice-put (suc n) xs a k ys i v ha h =
@@ -59,7 +60,8 @@ pub put-splice : (n : ℕ) (xs : List ℕ) (at v : ℕ) → at + n ≤ length xs
 unfolding put bytes
 put-splice zero xs at v h = rw (add-zero at) (sym (take-append-drop at xs))
 put-splice (suc n) xs at v h =
-    rw (put-splice n xs at v (omega arith), drop-cons xs (at + n) 0 (omega arith), ← append-assoc (take at xs) (bytes n v) (getD xs (at + n) 0 ∷ drop (suc (at + n)) xs))
+    rw (put-splice n xs at v (omega arith), drop-cons xs (at + n) 0 (omega arith))
+    (rw (← append-assoc (take at xs) (bytes n v) (getD xs (at + n) 0 ∷ drop (suc (at + n)) xs))
     (set-at (take at xs ++ bytes n v) _ _ _ (at + n) (simp (length-append, length-take-le at xs (omega arith), length-bytes n v))
     ∙ append-assoc (take at xs) (bytes n v) _
-    ∙ ap (λ (l : List ℕ). take at xs ++ l) (rw (add-suc at n) (sym (append-assoc (bytes n v) (v / 2 ^ (8 * n) % 256 ∷ []) (drop (suc (at + n)) xs)))))
+    ∙ ap (λ (l : List ℕ). take at xs ++ l) (rw (add-suc at n) (sym (append-assoc (bytes n v) (v / 2 ^ (8 * n) % 256 ∷ []) (drop (suc (at + n)) xs))))))

@@ -1,5 +1,4 @@
--- `util::in_range` meets its contract: the sum that wraps is in range just where the signed number is.
--- Assumes nothing.
+-- `in_range`: the sum that wraps is below the range's length just where the signed number is in the range.
 use native.Mathlib.Omega.{arith}
 use Rattle.util.proofs.Range.{range-pos}
 use borrow.Author.Needs.{needs}

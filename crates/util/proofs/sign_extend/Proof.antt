@@ -1,3 +1,4 @@
+-- `sign_extend`: a shifted one is a power of two; the code's test is the definition's.
 use native.Mathlib.Omega.{arith}
 use native.Mathlib.Nat.{mod-lt}
 use Prim.Native.Nat.{_-_}
@@ -33,10 +34,14 @@ sub-result : tie.Need-sub-result
 sub-result c = search needs
 
 add-result : tie.Need-add-result
-add-result c = let n = c .before .args .n in rw (one-shl n (omega arith)) (omega (arith, pow-pos n))
+add-result c =
+    let n = c .before .args .n in
+    rw (one-shl n (omega arith)) (omega (arith, pow-pos n))
 
 add-result-2 : tie.Need-add-result-2
-add-result-2 c = let n = c .before .args .n in rw (one-shl n (omega arith)) (omega (arith, mod-lt (c .before .args .value) (pow-pos n), pow-lt {i = n} {j = 64} (omega arith)))
+add-result-2 c =
+    let n = c .before .args .n in
+    rw (one-shl n (omega arith)) (omega (arith, mod-lt (c .before .args .value) (pow-pos n), pow-lt {i = n} {j = 64} (omega arith)))
 
 returns : tie.Need-returns
 unfolding choose
