@@ -1,0 +1,118 @@
+//! The oracle's calls for reading, fix-up, stubs and thunks.
+
+use std::path::Path;
+
+use crate::arch::{Arm64, Target};
+use crate::chunks::ChunkHeader;
+use crate::context::Context;
+use crate::error::take_errors;
+use crate::input_files::{MappedFile, ObjectFile};
+use crate::input_sections::{InputSection, InputSections, RelocTarget};
+use crate::lent;
+use crate::macho::{MachSection, S_THREAD_LOCAL_REGULAR};
+use crate::stop::{Stop, caught};
+use crate::symbol::{Symbol, Symbols, THREAD_LOCAL};
+
+/// The entries that the Rust reads from `records`, 24 bytes each.
+pub fn read_relocs(contents: &[u8], records: &[u8], sections: &[u64]) -> Result<Vec<u8>, Stop> {
+    let records = lent::records(records);
+    let sections: Vec<_> = sections.iter().map(|&addr| MachSection { addr, flags: 0 }).collect();
+    let hdr = MachSection::default();
+    let path = Path::new("object");
+    let entries = caught(|| Arm64::read_relocs(path, &sections, &hdr, contents, &records))?;
+    Ok(entries.iter().flat_map(lent::entry_bytes).collect())
+}
+
+/// What a fix-up leaves beside the section's bytes.
+#[derive(Clone, Debug, PartialEq, Eq)]
+pub struct FixedUp {
+    /// Reports of document 01, 24 bytes each.
+    pub reports: Vec<u8>,
+    /// Entries for which the Rust says that the target has no address: no kind of report.
+    pub without_address: Vec<u32>,
+}
+
+/// Fixes up `section`. On a stop its bytes are as the Rust left them.
+///
+/// Entry i refers to symbol i or subsection i, which hold the facts of resolved target i; the
+/// entry's own target number plays no part in a fix-up beyond bit 31.
+pub fn apply_reloc_alloc(
+    section: &mut [u8],
+    base: u64,
+    tls_begin: u64,
+    entries: &[u8],
+    targets: &[u8],
+) -> Result<FixedUp, Stop> {
+    let mut entries = lent::entries(entries);
+    let targets = lent::targets(targets);
+    assert!(entries.len() == targets.len(), "one target for each entry");
+
+    let mut headers = Vec::with_capacity(targets.len());
+    let mut isecs = Vec::with_capacity(targets.len() + 1);
+    for (entry, target) in entries.iter_mut().zip(&targets) {
+        entry.target = match entry.target() {
+            RelocTarget::Sym(_) => RelocTarget::Sym(target.entry).pack(),
+            RelocTarget::Section(_) => RelocTarget::Section(target.entry).pack(),
+        };
+        let shndx = u32::from(target.flags & THREAD_LOCAL != 0);
+        let mut isec = InputSection::new(0, shndx, 0, 0, &[]);
+        isec.output_section = target.entry;
+        isecs.push(isec);
+        headers.push(ChunkHeader { addr: target.address, ..Default::default() });
+    }
+    let own = isecs.len();
+    isecs.push(InputSection::new(0, 0, 0, 0, &[]));
+    let object = ObjectFile {
+        mf: MappedFile { name: "object".into() },
+        symbols: (0..targets.len() as u32).collect(),
+        sect_hdrs: vec![
+            MachSection::default(),
+            MachSection { addr: 0, flags: S_THREAD_LOCAL_REGULAR },
+        ],
+        ..Default::default()
+    };
+    let ctx = Context::<Arm64> {
+        objs: vec![object],
+        isecs: InputSections(isecs),
+        symbols: Symbols(targets),
+        headers,
+        tls_begin,
+        ..Default::default()
+    };
+
+    take_errors();
+    let done = caught(|| Arm64::apply_reloc_alloc(&ctx, &entries, own, base, section));
+    let errors = take_errors();
+    done?;
+    let mut fixed = FixedUp { reports: Vec::new(), without_address: Vec::new() };
+    for (entry, message) in errors {
+        match lent::report_bytes(entry, &message) {
+            Some(report) => fixed.reports.extend(report),
+            None => fixed.without_address.push(entry),
+        }
+    }
+    Ok(fixed)
+}
+
+/// A context with one symbol.
+fn one_symbol(symbol: Symbol) -> Context<Arm64> {
+    Context { symbols: Symbols(vec![symbol]), ..Default::default() }
+}
+
+/// The stub at `addr` that jumps through `pointer`, and whether its ADRP reaches.
+pub fn stub(addr: u64, pointer: u64) -> ([u8; 12], bool) {
+    let mut ctx = one_symbol(Symbol { got: pointer, ..Default::default() });
+    ctx.stubs.symbols = vec![0];
+    let mut buf = [0; 12];
+    take_errors();
+    Arm64::write_stubs(&ctx, addr, &mut buf);
+    (buf, take_errors().is_empty())
+}
+
+/// The thunk entry at `addr` that jumps to `target`.
+pub fn thunk(addr: u64, target: u64) -> [u8; 12] {
+    let ctx = one_symbol(Symbol { branch_target: target, ..Default::default() });
+    let mut buf = [0; 12];
+    Arm64::write_thunk(&ctx, addr, &[0], &mut buf);
+    buf
+}

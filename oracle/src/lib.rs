@@ -1,0 +1,43 @@
+//! The oracle: the linker's own arm64 files, compiled unchanged, behind calls on the lent records
+//! of document 01. The modules marked "supplied" come from the source folder; all others are
+//! shims for what is not supplied, or the oracle's calls. README.md has the list.
+
+// The names of the registry's crates, all of which registry.rs stands in for.
+extern crate self as getrandom;
+extern crate self as memchr;
+extern crate self as rayon;
+extern crate self as sha1;
+extern crate self as sha2;
+#[doc(hidden)]
+pub use registry::{Digest, Sha1, Sha256, fill, memchr, prelude};
+
+mod arch; // supplied: mod.rs and arm64.rs
+mod chunks;
+mod context;
+mod dtrace;
+#[doc(hidden)]
+pub mod error;
+mod input_files;
+mod input_sections; // supplied
+mod macho;
+mod macho_consts; // supplied
+mod registry;
+mod symbol;
+mod util; // supplied: mod.rs
+
+mod calls;
+mod hints;
+pub mod lent;
+mod stop;
+pub mod words;
+
+pub use arch::Arm64;
+pub use calls::{FixedUp, apply_reloc_alloc, read_relocs, stub, thunk};
+pub use hints::{HintRun, Outcome, apply_hints, apply_hints_linked};
+pub use stop::Stop;
+pub use words::{AccessWord, AddWord, Words};
+
+/// For what the compiled files name but none of the oracle's calls reaches.
+fn left_out() -> ! {
+    panic!("left out of the oracle")
+}

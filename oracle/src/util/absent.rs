@@ -1,0 +1,1 @@
+//! Stands in for each child module of util that is not supplied; nothing compiled here uses them.
