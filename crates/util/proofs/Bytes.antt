@@ -51,6 +51,10 @@ le-append-right n xs ys at k e =
     le-ext n (xs ++ ys) ys k at
     (λ j l. ap (λ (m : ℕ). getD (xs ++ ys) m 0) {x = k + j} {y = length xs + (at + j)} (omega arith) ∙ getD-append-add xs ys (at + j) 0)
 
+-- a word of what is left after k bytes
+pub le-drop : (n : ℕ) (xs : List ℕ) (k at : ℕ) → le n (drop k xs) at ≡ le n xs (k + at)
+le-drop n xs k at = le-ext n (drop k xs) xs at (k + at) (λ j l. getD-drop k xs (at + j) 0 ∙ ap (λ (m : ℕ). getD xs m 0) (sym (add-assoc k at j)))
+
 -- a word of a part is a word of the whole
 pub le-part : (n : ℕ) (xs : List ℕ) (a k at : ℕ) → at + n ≤ k → le n (part xs a k) at ≡ le n xs (a + at)
 le-part n xs a k at h =

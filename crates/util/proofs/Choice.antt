@@ -1,6 +1,6 @@
 -- What holds of both ways of a choice holds of the choice.
 use mathlib.Core.Path.{_≡_, refl}
-use mathlib.Core.Bool.{Bool, true, false}
+use mathlib.Core.Bool.{Bool, true, false, _&&_, false≢true}
 use Rattle.util.specs.Choice.{choose}
 
 -- by the test
@@ -27,3 +27,14 @@ pub choose-ap : {A B : Type 0} (f : A → B) (t : Bool) (a b : A) → f (choose 
 unfolding choose
 choose-ap f true a b = refl
 choose-ap f false a b = refl
+
+-- both of two tests hold
+pub both : (s t : Bool) → (s && t) ≡ true → (s ≡ true) × (t ≡ true)
+both true t h = (refl, h)
+both false t h = absurd (false≢true h)
+
+-- a choice that gives what its second way does not
+pub choose-first : {A : Type 0} (t : Bool) (a b c : A) → choose t a b ≡ c → (b ≡ c → ⊥) → (t ≡ true) × (a ≡ c)
+unfolding choose
+choose-first true a b c e f = (refl, e)
+choose-first false a b c e f = absurd (f e)

@@ -5,4 +5,6 @@ pub mod Word
 pub mod Part
 pub mod Diagram
 pub mod Range
+pub mod Extend
 pub mod Bytes
+pub mod Below

@@ -38,3 +38,10 @@ abbrev pub keptAt : List Part → ℕ → ℕ → ℕ
 keptAt [] lo x = 0
 keptAt (free n ∷ ps) lo x = keptAt ps (lo + n) x
 keptAt (fixed n v ∷ ps) lo x = keptAt ps (lo + n) x + x / 2 ^ lo % 2 ^ n * 2 ^ lo
+
+-- the word with vs in the free fields, from the lowest up, and what the fixed fields hold
+abbrev pub fill : List Part → List ℕ → ℕ
+fill [] vs = 0
+fill (fixed n v ∷ ps) vs = fill ps vs * 2 ^ n + v
+fill (free n ∷ ps) [] = fill ps [] * 2 ^ n
+fill (free n ∷ ps) (v ∷ vs) = fill ps vs * 2 ^ n + v
