@@ -1,0 +1,4 @@
+-- Laws that belong to no one function.
+pub mod Record
+pub mod RoundTrip
+pub mod Packed

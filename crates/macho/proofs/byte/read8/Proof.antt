@@ -1,0 +1,19 @@
+-- A word of one byte is the byte.
+use Rattle.util.specs.Word.{le}
+use native.Mathlib.Omega.{arith}
+use native.Mathlib.Nat.{add-zero, div-one}
+use borrow.Author.Needs.{needs}
+use Rattle.macho.proofs.byte.read8.Statement.{statement}
+use Rattle.macho.proofs.byte.read8.Tie as tie
+use Rattle.macho.proofs.byte.read8.Reads as reads
+use Rattle.macho.proofs.byte.read8.Lts as lts
+
+shared-slice-read-result : tie.Need-shared-slice-read-result
+shared-slice-read-result c = search needs
+
+returns : tie.Need-returns
+unfolding le
+returns c = simp add-zero (omega arith)
+
+pub read8-spec : {M : Type 1} → statement M
+read8-spec = tie.close (tie.spec shared-slice-read-result returns)

@@ -1,0 +1,33 @@
+-- Each field is what its call promises.
+use Rattle.macho.specs.Hint.{insnAt}
+use borrow.Author.Needs.{needs}
+use Rattle.macho.proofs.hint.HintInsn.read.Statement.{statement}
+use Rattle.macho.proofs.hint.HintInsn.read.Tie as tie
+use Rattle.macho.proofs.hint.HintInsn.read.Reads as reads
+use Rattle.macho.proofs.hint.HintInsn.read.Lts as lts
+use Rattle.util.proofs.read32.Reads as read32-reads
+use Rattle.util.proofs.read64.Reads as read64-reads
+
+read32-requires : tie.Need-read32-requires
+read32-requires c κs = search needs
+
+add-read32 : tie.Need-add-read32
+add-read32 c = search needs
+
+read32-requires-2 : tie.Need-read32-requires-2
+read32-requires-2 c κs = search needs
+
+add-read64 : tie.Need-add-read64
+add-read64 c = search needs
+
+read64-requires : tie.Need-read64-requires
+read64-requires c κs = search needs
+
+returns : tie.Need-returns
+unfolding insnAt
+returns c = cc
+
+pub read-spec : {M : Type 1} → statement M
+read-spec =
+    tie.close
+    (tie.spec read32-requires add-read32 read32-requires-2 add-read64 read64-requires returns)

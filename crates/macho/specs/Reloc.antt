@@ -1,0 +1,36 @@
+-- An entry, 24 bytes (document 01, "Records lent by the linker").
+use Prim.Native.Nat.{ℕ, _+_}
+use mathlib.Core.Bool.{Bool}
+use mathlib.Core.List.{List, [], _∷_}
+use lib.Dec.{eqb}
+use Rattle.util.specs.Word.{le}
+use Rattle.util.specs.Bits.{field}
+use Rattle.macho.specs.Record.{Field, _of_, bytesOf}
+use Rattle.macho.specs.declared.reloc.Reloc.{Reloc}
+
+-- the entry at a place
+unfoldable pub relocAt : List ℕ → ℕ → Reloc
+relocAt s at =
+    record {
+      offset = le 4 s at;
+      ty = le 1 s (at + 4);
+      size = le 1 s (at + 5);
+      «is_pcrel» = le 1 s (at + 6);
+      «is_subtracted» = le 1 s (at + 7);
+      target = le 4 s (at + 8);
+      spare = le 4 s (at + 12);
+      addend = le 8 s (at + 16);
+    }
+
+-- its fields in order
+abbrev pub relocFields : Reloc → List Field
+relocFields r =
+    4 of r .offset ∷ 1 of r .ty ∷ 1 of r .size ∷ 1 of r .«is_pcrel» ∷ 1 of r .«is_subtracted» ∷ 4 of r .target ∷ 4 of r .spare ∷ 8 of r .addend ∷ []
+
+-- its bytes
+unfoldable pub relocBytes : Reloc → List ℕ
+relocBytes r = bytesOf (relocFields r)
+
+-- whether a target names a section: bit 31
+abbrev pub isSection : ℕ → Bool
+isSection target = eqb (field target 31 1) 1

@@ -1,0 +1,85 @@
+// A linker optimization hint with the places of its words (document 01, "Records lent by the linker").
+use crate::byte::read8;
+use crate::consts;
+use util::read32;
+use util::read64;
+ghost use mathlib.Core.Path.{_≡_};
+ghost use Prim.Native.Nat.{_+_, _≤_};
+ghost use lib.ListN.{length};
+ghost use Rattle.macho.specs.Hint.{insnAt, hintAt, wordCount};
+
+// One of a hint's places, 16 bytes: offset in the part, entry number, the word's own address.
+pub struct HintInsn {
+    pub off: u32,
+    pub rel: u32,
+    pub addr: u64,
+}
+
+// A hint, 64 bytes: kind, word count, two ignored bytes, object, start and length of the part, three places.
+pub struct HintRecord {
+    pub kind: u8,
+    pub n: u8,
+    pub object: u32,
+    pub start: u32,
+    pub len: u32,
+    pub insn0: HintInsn,
+    pub insn1: HintInsn,
+    pub insn2: HintInsn,
+}
+
+impl HintInsn {
+    pub const SIZE: usize = 16;
+
+    // The entry number of a place that has none.
+    pub const NO_ENTRY: u32 = 0xffff_ffff;
+
+    // The place at `at`.
+    pub fn read(s: &[u8], at: usize) -> HintInsn
+        requires { ⌜ at + 16 ≤ length (now s) ⌝ }
+        ensures { λ r. ⌜ r ≡ insnAt (now (s .entry)) at ⌝ }
+    {
+        HintInsn {
+            off: read32(s, at),
+            rel: read32(s, at + 4),
+            addr: read64(s, at + 8),
+        }
+    }
+}
+
+impl HintRecord {
+    pub const SIZE: usize = 64;
+
+    // The hint at `at`.
+    pub fn read(s: &[u8], at: usize) -> HintRecord
+        requires { ⌜ at + 64 ≤ length (now s) ⌝ }
+        ensures { λ r. ⌜ r ≡ hintAt (now (s .entry)) at ⌝ }
+    {
+        HintRecord {
+            kind: read8(s, at),
+            n: read8(s, at + 1),
+            object: read32(s, at + 4),
+            start: read32(s, at + 8),
+            len: read32(s, at + 12),
+            insn0: HintInsn::read(s, at + 16),
+            insn1: HintInsn::read(s, at + 32),
+            insn2: HintInsn::read(s, at + 48),
+        }
+    }
+}
+
+// How many words a hint of a kind has; 0 where the number is no kind.
+pub fn word_count(kind: u8) -> u8
+    ensures { λ r. ⌜ r ≡ wordCount kind ⌝ }
+{
+    match kind {
+        consts::LOH_ARM64_ADRP_ADRP => 2,
+        consts::LOH_ARM64_ADRP_LDR => 2,
+        consts::LOH_ARM64_ADRP_ADD_LDR => 3,
+        consts::LOH_ARM64_ADRP_LDR_GOT_LDR => 3,
+        consts::LOH_ARM64_ADRP_ADD_STR => 3,
+        consts::LOH_ARM64_ADRP_LDR_GOT_STR => 3,
+        consts::LOH_ARM64_ADRP_ADD => 2,
+        consts::LOH_ARM64_ADRP_LDR_GOT => 2,
+        _ => 0,
+    }
+}

@@ -1,0 +1,41 @@
+// Why a call turns its input down (document 01, "Turned-down input").
+ghost use mathlib.Core.Path.{_≡_};
+ghost use Rattle.macho.specs.Refusal.{numberOf};
+
+// The table's rows, 1 to 12.
+pub enum Refusal {
+    Lengths,
+    Slots,
+    Bounds,
+    LoneAddend,
+    Unsupported,
+    Unfit,
+    NoSection,
+    LoneSubtractor,
+    Overflow,
+    NeedsSymbol,
+    Flags,
+    NoEntry,
+}
+
+impl Refusal {
+    // The number that document 01 gives it.
+    pub fn number(self) -> u8
+        ensures { λ r. ⌜ r ≡ numberOf self ⌝ }
+    {
+        match self {
+            Refusal::Lengths => 1,
+            Refusal::Slots => 2,
+            Refusal::Bounds => 3,
+            Refusal::LoneAddend => 4,
+            Refusal::Unsupported => 5,
+            Refusal::Unfit => 6,
+            Refusal::NoSection => 7,
+            Refusal::LoneSubtractor => 8,
+            Refusal::Overflow => 9,
+            Refusal::NeedsSymbol => 10,
+            Refusal::Flags => 11,
+            Refusal::NoEntry => 12,
+        }
+    }
+}
