@@ -1,0 +1,121 @@
+-- A set of bits has a record's form where the list has it that the bits were made of: a union's bit is set where one of its parts has it.
+use mathlib.Core.Path.{_≡_, refl, sym, ap, ap₂, _∙_}
+use mathlib.Core.Logic.{_⊎_, inl, inr, ⊎-elim}
+use mathlib.Core.Bool.{Bool, true, false, _&&_, _||_, true≢false}
+use mathlib.Core.List.{List, [], _∷_}
+use Prim.Native.Nat.{ℕ, zero, suc, _+_, _-_, _*_, _/_, _%_, _^_, _<_, _≤_}
+use native.Mathlib.Omega.{arith}
+use native.Mathlib.Nat.{mod-lt, div-eq-of-lt, zero-div, one-mul}
+use borrow.Author.Tests.{eq-eqb, ne-eqb, ltb-true, ltb-false, eqb-true}
+use lib.Bits.{bitOr, or-shr, or-mod, or-zero-l}
+use lib.Dec.{eqb, ltb}
+use lib.Pow.{pow-lt, pow-add, shl-shr, shr-shr, mod-pow-add}
+use Rattle.util.proofs.Choice.{both}
+use Rattle.util.specs.Bits.{field}
+use Rattle.macho.specs.MachRel.{formOf, pcrelOf, p2sizeOf, externOf}
+use Rattle.macho.specs.declared.rel.MachRel.{MachRel}
+use Rattle.arch.specs.Form.{Form, form, formIn, sameForm, member, placeOf, bitOf, bitsOf, hasBit, fieldsFit}
+
+-- a record's form number is its form's place
+pub form-place : (r : MachRel) → formOf (r .bits) ≡ placeOf (formIn r)
+form-place r =
+    let x = r .bits / 2 ^ 24 in
+    mod-pow-add x 1 3
+    ∙ ap₂ (λ (e l : ℕ). e % 2 ^ 1 * 2 ^ 3 + l) (shr-shr (r .bits) 24 3)
+    (mod-pow-add x 2 1 ∙ ap (λ (s : ℕ). s % 2 ^ 2 * 2 ^ 1 + x % 2 ^ 1) (shr-shr (r .bits) 24 1))
+    ∙ omega arith
+
+-- a bit of a union
+or-bit : (x y : ℕ) → x < 2 → y < 2 → eqb (bitOr x y) 1 ≡ (eqb x 1 || eqb y 1)
+or-bit zero y h g = ap (λ (z : ℕ). eqb z 1) (or-zero-l y)
+or-bit (suc zero) zero h g = refl
+or-bit (suc zero) (suc zero) h g = refl
+or-bit (suc zero) (suc (suc y)) h g = absurd (omega arith)
+or-bit (suc (suc x)) y h g = absurd (omega arith)
+
+pub has-or : (a b k : ℕ) → hasBit (bitOr a b) k ≡ (hasBit a k || hasBit b k)
+has-or a b k =
+    ap (λ (x : ℕ). eqb x 1) (ap (λ (x : ℕ). x % 2 ^ 1) (or-shr a b k) ∙ or-mod (a / 2 ^ k) (b / 2 ^ k) 1)
+    ∙ or-bit (field a k 1) (field b k 1) (omega arith) (omega arith)
+
+-- the bits of a power of two
+bit-below : (p k : ℕ) → p < k → field (2 ^ p) k 1 ≡ 0
+bit-below p k h = ap (λ (x : ℕ). x % 2 ^ 1) (div-eq-of-lt (pow-lt h))
+
+bit-at : (k : ℕ) → field (2 ^ k) k 1 ≡ 1
+bit-at k = ap (λ (x : ℕ). x % 2 ^ 1) (ap (λ (x : ℕ). x / 2 ^ k) (sym (one-mul (2 ^ k))) ∙ shl-shr 1 k)
+
+bit-above : (j k : ℕ) → field (2 ^ (suc j + k)) k 1 ≡ 0
+bit-above j k =
+    ap (λ (x : ℕ). x % 2 ^ 1) (ap (λ (x : ℕ). x / 2 ^ k) (pow-add 2 (suc j) k) ∙ shl-shr (2 ^ suc j) k)
+    ∙ omega arith
+
+pub has-power : (p k : ℕ) → hasBit (2 ^ p) k ≡ eqb k p
+has-power p k = by (ltb p k) refl (ltb k p) refl
+  where
+    by : (s : Bool) → ltb p k ≡ s → (t : Bool) → ltb k p ≡ t → hasBit (2 ^ p) k ≡ eqb k p
+    by true e t g = let h = ltb-true p k e in rw (bit-below p k h, ne-eqb k p (λ q. omega arith))
+    by false e true g =
+        let h = ltb-true k p g in
+        let d : p ≡ suc (p - k - 1) + k = omega arith in
+        ap (λ (x : ℕ). eqb x 1) (ap (λ (x : ℕ). field (2 ^ x) k 1) d ∙ bit-above (p - k - 1) k) ∙ sym (ne-eqb k p (λ q. omega arith))
+    by false e false g =
+        let h = ltb-false p k e in
+        let l = ltb-false k p g in
+        let d : p ≡ k = omega arith in
+        ap (λ (x : ℕ). eqb (field (2 ^ x) k 1) 1) d ∙ ap (λ (x : ℕ). eqb x 1) (bit-at k) ∙ sym (eq-eqb k p (omega arith))
+
+-- a test by what it says
+tested : (a b : ℕ) (t : Bool) → (t ≡ true → a ≡ b) → (a ≡ b → t ≡ true) → eqb a b ≡ t
+tested a b true f g = eq-eqb a b (f refl)
+tested a b false f g = ne-eqb a b (λ e. true≢false (sym (g e)))
+
+-- the fields of a form are such as a record can have
+abbrev Fits : Form → Type 0
+Fits f = (f .pcrel < 2) × (f .p2size < 4) × (f .ext < 2)
+
+first-fits : (f : Form) (fs : List Form) → fieldsFit (f ∷ fs) ≡ true → Fits f × (fieldsFit fs ≡ true)
+first-fits f fs h =
+    let p = both (ltb (f .pcrel) 2) _ h in
+    let s = both (ltb (f .p2size) 4) _ (p .1) in
+    let e = both (ltb (f .ext) 2) _ (s .1) in
+    ((ltb-true (f .pcrel) 2 (p .0), ltb-true (f .p2size) 4 (s .0), ltb-true (f .ext) 2 (e .0)), e .1)
+
+record-fits : (r : MachRel) → Fits (formIn r)
+record-fits r = (omega arith, omega arith, omega arith)
+
+-- the fields of a form from its place
+place-fields : (f : Form) → Fits f → (placeOf f % 2 ≡ f .pcrel) × (placeOf f / 2 % 4 ≡ f .p2size) × (placeOf f / 8 ≡ f .ext)
+place-fields f h = (omega arith, omega arith, omega arith)
+
+-- places are equal where forms are
+pub same-place : (f g : Form) → Fits f → Fits g → eqb (placeOf f) (placeOf g) ≡ sameForm f g
+same-place f g hf hg = tested (placeOf f) (placeOf g) (sameForm f g) there back
+  where
+    there : sameForm f g ≡ true → placeOf f ≡ placeOf g
+    there t =
+        let p = both (eqb (f .pcrel) (g .pcrel)) _ t in
+        let s = both (eqb (f .p2size) (g .p2size)) _ (p .1) in
+        omega (arith, eqb-true (f .pcrel) (g .pcrel) (p .0), eqb-true (f .p2size) (g .p2size) (s .0), eqb-true (f .ext) (g .ext) (s .1))
+
+    back : placeOf f ≡ placeOf g → sameForm f g ≡ true
+    back e =
+        let a = place-fields f hf in
+        let b = place-fields g hg in
+        rw (
+          eq-eqb (f .pcrel) (g .pcrel) (sym (a .0) ∙ ap (λ (x : ℕ). x % 2) e ∙ b .0),
+          eq-eqb (f .p2size) (g .p2size) (sym (a .1) ∙ ap (λ (x : ℕ). x / 2 % 4) e ∙ b .1),
+          eq-eqb (f .ext) (g .ext) (sym (a .2) ∙ ap (λ (x : ℕ). x / 8) e ∙ b .2),
+        )
+
+-- a record's form is in a set of bits where it is in the list that the set was made of
+pub has-member : (fs : List Form) (r : MachRel) → fieldsFit fs ≡ true → hasBit (bitsOf fs) (formOf (r .bits)) ≡ member (formIn r) fs
+has-member [] r h = ap (λ (x : ℕ). eqb (x % 2) 1) (zero-div (2 ^ formOf (r .bits)))
+has-member (f ∷ fs) r h =
+    let g = first-fits f fs h in
+    has-or (bitOf f) (bitsOf fs) (formOf (r .bits))
+    ∙ ap₂ (λ (a b : Bool). a || b)
+    (has-power (placeOf f) (formOf (r .bits))
+    ∙ ap (λ (k : ℕ). eqb k (placeOf f)) (form-place r)
+    ∙ same-place (formIn r) f (record-fits r) (g .0))
+    (has-member fs r (g .1))

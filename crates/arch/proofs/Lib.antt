@@ -1,0 +1,8 @@
+-- Laws that belong to no one function.
+pub mod Flags
+pub mod Forms
+pub mod Records
+pub mod Targets
+pub mod Walk
+pub mod Fuel
+pub mod Append

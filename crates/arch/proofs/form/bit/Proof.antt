@@ -1,0 +1,19 @@
+use mathlib.Core.Path.{_≡_}
+use native.Mathlib.Omega.{arith}
+use Rattle.arch.proofs.Flags.{cast-flag}
+use borrow.Author.Needs.{needs}
+use Rattle.arch.proofs.form.bit.Statement.{statement}
+use Rattle.arch.proofs.form.bit.Tie as tie
+use Rattle.arch.proofs.form.bit.Reads as reads
+use Rattle.arch.proofs.form.bit.Lts as lts
+
+-- src/form.rt:13:5
+cast-result : tie.Need-cast-result
+cast-result c = search needs
+
+-- src/form.rt:10:1
+returns : tie.Need-returns
+returns c = let f = cast-flag (c .args .set) in (f .0, omega arith)
+
+pub bit-spec : {M : Type 1} → statement M
+bit-spec = tie.close (tie.spec cast-result returns)

@@ -1,0 +1,71 @@
+use mathlib.Core.Path.{_≡_, refl, ap, _∙_}
+use Prim.Native.Nat.{ℕ, _/_, _%_, _^_}
+use native.Mathlib.Omega.{arith}
+use native.Mathlib.Nat.{one-mul}
+use lib.Dec.{eqb, lit<}
+use lib.Pow.{shl-exact}
+use mir.Val.{boolByte}
+use Rattle.arch.proofs.Flags.{cast-flag, cast-bit}
+use borrow.Author.Needs.{needs}
+use Rattle.arch.proofs.step.entry_of.Statement.{statement}
+use Rattle.arch.proofs.step.entry_of.Tie as tie
+use Rattle.arch.proofs.step.entry_of.Reads as reads
+use Rattle.arch.proofs.step.entry_of.Lts as lts
+use Rattle.macho.proofs.rel.MachRel.is_pcrel.Reads as is-pcrel-reads
+use Rattle.macho.proofs.rel.MachRel.p2size.Reads as p2size-reads
+use Rattle.macho.proofs.rel.MachRel.ty.Reads as ty-reads
+
+-- src/step.rt:34:13
+ty-requires : tie.Need-ty-requires
+ty-requires c κs = search needs
+
+-- src/step.rt:35:20
+p2size-requires : tie.Need-p2size-requires
+p2size-requires c κs = search needs
+
+-- src/step.rt:35:20
+cast-t8 : tie.Need-cast-t8
+cast-t8 c = search needs
+
+-- src/step.rt:35:15
+shl-t9 : tie.Need-shl-t9
+shl-t9 c = search needs
+
+-- src/step.rt:36:19
+is-pcrel-requires : tie.Need-is-pcrel-requires
+is-pcrel-requires c κs = search needs
+
+-- src/step.rt:36:19
+cast-t11 : tie.Need-cast-t11
+cast-t11 c = search needs
+
+-- src/step.rt:37:24
+cast-t12 : tie.Need-cast-t12
+cast-t12 c = search needs
+
+-- src/step.rt:29:1
+returns : tie.Need-returns
+returns c =
+    let a = c .before .before .before .args in
+    let p = c .before .p2size .result in
+    rw (
+      c .before .before .ty .ensures,
+      shl-exact 1 p 8 (lit< tt) (omega (arith, c .before .p2size .ensures)),
+      one-mul (2 ^ p),
+      c .before .p2size .ensures,
+      ap boolByte (c .is-pcrel .ensures) ∙ cast-bit (a .r .bits / 2 ^ 24 % 2) (omega arith),
+      cast-flag (a .subtracted) .0,
+    )
+
+pub entry-of-spec : {M : Type 1} → statement M
+entry-of-spec =
+    tie.close
+    (tie.spec
+    ty-requires
+    p2size-requires
+    cast-t8
+    shl-t9
+    is-pcrel-requires
+    cast-t11
+    cast-t12
+    returns)

@@ -1,0 +1,44 @@
+use mathlib.Core.Path.{_≡_}
+use Prim.Native.Nat.{ℕ, _*_, _/_, _<_, _≤_}
+use native.Mathlib.Omega.{arith}
+use borrow.Author.Tests.{eq-eqb, ne-eqb, lt-ltb, le-ltb}
+use Rattle.util.specs.Choice.{choose}
+use Rattle.arch.specs.Table.{lengthsOf}
+use Rattle.arch.proofs.table.check_lengths.Statement.{statement}
+use Rattle.arch.proofs.table.check_lengths.Tie as tie
+use Rattle.arch.proofs.table.check_lengths.Reads as reads
+use Rattle.arch.proofs.table.check_lengths.Lts as lts
+
+-- src/table.rt:35:9
+returns : tie.Need-returns
+unfolding lengthsOf choose
+returns c = simp (ne-eqb _ _ (c .if1 .taken))
+
+-- src/table.rt:38:9
+returns-2 : tie.Need-returns-2
+unfolding lengthsOf choose
+returns-2 c = simp (eq-eqb _ _ (c .before .if1 .left), lt-ltb _ _ (c .if2 .taken))
+
+-- src/table.rt:41:9
+returns-3 : tie.Need-returns-3
+unfolding lengthsOf choose
+returns-3 c = simp (eq-eqb _ _ (c .before .before .if1 .left), le-ltb _ _ (c .before .if2 .left), lt-ltb _ _ (c .if3 .taken))
+
+-- src/table.rt:44:9
+returns-4 : tie.Need-returns-4
+unfolding lengthsOf choose
+returns-4 c =
+    let a = c .before .before .before .before .args in
+    let less : a .slots < 24 * (a .rels / 8) = omega arith in
+    simp (eq-eqb _ _ (c .before .before .before .if1 .left), le-ltb _ _ (c .before .before .if2 .left), le-ltb _ _ (c .before .if3 .left), lt-ltb _ _ less)
+
+-- src/table.rt:31:1
+returns-5 : tie.Need-returns-5
+unfolding lengthsOf choose
+returns-5 c =
+    let a = c .before .before .before .before .args in
+    let room : 24 * (a .rels / 8) ≤ a .slots = omega arith in
+    simp (eq-eqb _ _ (c .before .before .before .if1 .left), le-ltb _ _ (c .before .before .if2 .left), le-ltb _ _ (c .before .if3 .left), le-ltb _ _ room)
+
+pub check-lengths-spec : {M : Type 1} → statement M
+check-lengths-spec = tie.close (tie.spec returns returns-2 returns-3 returns-4 returns-5)

@@ -1,0 +1,54 @@
+-- Forms of a relocation record, and sets of them (Apple's relocation_info; macho/arch/mod.rs, `reloc_form` and `has_reloc_form`).
+use Prim.Native.Nat.{ℕ, _+_, _*_, _^_}
+use mathlib.Core.Bool.{Bool, true, false, _&&_, _||_}
+use mathlib.Core.List.{List, [], _∷_}
+use lib.Bits.{bitOr}
+use lib.Dec.{eqb, ltb}
+use Rattle.util.specs.Bits.{field}
+use Rattle.macho.specs.MachRel.{pcrelOf, p2sizeOf, externOf}
+use Rattle.macho.specs.declared.rel.MachRel.{MachRel}
+
+-- a form: the r_pcrel, r_length and r_extern fields of a record
+pub record Form : Type 0 where
+  pub pcrel : ℕ
+  pub p2size : ℕ
+  pub ext : ℕ
+
+-- the form with these fields
+abbrev pub form : ℕ → ℕ → ℕ → Form
+form pcrel p2size ext = record { pcrel = pcrel; p2size = p2size; ext = ext }
+
+-- the form of a record
+abbrev pub formIn : MachRel → Form
+formIn r = form (pcrelOf (r .bits)) (p2sizeOf (r .bits)) (externOf (r .bits))
+
+-- whether two forms are the same
+abbrev pub sameForm : Form → Form → Bool
+sameForm f g = eqb (f .pcrel) (g .pcrel) && (eqb (f .p2size) (g .p2size) && eqb (f .ext) (g .ext))
+
+-- whether a form is one of a set, which is a list of forms
+abbrev pub member : Form → List Form → Bool
+member f [] = false
+member f (g ∷ gs) = sameForm f g || member f gs
+
+-- a form's place in a set of bits: the number that its fields make in bits 24 to 27 of a record
+abbrev pub placeOf : Form → ℕ
+placeOf f = f .pcrel + 2 * f .p2size + 8 * f .ext
+
+-- a form as a bit
+abbrev pub bitOf : Form → ℕ
+bitOf f = 2 ^ placeOf f
+
+-- a set as bits
+abbrev pub bitsOf : List Form → ℕ
+bitsOf [] = 0
+bitsOf (f ∷ fs) = bitOr (bitOf f) (bitsOf fs)
+
+-- whether a set of bits has the bit of a place
+abbrev pub hasBit : ℕ → ℕ → Bool
+hasBit forms place = eqb (field forms place 1) 1
+
+-- whether the fields of a set's forms are such as a record can have: one, two and one bits
+abbrev pub fieldsFit : List Form → Bool
+fieldsFit [] = true
+fieldsFit (f ∷ fs) = ltb (f .pcrel) 2 && (ltb (f .p2size) 4 && (ltb (f .ext) 2 && fieldsFit fs))

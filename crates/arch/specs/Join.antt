@@ -1,0 +1,23 @@
+-- What two tables, one after the other, read to.
+use Prim.Native.Nat.{ℕ, _+_}
+use mathlib.Core.List.{List, _++_, map}
+use Rattle.macho.specs.declared.reloc.Reloc.{Reloc}
+use Rattle.arch.specs.declared.step.Step.{Step}
+use Rattle.arch.specs.declared.step.Step.the-variants as S
+use Rattle.arch.specs.Walk.{Answer, refused, entries}
+
+-- the entries of the first, then those of the second, or the first refusal
+abbrev pub joined : Answer → Answer → Answer
+joined (refused x) b = refused x
+joined (entries es) (refused x) = refused x
+joined (entries es) (entries fs) = entries (es ++ fs)
+
+-- an answer with each entry changed
+abbrev pub mapped : (Reloc → Reloc) → Answer → Answer
+mapped f (refused x) = refused x
+mapped f (entries es) = entries (map f es)
+
+-- a step of a table that stands d records further on, with its entry changed
+abbrev pub moved : ℕ → (Reloc → Reloc) → Step → Step
+moved d f (S.Refused x) = S.Refused x
+moved d f (S.Read e next) = S.Read (f e) (d + next)

@@ -1,0 +1,38 @@
+-- A table of relocation records (document 01, "macho/macho.rs" and numbers 1 and 2 of "Turned-down input").
+use Prim.Native.Nat.{ℕ, zero, suc, _+_, _-_, _*_, _/_, _%_, _^_}
+use mathlib.Core.Bool.{Bool}
+use mathlib.Core.List.{List, [], _∷_}
+use lib.ListN.{length, getD}
+use lib.Dec.{eqb, ltb}
+use Rattle.util.specs.Choice.{choose}
+use Rattle.macho.specs.MachRel.{machRelAt, typeOf}
+use Rattle.macho.specs.declared.rel.MachRel.{MachRel}
+use Rattle.macho.specs.declared.refusal.Refusal.the-variants.{Lengths, Slots}
+use Rattle.arch.specs.declared.step.Check.{Check}
+use Rattle.arch.specs.declared.step.Check.the-variants.{Fit, Refused}
+
+-- the n records of 8 bytes from `at` on
+unfoldable pub recordsFrom : List ℕ → ℕ → ℕ → List MachRel
+recordsFrom s zero at = []
+recordsFrom s (suc n) at = machRelAt s at ∷ recordsFrom s n (at + 8)
+
+-- the records of a list of bytes
+unfoldable pub recordsOf : List ℕ → List MachRel
+recordsOf s = recordsFrom s (length s / 8) 0
+
+-- record i of a list
+abbrev pub recordAt : List MachRel → ℕ → MachRel
+recordAt rs i = getD rs i (record { offset = 0; bits = 0 })
+
+-- whether the record directly before record i is of the type SUBTRACTOR; `before` says it of the record before the list
+unfoldable pub subtractedAt : ℕ → Bool → List MachRel → ℕ → Bool
+subtractedAt subtractor before rs i = choose (eqb i 0) before (eqb (typeOf (recordAt rs (i - 1) .bits)) subtractor)
+
+-- numbers 1 and 2, of the lengths that a reader is lent
+unfoldable pub lengthsOf : ℕ → ℕ → ℕ → Check
+lengthsOf rels sections slots =
+    choose (eqb (rels % 8) 0)
+    (choose (ltb (2 ^ 32 - 1) (rels / 8))
+    (Refused Lengths)
+    (choose (ltb (2 ^ 32 - 1) sections) (Refused Lengths) (choose (ltb slots (24 * (rels / 8))) (Refused Slots) Fit)))
+    (Refused Lengths)

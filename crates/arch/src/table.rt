@@ -1,0 +1,47 @@
+// A table of relocation records, 8 bytes each.
+use crate::step::Check;
+use macho::refusal::Refusal;
+use macho::rel::MachRel;
+ghost use mathlib.Core.Path.{_≡_};
+ghost use mathlib.Core.Bool.{false};
+ghost use Prim.Native.Nat.{_/_, _<_};
+ghost use lib.ListN.{length};
+ghost use Rattle.arch.specs.Table.{recordsOf, recordAt, subtractedAt, lengthsOf};
+
+// Record i.
+pub fn record_at(rels: &[u8], i: usize) -> MachRel
+    requires { ⌜ i < length (now rels) / 8 ⌝ }
+    ensures { λ r. ⌜ r ≡ recordAt (recordsOf (now (rels .entry))) i ⌝ }
+{
+    MachRel::read(rels, 8 * i)
+}
+
+// Whether the record directly before record i is of the machine's SUBTRACTOR type.
+pub fn is_subtracted(rels: &[u8], i: usize, subtractor: u8) -> bool
+    requires { ⌜ i < length (now rels) / 8 ⌝ }
+    ensures { λ r. ⌜ r ≡ subtractedAt subtractor false (recordsOf (now (rels .entry))) i ⌝ }
+{
+    if i == 0 {
+        return false;
+    }
+    record_at(rels, i - 1).ty() == subtractor
+}
+
+// The lengths that a reader is lent: of the records and the slots in bytes, of the section list in addresses.
+pub fn check_lengths(rels: usize, sections: usize, slots: usize) -> Check
+    ensures { λ r. ⌜ r ≡ lengthsOf rels sections slots ⌝ }
+{
+    if rels % 8 != 0 {
+        return Check::Refused(Refusal::Lengths);
+    }
+    if 0xffff_ffff < rels / 8 {
+        return Check::Refused(Refusal::Lengths);
+    }
+    if 0xffff_ffff < sections {
+        return Check::Refused(Refusal::Lengths);
+    }
+    if slots / 24 < rels / 8 {
+        return Check::Refused(Refusal::Slots);
+    }
+    Check::Fit
+}
