@@ -1,0 +1,62 @@
+-- The 32 cells of size, V and opc: a rule of all of them is one computed test.
+use mathlib.Core.Path.{_≡_, refl, ap, _∙_}
+use mathlib.Core.Bool.{Bool, true, false, false≢true}
+use Prim.Native.Nat.{ℕ, _+_, _*_, _/_, _%_, _^_, _<_}
+use native.Mathlib.Omega.{arith}
+use borrow.Author.Tests.{eqb-true}
+use lib.Dec.{eqb}
+use Rattle.util.specs.Choice.{choose}
+use Rattle.util.proofs.Below.{every, every-at}
+use Rattle.arm64_insn.specs.LoadStoreTable.{rowOf}
+use Rattle.arm64_insn.specs.LoadStore.{accessOf}
+use Rattle.arm64_insn.specs.declared.ldst.Access.{Access}
+use Rattle.arm64_insn.specs.declared.ldst.Access.the-variants.{Of, Neither}
+
+-- a test that holds of every cell holds of this one
+pub each-cell : (f : ℕ → ℕ → ℕ → Bool) → every (λ k. f (k / 8) (k / 4 % 2) (k % 4)) 32 ≡ true
+    → (size v opc : ℕ) → size < 4 → v < 2 → opc < 4 → f size v opc ≡ true
+each-cell f e size v opc hs hv ho =
+    let k = size * 8 + v * 4 + opc in
+    let es : k / 8 ≡ size = omega arith in
+    let ev : k / 4 % 2 ≡ v = omega arith in
+    let eo : k % 4 ≡ opc = omega arith in
+    rw (es, ev, eo) at (every-at (λ k. f (k / 8) (k / 4 % 2) (k % 4)) 32 e k (omega arith))
+
+-- opc 0 stores and 1 loads 2^size bytes. Above that, size 0 of a vector register stores or loads 16 bytes; else it is a
+-- load of 2^size bytes, but for size 3, and size 2 with opc 3
+unfoldable pub tested : ℕ → ℕ → ℕ → Access
+tested size v opc =
+    choose (eqb opc 0) (Of (2 ^ size) true)
+    (choose (eqb opc 1) (Of (2 ^ size) false)
+    (choose (eqb size 0) (choose (eqb v 1) (Of 16 (eqb opc 2)) (Of (2 ^ size) false))
+    (choose (eqb size 3) Neither
+    (choose (eqb size 2) (choose (eqb opc 3) Neither (Of (2 ^ size) false))
+    (Of (2 ^ size) false)))))
+
+-- whether two accesses are the same
+abbrev same : Access → Access → Bool
+same (Of m true) (Of n true) = eqb m n
+same (Of m false) (Of n false) = eqb m n
+same (Of m true) (Of n false) = false
+same (Of m false) (Of n true) = false
+same (Of m s) Neither = false
+same Neither (Of n t) = false
+same Neither Neither = true
+
+same-is : (a b : Access) → same a b ≡ true → a ≡ b
+same-is (Of m true) (Of n true) e = ap (λ (k : ℕ). Of k true) (eqb-true m n e)
+same-is (Of m false) (Of n false) e = ap (λ (k : ℕ). Of k false) (eqb-true m n e)
+same-is (Of m true) (Of n false) e = absurd (false≢true e)
+same-is (Of m false) (Of n true) e = absurd (false≢true e)
+same-is (Of m true) Neither e = absurd (false≢true e)
+same-is (Of m false) Neither e = absurd (false≢true e)
+same-is Neither (Of n t) e = absurd (false≢true e)
+same-is Neither Neither e = refl
+
+-- the tests of `access_of`, in their order, give what the table's rows and those taken as loads give
+tested-is : (size v opc : ℕ) → size < 4 → v < 2 → opc < 4 → tested size v opc ≡ accessOf size v opc
+unfolding tested accessOf rowOf choose every
+tested-is size v opc hs hv ho = same-is _ _ (each-cell (λ s v o. same (tested s v o) (accessOf s v o)) refl size v opc hs hv ho)
+
+pub found : (size v opc : ℕ) (a : Access) → (size < 4) × (v < 2) × (opc < 4) → a ≡ tested size v opc → a ≡ accessOf size v opc
+found size v opc a h e = e ∙ tested-is size v opc (h .0) (h .1) (h .2)

@@ -1,0 +1,303 @@
+-- Demand 2, "decoders": what each decoder and each test of a word answers, against the manual's form of the word. A diagram that
+-- asks more than a class's says which fields it fixes besides; the rest is the class's form.
+use mathlib.Core.Path.{_≡_, refl, sym, ap, _∙_}
+use mathlib.Core.Bool.{Bool, true, false, _&&_, _||_, not, false≢true}
+use mathlib.Core.List.{[], _∷_}
+use Prim.Native.Nat.{ℕ, _+_, _-_, _*_, _/_, _%_, _^_, _<_, _≤_}
+use native.Mathlib.Omega.{arith}
+use borrow.Author.Tests.{not-true, lt-ltb, eqb-true}
+use lib.Dec.{eqb, ltb, lit<, lit≤}
+use lib.Pow.{shr-shr}
+use lib.Pow as Pow
+use Rattle.util.specs.Choice.{choose}
+use Rattle.util.specs.Bits.{field}
+use Rattle.util.specs.Diagram.{matches, fill}
+use Rattle.util.proofs.Choice.{choose-true, choose-false, choose-first, both}
+use Rattle.util.proofs.Below.{every}
+use Rattle.util.proofs.Diagram.{finer, fixed-field, matches-fill, matches-fields}
+use Rattle.arm64_insn.specs.Encoding.{adrp, add, addUnshifted, addImmediate, loadStore, ldrImmediate}
+use Rattle.arm64_insn.specs.LoadStoreTable.{Row, load, store, prefetch, unallocated, zeros, sign32, sign64, rowOf, movedBy, moves, isStore, isAllocated}
+use Rattle.arm64_insn.specs.Manual.{ADRP, ADD, LDST, form, none, loadStoreForm, decode, allocated}
+use Rattle.arm64_insn.specs.Manual.{rdIn, rnIn, imm12In, sfIn, shIn, sizeIn, vIn, opcIn, rowIn}
+use Rattle.arm64_insn.specs.Adrp.{adrpOf}
+use Rattle.arm64_insn.specs.Add.{addOf}
+use Rattle.arm64_insn.specs.LoadStore.{accessIn, takenAsLoad, accessOf, loadStoreWith, loadStoreOf}
+use Rattle.arm64_insn.specs.Fix.{scaleOf, quad}
+use Rattle.arm64_insn.specs.declared.adrp.Adrp as A
+use Rattle.arm64_insn.specs.declared.adrp.AdrpWord.{AdrpWord}
+use Rattle.arm64_insn.specs.declared.adrp.AdrpWord.the-variants as AdrpWord
+use Rattle.arm64_insn.specs.declared.add.Add as D
+use Rattle.arm64_insn.specs.declared.add.AddWord.{AddWord}
+use Rattle.arm64_insn.specs.declared.add.AddWord.the-variants as AddWord
+use Rattle.arm64_insn.specs.declared.ldst.Access.the-variants.{Of}
+use Rattle.arm64_insn.specs.declared.ldst.LoadStore as L
+use Rattle.arm64_insn.specs.declared.ldst.LoadStoreWord.{LoadStoreWord}
+use Rattle.arm64_insn.specs.declared.ldst.LoadStoreWord.the-variants as LoadStoreWord
+use Rattle.arm64_insn.proofs.Cells.{each-cell}
+use Rattle.arm64_insn.proofs.Manual.{decode-has, has-decode, encode-decode, decode-in-range}
+use Rattle.arm64_insn.proofs.ManualClasses.{by-class}
+
+-- `Adrp::decode` answers the manual's ADRP, and nothing else
+pub adrp-decodes : (w : ℕ) (a : A.Adrp) → adrpOf w ≡ AdrpWord.Adrp a → decode w ≡ form (ADRP (a .rd) (a .imm))
+unfolding adrpOf
+adrp-decodes w a e =
+    let q = choose-first (matches adrp w) _ AdrpWord.Other (AdrpWord.Adrp a) e (λ f. let z : _≡_ {A = ℕ} 0 1 = cc in omega arith) in
+    by-class w 1 (lit< tt) (q .0) ∙ cc (q .1)
+
+pub decodes-adrp : (w rd imm : ℕ) → decode w ≡ form (ADRP rd imm) → adrpOf w ≡ AdrpWord.Adrp (record { rd = rd; imm = imm })
+unfolding adrpOf
+decodes-adrp w rd imm e =
+    let m = decode-has w (ADRP rd imm) e .matched in
+    choose-true (matches adrp w) _ _ m ∙ cc (by-class w 1 (lit< tt) m, e)
+
+-- `Add::decode` answers the manual's ADD of 64 bits with an unshifted immediate, and nothing else
+pub add-decodes : (w : ℕ) (a : D.Add) → addOf w ≡ AddWord.Add a → decode w ≡ form (ADD 1 0 (a .rd) (a .rn) (a .imm))
+unfolding addOf
+add-decodes w a e =
+    let q = choose-first (matches add w) _ AddWord.Other (AddWord.Add a) e (λ f. let z : _≡_ {A = ℕ} 0 1 = cc in omega arith) in
+    let m = finer addImmediate add w refl refl refl refl (q .0) in
+    let sf : sfIn w ≡ 1 = fixed-field add w 31 1 1 refl refl refl refl (q .0) in
+    let sh : shIn w ≡ 0 = fixed-field add w 22 1 0 refl refl refl refl (q .0) in
+    by-class w 2 (lit< tt) m ∙ cc (q .1)
+
+pub decodes-add : (w rd rn imm : ℕ) → w < 2 ^ 32 → decode w ≡ form (ADD 1 0 rd rn imm) → addOf w ≡ AddWord.Add (record { rd = rd; rn = rn; imm = imm })
+unfolding addOf
+decodes-add w rd rn imm l e =
+    let h = decode-has w (ADD 1 0 rd rn imm) e in
+    let r = h .in-range in
+    let m : matches add w ≡ true =
+    ap (matches add) (sym (encode-decode w (ADD 1 0 rd rn imm) l e)) ∙ matches-fill add (rd ∷ rn ∷ imm ∷ []) refl (r .2, (r .3, (r .4, tt))) in
+    choose-true (matches add w) _ _ m ∙ cc (by-class w 2 (lit< tt) (h .matched), e)
+
+-- a load of 4 bytes that copies its sign up to bit 63: LDRSW
+abbrev pub isLdrsw : Row → Bool
+isLdrsw (load m r n zeros) = false
+isLdrsw (load m r n sign32) = false
+isLdrsw (load m r n sign64) = eqb n 4
+isLdrsw (store m r n) = false
+isLdrsw (prefetch m) = false
+isLdrsw unallocated = false
+
+-- what the fields of a load or store say, with its row
+abbrev pub loadStoreFrom : ℕ → ℕ → ℕ → ℕ → ℕ → Row → L.LoadStore
+loadStoreFrom w v rt rn imm12 row =
+    record {
+      insn = w;
+      reg = rt;
+      base = rn;
+      offset = imm12 * movedBy row;
+      size = movedBy row;
+      «is_store» = isStore row;
+      «is_float» = eqb v 1;
+      «is_ldrsw» = isLdrsw row;
+    }
+
+-- the unallocated words that document 01 takes as loads of 2^size bytes
+abbrev pub takenWord : ℕ → Bool
+takenWord w = matches loadStore w && takenAsLoad (sizeIn w) (vIn w) (opcIn w)
+
+abbrev pub takenIn : ℕ → L.LoadStore
+takenIn w =
+    record {
+      insn = w;
+      reg = rdIn w;
+      base = rnIn w;
+      offset = imm12In w * 2 ^ sizeIn w;
+      size = 2 ^ sizeIn w;
+      «is_store» = false;
+      «is_float» = true;
+      «is_ldrsw» = false;
+    }
+
+-- two tests that agree
+abbrev agree : Bool → Bool → Bool
+agree true b = b
+agree false b = not b
+
+agree-is : (a b : Bool) → agree a b ≡ true → a ≡ b
+agree-is true b e = sym e
+agree-is false false e = refl
+agree-is false true e = e
+
+module _ (size v opc : ℕ) (hs : size < 4) (hv : v < 2) (ho : opc < 4) where
+  ldrsw-cell : eqb (size * 8 + v * 4 + opc) 0b10_0_10 ≡ isLdrsw (rowOf size v opc)
+  unfolding rowOf every choose
+  ldrsw-cell =
+      agree-is (eqb (size * 8 + v * 4 + opc) 0b10_0_10) (isLdrsw (rowOf size v opc))
+      (each-cell (λ s v o. agree (eqb (s * 8 + v * 4 + o) 0b10_0_10) (isLdrsw (rowOf s v o))) refl size v opc hs hv ho)
+
+  -- the words taken as loads are unallocated, of vector registers, and not LDRSW
+  taken-cell : takenAsLoad size v opc ≡ true → (isAllocated (rowOf size v opc) ≡ false) × (eqb v 1 ≡ true)
+  unfolding rowOf every choose
+  taken-cell t =
+      let u = each-cell (λ s v o. not (takenAsLoad s v o) || (not (isAllocated (rowOf s v o)) && eqb v 1)) refl size v opc hs hv ho in
+      let b = both (not (isAllocated (rowOf size v opc))) (eqb v 1) (rw t at u) in
+      (not-true (isAllocated (rowOf size v opc)) (b .0), b .1)
+
+  -- opc 00 and 01 move, whatever size and V are
+  low-opc-moves : opc ≤ 1 → moves (rowOf size v opc) ≡ true
+  unfolding rowOf every choose
+  low-opc-moves l =
+      rw (lt-ltb opc 2 (omega arith)) at (each-cell (λ s v o. not (ltb o 2) || moves (rowOf s v o)) refl size v opc hs hv ho)
+
+-- an unallocated row
+unallocated-is : (r : Row) → isAllocated r ≡ false → r ≡ unallocated
+unallocated-is (load m g n x) e = absurd (false≢true (sym e))
+unallocated-is (store m g n) e = absurd (false≢true (sym e))
+unallocated-is (prefetch m) e = absurd (false≢true (sym e))
+unallocated-is unallocated e = refl
+
+-- a row that moves is allocated
+moves-allocated : (r : Row) → moves r ≡ true → isAllocated r ≡ true
+moves-allocated (load m g n x) e = refl
+moves-allocated (store m g n) e = refl
+moves-allocated (prefetch m) e = refl
+moves-allocated unallocated e = e
+
+module _ (w : ℕ) where
+  in-class : matches loadStore w ≡ true → loadStoreOf w ≡ loadStoreWith w (accessOf (sizeIn w) (vIn w) (opcIn w))
+  unfolding loadStoreOf
+  in-class m = choose-true (matches loadStore w) _ _ m
+
+  ldrsw-is : (r : Row) → rowIn w ≡ r → eqb (sizeIn w * 8 + vIn w * 4 + opcIn w) 0b10_0_10 ≡ isLdrsw r
+  ldrsw-is r q = ldrsw-cell (sizeIn w) (vIn w) (opcIn w) (omega arith) (omega arith) (omega arith) ∙ ap isLdrsw q
+
+  taken-is : takenAsLoad (sizeIn w) (vIn w) (opcIn w) ≡ true → (isAllocated (rowIn w) ≡ false) × (eqb (vIn w) 1 ≡ true)
+  taken-is = taken-cell (sizeIn w) (vIn w) (opcIn w) (omega arith) (omega arith) (omega arith)
+
+  -- an allocated row is not taken as another
+  not-taken : isAllocated (rowIn w) ≡ true → takenAsLoad (sizeIn w) (vIn w) (opcIn w) ≡ false
+  not-taken a = go (takenAsLoad (sizeIn w) (vIn w) (opcIn w)) refl
+    where
+      go : (t : Bool) → takenAsLoad (sizeIn w) (vIn w) (opcIn w) ≡ t → t ≡ false
+      go true e = absurd (false≢true (sym (taken-is e .0) ∙ a))
+      go false e = refl
+
+  by-row : takenAsLoad (sizeIn w) (vIn w) (opcIn w) ≡ false → accessOf (sizeIn w) (vIn w) (opcIn w) ≡ accessIn (rowIn w)
+  unfolding accessOf
+  by-row t = choose-false (takenAsLoad (sizeIn w) (vIn w) (opcIn w)) _ _ t
+
+  -- what a row that moves gives
+  moved : (r : Row) → rowIn w ≡ r → moves r ≡ true
+      → loadStoreWith w (accessIn r) ≡ LoadStoreWord.LoadStore (loadStoreFrom w (vIn w) (rdIn w) (rnIn w) (imm12In w) r)
+  moved (load m g n x) q h = rw (ldrsw-is (load m g n x) q)
+  moved (store m g n) q h = rw (ldrsw-is (store m g n) q)
+  moved (prefetch m) q h = absurd (false≢true h)
+  moved unallocated q h = absurd (false≢true h)
+
+-- `LoadStore::decode` answers every load and store of the manual, field by field
+pub decodes-load-store : (w size v opc rt rn imm12 : ℕ) → decode w ≡ form (LDST size v opc rt rn imm12)
+    → loadStoreOf w ≡ LoadStoreWord.LoadStore (loadStoreFrom w v rt rn imm12 (rowOf size v opc))
+decodes-load-store w size v opc rt rn imm12 e =
+    let h = decode-has w (LDST size v opc rt rn imm12) e in
+    let r : rowIn w ≡ rowOf size v opc = cc (h .fields) in
+    let m : moves (rowIn w) ≡ true = ap moves r ∙ h .in-range .6 in
+    in-class w (h .matched)
+    ∙ ap (loadStoreWith w) (by-row w (not-taken w (moves-allocated (rowIn w) m)))
+    ∙ moved w (rowIn w) refl m
+    ∙ cc (h .fields)
+
+-- and, but for the words taken as loads, nothing else: not the prefetch, no unallocated word
+pub load-store-decodes : (w : ℕ) (l : L.LoadStore) → loadStoreOf w ≡ LoadStoreWord.LoadStore l → takenWord w ≡ false
+    → decode w ≡ form (LDST (sizeIn w) (vIn w) (opcIn w) (l .reg) (l .base) (imm12In w))
+unfolding loadStoreOf
+load-store-decodes w l e t =
+    let q = choose-first (matches loadStore w) _ LoadStoreWord.Other (LoadStoreWord.LoadStore l) e (λ f. let z : _≡_ {A = ℕ} 0 1 = cc in omega arith) in
+    let u : takenAsLoad (sizeIn w) (vIn w) (opcIn w) ≡ false = rw (q .0) at t in
+    by-class w 3 (lit< tt) (q .0)
+    ∙ go (rowIn w) (sym (ap (loadStoreWith w) (by-row w u)) ∙ q .1)
+  where
+    go : (r : Row) → loadStoreWith w (accessIn r) ≡ LoadStoreWord.LoadStore l
+        → loadStoreForm r w ≡ form (LDST (sizeIn w) (vIn w) (opcIn w) (l .reg) (l .base) (imm12In w))
+    go (load m g n x) f = cc
+    go (store m g n) f = cc
+    go (prefetch m) f = let z : _≡_ {A = ℕ} 0 1 = cc in absurd (omega arith)
+    go unallocated f = let z : _≡_ {A = ℕ} 0 1 = cc in absurd (omega arith)
+
+-- the words taken as loads: the manual has none of them
+pub taken-decodes : (w : ℕ) → takenWord w ≡ true → (decode w ≡ none) × (allocated w ≡ false) × (loadStoreOf w ≡ LoadStoreWord.LoadStore (takenIn w))
+unfolding allocated accessOf
+taken-decodes w t =
+    let b = both (matches loadStore w) (takenAsLoad (sizeIn w) (vIn w) (opcIn w)) t in
+    let u = taken-is w (b .1) in
+    let r : rowIn w ≡ unallocated = unallocated-is (rowIn w) (u .0) in
+    let a : accessOf (sizeIn w) (vIn w) (opcIn w) ≡ Of (2 ^ sizeIn w) false = choose-true (takenAsLoad (sizeIn w) (vIn w) (opcIn w)) _ _ (b .1) in (
+      by-class w 3 (lit< tt) (b .0) ∙ ap (λ (r : Row). loadStoreForm r w) r,
+      choose-true (matches loadStore w) _ _ (b .0) ∙ u .0,
+      in-class w (b .0) ∙ ap (loadStoreWith w) a ∙ rw (ldrsw-is w unallocated r, u .1),
+    )
+
+-- `is_add_either` holds of the ADDs with an unshifted immediate
+pub add-either-decodes : (w : ℕ) → matches addUnshifted w ≡ true → decode w ≡ form (ADD (sfIn w) 0 (rdIn w) (rnIn w) (imm12In w))
+add-either-decodes w e =
+    let sh : shIn w ≡ 0 = fixed-field addUnshifted w 22 1 0 refl refl refl refl e in
+    by-class w 2 (lit< tt) (finer addImmediate addUnshifted w refl refl refl refl e) ∙ cc
+
+pub decodes-add-either : (w sf rd rn imm12 : ℕ) → w < 2 ^ 32 → decode w ≡ form (ADD sf 0 rd rn imm12) → matches addUnshifted w ≡ true
+decodes-add-either w sf rd rn imm12 l e =
+    let r = decode-in-range w (ADD sf 0 rd rn imm12) e in
+    ap (matches addUnshifted) (sym (encode-decode w (ADD sf 0 rd rn imm12) l e))
+    ∙ matches-fill addUnshifted (rd ∷ rn ∷ imm12 ∷ sf ∷ []) refl (r .2, (r .3, (r .4, (r .0, tt))))
+
+-- `is_ldr_imm` holds of LDR of a W or X register: size 10 or 11, V 0, opc 01
+pub ldr-imm-decodes : (w : ℕ) → matches ldrImmediate w ≡ true
+    → (2 ≤ sizeIn w) × (decode w ≡ form (LDST (sizeIn w) 0 0b01 (rdIn w) (rnIn w) (imm12In w)))
+ldr-imm-decodes w e =
+    let o : opcIn w ≡ 1 = fixed-field ldrImmediate w 22 2 1 refl refl refl refl e in
+    let v : vIn w ≡ 0 = fixed-field ldrImmediate w 26 1 0 refl refl refl refl e in
+    let s : sizeIn w < 4 = omega arith in
+    let t : field w 31 1 ≡ 1 = fixed-field ldrImmediate w 31 1 1 refl refl refl refl e in (
+      omega arith,
+      has-decode w (LDST (sizeIn w) 0 0b01 (rdIn w) (rnIn w) (imm12In w))
+          (record {
+            matched = finer loadStore ldrImmediate w refl refl refl refl e;
+            fields = cc;
+            in-range = (s, lit< tt, lit< tt, omega arith, omega arith, omega arith, low-opc-moves (sizeIn w) 0 1 s (lit< tt) (lit< tt) (lit≤ tt));
+          }),
+    )
+
+pub decodes-ldr-imm : (w size rt rn imm12 : ℕ) → w < 2 ^ 32 → 2 ≤ size → decode w ≡ form (LDST size 0 0b01 rt rn imm12) → matches ldrImmediate w ≡ true
+decodes-ldr-imm w size rt rn imm12 l h e =
+    let r = decode-in-range w (LDST size 0 0b01 rt rn imm12) e in
+    let f : fill ldrImmediate (rt ∷ rn ∷ imm12 ∷ (size - 2) ∷ []) ≡ w = omega arith ∙ encode-decode w (LDST size 0 0b01 rt rn imm12) l e in
+    ap (matches ldrImmediate) (sym f) ∙ matches-fill ldrImmediate (rt ∷ rn ∷ imm12 ∷ (size - 2) ∷ []) refl (omega arith)
+
+-- the scale of imm12 by the cell
+abbrev scaleAt : ℕ → ℕ → ℕ → ℕ
+scaleAt size v opc = choose (eqb (opc / 2) 1 && (eqb v 1 && (eqb size 0 && true))) 4 size
+
+-- whether a cell's scale is that of the bytes that it moves, or of its size field where it moves none
+abbrev rightScale : ℕ → ℕ → ℕ → Bool
+rightScale size v opc =
+    choose (moves (rowOf size v opc)) (eqb (2 ^ scaleAt size v opc) (movedBy (rowOf size v opc))) (eqb (scaleAt size v opc) size)
+
+scale-cell : (w : ℕ) → matches loadStore w ≡ true → scaleOf w ≡ scaleAt (sizeIn w) (vIn w) (opcIn w)
+unfolding scaleOf
+scale-cell w m =
+    let o : opcIn w / 2 ≡ field w 23 1 = Pow.field (w / 2 ^ 22) 1 1 ∙ ap (λ (y : ℕ). y % 2) (shr-shr w 22 1) in
+    let q : matches quad w ≡ (eqb (opcIn w / 2) 1 && (eqb (vIn w) 1 && (eqb (sizeIn w) 0 && true))) = matches-fields quad w ∙ rw o in
+    choose-true (matches loadStore w) _ _ m ∙ ap (λ (t : Bool). choose t 4 (sizeIn w)) q
+
+right-scale : (w : ℕ) → rightScale (sizeIn w) (vIn w) (opcIn w) ≡ true
+unfolding rowOf every choose
+right-scale w = each-cell rightScale refl (sizeIn w) (vIn w) (opcIn w) (omega arith) (omega arith) (omega arith)
+
+-- the scale that `write_add_ldst_word` takes is that of the bytes that a load or store moves
+pub load-store-scale : (w size v opc rt rn imm12 : ℕ) → decode w ≡ form (LDST size v opc rt rn imm12) → 2 ^ scaleOf w ≡ movedBy (rowOf size v opc)
+load-store-scale w size v opc rt rn imm12 e =
+    let h = decode-has w (LDST size v opc rt rn imm12) e in
+    let r : rowIn w ≡ rowOf size v opc = cc (h .fields) in
+    let m : moves (rowIn w) ≡ true = ap moves r ∙ h .in-range .6 in
+    let s : eqb (2 ^ scaleAt (sizeIn w) (vIn w) (opcIn w)) (movedBy (rowIn w)) ≡ true = sym (choose-true (moves (rowIn w)) _ _ m) ∙ right-scale w in
+    ap (λ (k : ℕ). 2 ^ k) (scale-cell w (h .matched)) ∙ eqb-true (2 ^ scaleAt (sizeIn w) (vIn w) (opcIn w)) (movedBy (rowIn w)) s ∙ ap movedBy r
+
+-- of the prefetch and of unallocated words it takes that of the size field
+pub unmoved-scale : (w : ℕ) → matches loadStore w ≡ true → moves (rowIn w) ≡ false → scaleOf w ≡ sizeIn w
+unmoved-scale w m n =
+    let s : eqb (scaleAt (sizeIn w) (vIn w) (opcIn w)) (sizeIn w) ≡ true = sym (choose-false (moves (rowIn w)) _ _ n) ∙ right-scale w in
+    scale-cell w m ∙ eqb-true (scaleAt (sizeIn w) (vIn w) (opcIn w)) (sizeIn w) s
+
+-- of any other word none
+pub other-scale : (w : ℕ) → matches loadStore w ≡ false → scaleOf w ≡ 0
+unfolding scaleOf
+other-scale w n = choose-false (matches loadStore w) _ _ n

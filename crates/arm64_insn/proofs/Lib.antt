@@ -1,0 +1,16 @@
+-- Laws that belong to no one function.
+pub mod ManualClasses
+pub mod Manual
+pub mod ManualTargets
+pub mod ManualMasks
+pub mod ManualExamples
+pub mod ManualLines
+pub mod Cells
+pub mod Decoded
+pub mod Scale
+pub mod Three
+pub mod Pieces
+pub mod Decodes
+pub mod Encodes
+pub mod Meaning
+pub mod Offsets

@@ -1,0 +1,151 @@
+// Load or store register (unsigned immediate).
+ghost use mathlib.Core.Path.{_≡_};
+ghost use Prim.Native.Nat.{_+_, _*_, _^_, _<_};
+ghost use Rattle.util.specs.Diagram.{matches};
+ghost use Rattle.arm64_insn.specs.Encoding.{ldrImmediate};
+ghost use Rattle.arm64_insn.specs.LoadStore.{accessOf, loadStoreOf};
+ghost use Rattle.arm64_insn.specs.Literal.{hasLiteralForm, literalOpc, literalV, literalWord, Rebased, baseWord};
+
+// The bytes that an access moves, and whether it stores them.
+pub enum Access {
+    Of(u64, bool),
+    Neither,
+}
+
+// What the size, V and opc fields say. A vector register's 16-byte access takes the encodings of the sign-extending byte loads.
+fn access_of(size: u32, v: u32, opc: u32) -> Access
+    requires { ⌜ (size < 4) × (v < 2) × (opc < 4) ⌝ }
+    ensures { λ r. ⌜ r ≡ accessOf size v opc ⌝ }
+{
+    let bytes = 1u64 << size;
+    if opc == 0 {
+        return Access::Of(bytes, true);
+    }
+    if opc == 1 {
+        return Access::Of(bytes, false);
+    }
+    if size == 0 {
+        if v == 1 {
+            return Access::Of(16, opc == 2);
+        }
+        return Access::Of(bytes, false);
+    }
+    if size == 3 {
+        return Access::Neither;
+    }
+    if size == 2 {
+        if opc == 3 {
+            return Access::Neither;
+        }
+    }
+    Access::Of(bytes, false)
+}
+
+// A load or store with a scaled unsigned offset.
+pub struct LoadStore {
+    pub insn: u32,
+    pub reg: u32,
+    pub base: u32,
+    // in bytes: the 12-bit immediate times `size`
+    pub offset: u64,
+    pub size: u64,
+    pub is_store: bool,
+    pub is_float: bool,
+    pub is_ldrsw: bool,
+}
+
+// A word as a load or store.
+pub enum LoadStoreWord {
+    LoadStore(LoadStore),
+    Other,
+}
+
+impl LoadStore {
+    pub const MASK: u32 = 0x3b00_0000;
+
+    pub const FIXED: u32 = 0x3900_0000;
+
+    // The Rust's parse_ldst.
+    pub fn decode(insn: u32) -> LoadStoreWord
+        ensures { λ r. ⌜ r ≡ loadStoreOf insn ⌝ }
+    {
+        if insn & Self::MASK != Self::FIXED {
+            return LoadStoreWord::Other;
+        }
+        let size = insn / 0x4000_0000 % 4;
+        let v = insn / 0x400_0000 % 2;
+        let opc = insn / 0x40_0000 % 4;
+        match access_of(size, v, opc) {
+            Access::Of(bytes, is_store) => {
+                let imm = (insn / 0x400 % 0x1000) as u64;
+                LoadStoreWord::LoadStore(LoadStore {
+                    insn,
+                    reg: insn % 0x20,
+                    base: insn / 0x20 % 0x20,
+                    offset: imm * bytes,
+                    size: bytes,
+                    is_store,
+                    is_float: v == 1,
+                    is_ldrsw: size * 8 + v * 4 + opc == 0b10_0_10,
+                })
+            }
+            Access::Neither => LoadStoreWord::Other,
+        }
+    }
+
+    // Whether this load has a pc-relative literal form: loads of 4, 8 and 16 bytes have one.
+    pub fn has_literal_form(self) -> bool
+        ensures { λ r. ⌜ r ≡ hasLiteralForm self ⌝ }
+    {
+        self.size >= 4 && !self.is_store
+    }
+
+    // This load as a literal load of target, at pc.
+    pub fn to_literal(self, target: u64, pc: u64) -> u32
+        requires { ⌜ self .reg < 32 ⌝ }
+        ensures { λ r. ⌜ r ≡ literalWord self target pc ⌝ }
+    {
+        let op = literal_op(self.size, self.is_float, self.is_ldrsw);
+        let delta = util::wrapping_sub(target, pc);
+        op * 0x100_0000 + ((delta / 4 % 0x8_0000) * 0x20) as u32 + self.reg
+    }
+
+    // This access through another base register and byte offset.
+    pub fn with_base(self, base: u32, offset: u64) -> u32
+        requires { ⌜ Rebased self base offset ⌝ }
+        ensures { λ r. ⌜ r ≡ baseWord self base offset ⌝ }
+    {
+        let size = self.size;
+        let imm = (offset / size) as u32;
+        (self.insn & 0xffc0_001f) + base * 0x20 + imm * 0x400
+    }
+}
+
+// Bits 31 to 24 of a literal load: opc, 011, V, 00.
+fn literal_op(size: u64, is_float: bool, is_ldrsw: bool) -> u32
+    ensures { λ r. ⌜ r ≡ literalOpc size «is_float» «is_ldrsw» * 2 ^ 6 + 0b011 * 2 ^ 3 + literalV size «is_float» * 2 ^ 2 ⌝ }
+{
+    if size == 4 {
+        if is_float {
+            return 0x1c;
+        }
+        if is_ldrsw {
+            return 0x98;
+        }
+        return 0x18;
+    }
+    if size == 8 {
+        if is_float {
+            return 0x5c;
+        }
+        return 0x58;
+    }
+    0x9c
+}
+
+// Whether a word is "ldr Xt|Wt, [Xn, #imm]".
+pub fn is_ldr_imm(insn: u32) -> bool
+    ensures { λ r. ⌜ r ≡ matches ldrImmediate insn ⌝ }
+{
+    insn & 0xbfc0_0000 == 0xb940_0000
+}

@@ -1,0 +1,93 @@
+-- The number of rows that are left falls; with those that held it is never more than at first.
+use Prim.Native.Nat.{_+_, _≤_}
+use borrow.Author.Needs.{needs}
+use Rattle.replay_words.proofs.replay_all.Statement.{statement}
+use Rattle.replay_words.proofs.replay_all.Tie as tie
+use Rattle.replay_words.proofs.replay_all.Reads as reads
+use Rattle.replay_words.proofs.replay_all.Lts as lts
+use Rattle.io.proofs.print_decimal.Reads as print-decimal-reads
+use Rattle.io.proofs.write_all.Reads as write-all-reads
+use Rattle.replay_words.proofs.replay.Reads as replay-reads
+
+abbrev Inv-loop : tie.InvT-loop
+Inv-loop fd left₀ held₀ t5 t6 left held = held + left ≤ 1000000
+
+abbrev μ-loop : tie.MeasureT-loop
+μ-loop fd left₀ held₀ t5 t6 left held = left
+
+-- src/main.rt:291:5
+loop-holds : tie.Need-loop-holds Inv-loop μ-loop
+loop-holds c = search needs
+
+-- src/main.rt:292:13
+replay-requires : tie.Need-replay-requires Inv-loop μ-loop
+replay-requires c κs = search needs
+
+-- src/main.rt:296:9
+add-held : tie.Need-add-held Inv-loop μ-loop
+add-held c = search needs
+
+-- src/main.rt:297:9
+sub-left : tie.Need-sub-left Inv-loop μ-loop
+sub-left c = search needs
+
+-- src/main.rt:291:5
+loop-less : tie.Need-loop-less Inv-loop μ-loop
+loop-less c = search needs
+
+-- src/main.rt:291:5
+loop-again : tie.Need-loop-again Inv-loop μ-loop
+loop-again c = search needs
+
+-- src/main.rt:299:5
+print-decimal-requires : tie.Need-print-decimal-requires Inv-loop μ-loop
+print-decimal-requires c κs = search needs
+
+-- src/main.rt:300:34
+slice-aggregate-write-all : tie.Need-slice-aggregate-write-all Inv-loop μ-loop
+slice-aggregate-write-all c = search needs
+
+-- src/main.rt:300:5
+write-all-requires : tie.Need-write-all-requires Inv-loop μ-loop
+write-all-requires c κs = search needs
+
+-- src/main.rt:301:38
+sub-print-decimal : tie.Need-sub-print-decimal Inv-loop μ-loop
+sub-print-decimal c = search needs
+
+-- src/main.rt:301:5
+print-decimal-requires-2 : tie.Need-print-decimal-requires-2 Inv-loop μ-loop
+print-decimal-requires-2 c κs = search needs
+
+-- src/main.rt:302:34
+slice-aggregate-write-all-2 : tie.Need-slice-aggregate-write-all-2 Inv-loop μ-loop
+slice-aggregate-write-all-2 c = search needs
+
+-- src/main.rt:302:5
+write-all-requires-2 : tie.Need-write-all-requires-2 Inv-loop μ-loop
+write-all-requires-2 c κs = search needs
+
+-- src/main.rt:288:1
+returns : tie.Need-returns Inv-loop μ-loop
+returns c = search needs
+
+pub replay-all-spec : {M : Type 1} → statement M
+replay-all-spec =
+    tie.close
+    (tie.spec
+    Inv-loop
+    μ-loop
+    loop-holds
+    replay-requires
+    add-held
+    sub-left
+    loop-less
+    loop-again
+    print-decimal-requires
+    slice-aggregate-write-all
+    write-all-requires
+    sub-print-decimal
+    print-decimal-requires-2
+    slice-aggregate-write-all-2
+    write-all-requires-2
+    returns)
