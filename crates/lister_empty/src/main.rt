@@ -1,0 +1,4 @@
+// The word lister on no input.
+fn main() {
+    listing::run();
+}

@@ -1,0 +1,4 @@
+// The word lister on 7 bytes, which are no whole words.
+fn main() {
+    listing::run();
+}
