@@ -1,0 +1,131 @@
+-- Document 01's bench piece 12, and the examples of numbers 1 to 7 in its table "Turned-down input": each is computed.
+use mathlib.Core.Path.{_≡_, refl}
+use mathlib.Core.List.{List, [], _∷_, _++_}
+use Prim.Native.Nat.{ℕ, _-_, _^_}
+use lib.ListN.{replicate}
+use Rattle.util.specs.Choice.{choose}
+use Rattle.util.specs.Word.{le, bytes}
+use Rattle.macho.specs.MachRel.{machRelAt}
+use Rattle.arch.specs.Entry.{targeted}
+use Rattle.arch.specs.Table.{recordsFrom, recordsOf, subtractedAt, lengthsOf}
+use Rattle.arch.specs.Target.{sectionTarget, targetOf}
+use Rattle.arch.specs.Walk.{entries, readFrom, readAll, outcomeOf, numberIn, filledIn}
+use Rattle.arm64_insn.specs.LoadStore.{accessOf, loadStoreOf}
+use Rattle.arm64_reader.specs.Support.{formsOf, supportedOf}
+use Rattle.arm64_reader.specs.Check.{loadedBytes, gotFits, tlvpFits, pointer32, wordCheck, checkReloc}
+use Rattle.arm64_reader.specs.Record.{addendOf, recordOf, stepAt}
+use Rattle.arm64_reader.specs.Read.{readRecords, readRelocs}
+use Rattle.arm64_reader.specs.Header.{Referent, symbol, nothing, Relocation, wellFormed, Meaning, undefined, relocations, meaningFrom, meaningOf}
+use Rattle.arm64_reader.specs.Header.{subtractor-last, subtractor-type, subtractor-place, subtractor-size, addend-form, addend-type, addend-place}
+use Rattle.arm64_reader.specs.Header.{turnAlone, turnMinus, turnPlus}
+
+-- a record's bytes
+abbrev pub record-of : ℕ → ℕ → List ℕ
+record-of offset bits = bytes 4 offset ++ bytes 4 bits
+
+-- 12. Bits 0xa4ffffff, 0x3d000005: one PAGE21 entry, symbol 5, addend -1
+pub piece12 : readRelocs (replicate 4 0) (record-of 0 0xa4ffffff ++ record-of 0 0x3d000005) [] (replicate 48 0)
+    ≡ entries (record {
+      offset = 0;
+      ty = 3;
+      size = 4;
+      «is_pcrel» = 1;
+      «is_subtracted» = 0;
+      target = 5;
+      spare = 0;
+      addend = 2 ^ 64 - 1;
+    } ∷ [])
+unfolding readRelocs readRecords readAll readFrom choose lengthsOf recordsOf recordsFrom machRelAt le bytes subtractedAt stepAt recordOf checkReloc
+    supportedOf formsOf pointer32 addendOf targeted targetOf
+piece12 = refl
+
+-- the number that a call returns
+abbrev number : List ℕ → List ℕ → List ℕ → List ℕ → ℕ
+number contents rels sections slots = numberIn (outcomeOf (readRelocs contents rels sections slots))
+
+-- slots for one record, and a NOP
+abbrev slot : List ℕ
+slot = replicate 24 0
+
+abbrev nop : List ℕ
+nop = bytes 4 0xd503201f
+
+-- the examples of the table: 7 bytes of MachRel; one record, 23 bytes; 8-byte UNSIGNED at 4 of 8; one record 0xa4000000; lone 0x0c000000;
+-- TLVP page offset on NOP; ordinal 0
+pub turned-down :
+    number [] (replicate 7 0) [] slot
+    ∷ number [] (record-of 0 0x3d000000) [] (replicate 23 0)
+    ∷ number (replicate 8 0) (record-of 4 0x0e000000) [] slot
+    ∷ number [] (record-of 0 0xa4000000) [] slot
+    ∷ number (replicate 8 0) (record-of 0 0x0c000000) [] slot
+    ∷ number nop (record-of 0 0x9c000000) [] slot
+    ∷ number (replicate 8 0) (record-of 0 0x06000000) [] slot
+    ∷ []
+    ≡ 1 ∷ 2 ∷ 3 ∷ 4 ∷ 5 ∷ 6 ∷ 7 ∷ []
+unfolding readRelocs readRecords readAll readFrom choose lengthsOf recordsOf recordsFrom machRelAt le bytes subtractedAt stepAt recordOf checkReloc
+    supportedOf formsOf pointer32 addendOf targeted targetOf sectionTarget wordCheck gotFits tlvpFits loadedBytes loadStoreOf accessOf
+turned-down = refl
+
+-- where two numbers apply, the earlier in the order 1, 2, by record 3 (offset), 4, 5, 3 (word), 6, 3 (pointer), 7 is returned: 9 bytes and no slot;
+-- an offset past the contents and 23 bytes; past the contents, and ADDEND the last record; ADDEND the last record, of a form of no type;
+-- a form of no type, and no word there; no pointer there, and ordinal 0; ordinal 0, and after it a record past the contents
+pub first-number :
+    number [] (replicate 9 0) [] []
+    ∷ number [] (record-of 1 0x3d000000) [] (replicate 23 0)
+    ∷ number [] (record-of 1 0xa4000000) [] slot
+    ∷ number [] (record-of 0 0xaf000000) [] slot
+    ∷ number [] (record-of 0 0x94000000) [] slot
+    ∷ number (replicate 7 0) (record-of 0 0x06000000) [] slot
+    ∷ number (replicate 8 0) (record-of 0 0x06000000 ++ record-of 9 0x3d000000) [] (slot ++ slot)
+    ∷ []
+    ≡ 1 ∷ 2 ∷ 3 ∷ 4 ∷ 5 ∷ 3 ∷ 7 ∷ []
+unfolding readRelocs readRecords readAll readFrom choose lengthsOf recordsOf recordsFrom machRelAt le bytes subtractedAt stepAt recordOf checkReloc
+    supportedOf formsOf pointer32 addendOf targeted targetOf sectionTarget wordCheck gotFits tlvpFits loadedBytes loadStoreOf accessOf
+first-number = refl
+
+-- ---- tables that Apple's header does not define, and that are read all the same: one for each reason
+
+-- what the header says, and how many entries are filled
+abbrev reads : List ℕ → List ℕ → Meaning × ℕ
+reads contents rels = (meaningOf contents [] (recordsOf rels), filledIn (outcomeOf (readRelocs contents rels [] (replicate 48 0))))
+
+-- SUBTRACTOR alone; before BRANCH26; before UNSIGNED at another place; before UNSIGNED of another size; ADDEND with the fields of another type;
+-- before BRANCH26; before PAGE21 at another place
+pub not-defined :
+    reads (replicate 16 0) (record-of 0 0x1e000000)
+    ∷ reads (replicate 16 0) (record-of 0 0x1e000000 ++ record-of 0 0x2d000000)
+    ∷ reads (replicate 16 0) (record-of 0 0x1e000000 ++ record-of 8 0x0e000000)
+    ∷ reads (replicate 16 0) (record-of 0 0x1e000000 ++ record-of 0 0x0c000000)
+    ∷ reads (replicate 16 0) (record-of 0 0xaf000000 ++ record-of 0 0x3d000000)
+    ∷ reads (replicate 16 0) (record-of 0 0xa4000000 ++ record-of 0 0x2d000000)
+    ∷ reads (replicate 16 0) (record-of 0 0xa4000000 ++ record-of 4 0x3d000000)
+    ∷ []
+    ≡ (undefined subtractor-last, 1)
+    ∷ (undefined subtractor-type, 2)
+    ∷ (undefined subtractor-place, 2)
+    ∷ (undefined subtractor-size, 2)
+    ∷ (undefined addend-form, 1)
+    ∷ (undefined addend-type, 1)
+    ∷ (undefined addend-place, 1)
+    ∷ []
+unfolding readRelocs readRecords readAll readFrom choose lengthsOf recordsOf recordsFrom machRelAt le bytes subtractedAt stepAt recordOf checkReloc
+    supportedOf formsOf pointer32 addendOf targeted targetOf sectionTarget wordCheck gotFits tlvpFits loadedBytes loadStoreOf accessOf
+    meaningFrom turnAlone turnMinus turnPlus wellFormed
+not-defined = refl
+
+-- what the header says, and the number that is returned
+abbrev refuses : List ℕ → List ℕ → Meaning × ℕ
+refuses contents rels = (meaningOf contents [] (recordsOf rels), number contents rels [] slot)
+
+-- tables that the header defines and that are refused, by 6 and by 5: a TLVP page offset on NOP, a pointer of 4 bytes alone
+pub defined-refused :
+    refuses nop (record-of 0 0x9c000000)
+    ∷ refuses nop (record-of 0 0x0c000000)
+    ∷ []
+    ≡ (relocations (record { kind = 9; place = 0; size = 4; target = symbol 0; addend = 0; minus = nothing } ∷ []), 6)
+    ∷ (relocations (record { kind = 0; place = 0; size = 4; target = symbol 0; addend = 0xffffffff_d503201f; minus = nothing } ∷ []), 5)
+    ∷ []
+unfolding readRelocs readRecords readAll readFrom choose lengthsOf recordsOf recordsFrom machRelAt le bytes subtractedAt stepAt recordOf checkReloc
+    supportedOf formsOf pointer32 addendOf targeted targetOf sectionTarget wordCheck gotFits tlvpFits loadedBytes loadStoreOf accessOf
+    meaningFrom turnAlone turnMinus turnPlus wellFormed
+defined-refused = refl

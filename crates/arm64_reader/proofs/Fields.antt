@@ -1,0 +1,217 @@
+-- An entry's fields as functions of its records, and how many entries there are: each step reads the entry of its records, and the walk goes
+-- over the records at which entries start.
+use mathlib.Core.Path.{_≡_, refl, sym, ap, ap₂, subst, _∙_}
+use mathlib.Core.Bool.{Bool, true, false}
+use mathlib.Core.List.{List, [], _∷_, map}
+use Prim.Native.Nat.{ℕ, zero, suc, _+_, _-_, _^_, _<_, _≤_}
+use native.Mathlib.Omega.{arith}
+use borrow.Author.Tests.{ltb-true, ltb-false, eqb-true, eqb-false, eq-eqb, ne-eqb}
+use native.Mathlib.Numerals.{add-one}
+use lib.ListN.{length, getD, drop, length-map, drop-of-length-le}
+use lib.Seq.{drop-cons}
+use lib.Dec.{eqb, ltb}
+use Rattle.util.specs.Bits.{extend}
+use Rattle.util.specs.Choice.{choose}
+use Rattle.util.specs.Word.{le}
+use Rattle.util.proofs.Choice.{split, chosen}
+use Rattle.util.proofs.Bytes.{le-drop}
+use Rattle.macho.specs.MachRel.{idxOf, typeOf, p2sizeOf, externOf}
+use Rattle.macho.specs.Types.{ARM64-RELOC-UNSIGNED, ARM64-RELOC-SUBTRACTOR, ARM64-RELOC-ADDEND}
+use Rattle.macho.specs.declared.rel.MachRel.{MachRel}
+use Rattle.macho.specs.declared.reloc.Reloc.{Reloc}
+use Rattle.macho.specs.declared.refusal.Refusal.{Refusal}
+use Rattle.arch.specs.Entry.{entryOf, enter, targeted}
+use Rattle.arch.specs.Table.{recordAt, subtractedAt}
+use Rattle.arch.specs.Target.{sectionTarget, targetOf}
+use Rattle.arch.specs.Walk.{Answer, refused, entries, before, after, readFrom, readAll}
+use Rattle.arch.specs.declared.target.Target.{Target}
+use Rattle.arch.specs.declared.target.Target.the-variants as T
+use Rattle.arch.specs.declared.step.Check.{Check}
+use Rattle.arch.specs.declared.step.Check.the-variants as C
+use Rattle.arch.specs.declared.step.Step.{Step}
+use Rattle.arch.specs.declared.step.Step.the-variants as S
+use Rattle.arm64_reader.specs.declared.record.Addend.{Addend}
+use Rattle.arm64_reader.specs.declared.record.Addend.the-variants.{Held, Refused}
+use Rattle.arm64_reader.specs.Check.{checkReloc}
+use Rattle.arm64_reader.specs.Record.{addendOf, passing, adding, recordOf, ownAt, stepAt}
+use Rattle.arm64_reader.specs.Read.{readRecords}
+use Rattle.arch.proofs.Walk.{Within, Later, done-any, turn-suc}
+use Rattle.arm64_reader.proofs.Steps.{step-within, step-onward}
+use Rattle.arm64_reader.specs.Fields.{isAddend, starts, pairs, ownOf, heldIn, targetIn, addendIn, entryAt}
+
+-- ---- one step
+
+-- a step that reads this entry and ends at this record, if it reads
+unfoldable pub Says : Reloc → ℕ → Step → Type 0
+Says e m (S.Refused x) = Unit {0}
+Says e m (S.Read f next) = (f ≡ e) × (next ≡ m)
+
+-- an addend that is this, if it is one; a target that is these
+Holds : ℕ → Addend → Type 0
+Holds v (Held a) = a ≡ v
+Holds v (Refused x) = Unit {0}
+
+Names : ℕ → ℕ → Target → Type 0
+Names t a (T.Named u b) = (u ≡ t) × (b ≡ a)
+Names t a (T.Refused x) = Unit {0}
+
+addend-holds : (r : MachRel) (loc : List ℕ) (given : ℕ) → Holds (heldIn r (le 4 loc 0) (le 8 loc 0) given) (addendOf r loc given)
+unfolding addendOf heldIn Holds choose
+addend-holds r loc given =
+    split P (eqb (typeOf (r .bits)) ARM64-RELOC-UNSIGNED) _ _
+    (λ e.
+    split P (eqb (p2sizeOf (r .bits)) 2) _ _
+    (λ f. chosen P (ltb (length loc) 4) _ _ tt (rw (e, f)))
+    (λ f. chosen P (ltb (length loc) 8) _ _ tt (rw (e, f))))
+    (λ e. rw e)
+  where
+    P : Addend → Type 0
+    P = Holds (heldIn r (le 4 loc 0) (le 8 loc 0) given)
+
+section-names : (sections : List ℕ) (r : MachRel) (held k : ℕ) → idxOf (r .bits) ≡ k → eqb (externOf (r .bits)) 1 ≡ false
+    → Names (targetIn r) (addendIn sections r held) (sectionTarget sections k held)
+unfolding sectionTarget Names choose
+section-names sections r held zero e x = tt
+section-names sections r held (suc i) e x =
+    let z : idxOf (r .bits) - 1 ≡ i = omega arith in
+    chosen (Names (targetIn r) (addendIn sections r held)) (ltb i (length sections)) _ _ (rw (x, z) (refl, refl)) tt
+
+target-names : (sections : List ℕ) (r : MachRel) (held : ℕ) → Names (targetIn r) (addendIn sections r held) (targetOf sections r held)
+unfolding targetOf Names choose
+target-names sections r held =
+    split (Names (targetIn r) (addendIn sections r held)) (eqb (externOf (r .bits)) 1) _ _
+    (λ x. rw x (refl, refl))
+    (λ x. section-names sections r held (idxOf (r .bits)) refl x)
+
+module _ (sections : List ℕ) (r : MachRel) (subtracted : Bool) (offset next : ℕ) where
+  -- the entry with what it holds
+  abbrev pub entry : ℕ → Reloc
+  entry held = entryOf r subtracted offset (targetIn r) (addendIn sections r held)
+
+  enter-says : (held : ℕ) (t : Target) → Names (targetIn r) (addendIn sections r held) t → Says (entry held) next (enter r subtracted offset next t)
+  unfolding Says Names
+  enter-says held (T.Named u b) n = (ap₂ (entryOf r subtracted offset) (n .0) (n .1), refl)
+  enter-says held (T.Refused x) n = tt
+
+  adding-says : (held : ℕ) (a : Addend) → Holds held a → Says (entry held) next (adding sections r subtracted offset next a)
+  unfolding Says Holds targeted
+  adding-says held (Held a) h =
+      subst (λ (v : ℕ). Says (entry v) next (targeted sections r subtracted offset a next)) h (enter-says a (targetOf sections r a) (target-names sections r a))
+  adding-says held (Refused x) h = tt
+
+  passing-says : (e : Reloc) (c : Check) (s : Step) → Says e next s → Says e next (passing c s)
+  unfolding Says
+  passing-says e C.Fit s h = h
+  passing-says e (C.Refused x) s h = tt
+
+  pub record-says : (loc : List ℕ) (given word pointer : ℕ) → le 4 loc 0 ≡ word → le 8 loc 0 ≡ pointer
+      → Says (entry (heldIn r word pointer given)) next (recordOf loc sections r subtracted offset given next)
+  unfolding recordOf
+  record-says loc given word pointer ew ep =
+      passing-says (entry (heldIn r word pointer given)) (checkReloc r subtracted loc) _
+      (adding-says (heldIn r word pointer given) (addendOf r loc given) (rw (← ew, ← ep) (addend-holds r loc given)))
+
+-- a step reads the entry that starts at its record, and ends after that entry's own record
+step-says : (contents sections : List ℕ) (first : Bool) (rs : List MachRel) (i : ℕ)
+    → Says (entryAt contents sections first rs i) (ownOf rs i + 1) (stepAt contents sections first rs i)
+unfolding stepAt entryAt choose Says
+step-says contents sections first rs i =
+    split P (ltb (length contents) off) _ _ (λ _. tt)
+    (λ _.
+    split P (isAddend (recordAt rs i)) _ _
+    (λ e. chosen P (ltb (i + 1) (length rs)) _ _ (rw e (record-says sections _ _ off (i + 1 + 1) (drop off contents) _ _ _ (word 4) (word 8))) tt)
+    (λ e. rw e (record-says sections _ _ off (i + 1) (drop off contents) _ _ _ (word 4) (word 8))))
+  where
+    off : ℕ
+    off = recordAt rs i .offset
+
+    P : Step → Type 0
+    P = Says (entryAt contents sections first rs i) (ownOf rs i + 1)
+
+    word : (n : ℕ) → le n (drop off contents) 0 ≡ le n contents off
+    word n = le-drop n contents off 0 ∙ ap (le n contents) (omega arith)
+
+-- ---- the walk
+
+-- the records at which entries start from one such record on
+starts-on : (rs : List MachRel) (i : ℕ) → i < length rs → ownOf rs i + 1 ≤ length rs
+    → starts i false (drop i rs) ≡ i ∷ starts (ownOf rs i + 1) false (drop (ownOf rs i + 1) rs)
+unfolding choose
+starts-on rs i h l = ap (starts i false) (drop-cons rs i none h) ∙ ap (λ (m : List ℕ). i ∷ m) (go (isAddend (recordAt rs i)) refl)
+  where
+    none : MachRel
+    none = record { offset = 0; bits = 0 }
+
+    go : (t : Bool) → isAddend (recordAt rs i) ≡ t
+        → starts (suc i) (isAddend (recordAt rs i)) (drop (suc i) rs) ≡ starts (ownOf rs i + 1) false (drop (ownOf rs i + 1) rs)
+    go false e = rw (e, add-one i)
+    go true e =
+        let m : suc i < length rs = rw (e, add-one i, add-one (suc i)) at l in
+        rw (e, add-one i, add-one (suc i)) (ap (starts (suc i) true) (drop-cons rs (suc i) none m))
+
+module _ (contents sections : List ℕ) (first : Bool) (rs : List MachRel) where
+  abbrev E : ℕ → Reloc
+  E = entryAt contents sections first rs
+
+  -- what is left from record i on: the entries that start there
+  Reads : ℕ → Answer → Type 0
+  Reads i (refused x) = Unit {0}
+  Reads i (entries es) = es ≡ map E (starts i false (drop i rs))
+
+  reads-none : (i : ℕ) → length rs ≤ i → Reads i (entries [])
+  unfolding Reads
+  reads-none i h = ap (λ (l : List MachRel). map E (starts i false l)) (sym (drop-of-length-le rs h))
+
+  reads-before : (i : ℕ) → i < length rs → ownOf rs i + 1 ≤ length rs → (a : Answer) → Reads (ownOf rs i + 1) a → Reads i (before (E i) a)
+  unfolding Reads
+  reads-before i h l (refused x) p = tt
+  reads-before i h l (entries es) p = ap (λ (fs : List Reloc). E i ∷ fs) p ∙ ap (map E) (sym (starts-on rs i h l))
+
+  reads-after : (i : ℕ) (s : Step) (rest : ℕ → Answer) → i < length rs → Says (E i) (ownOf rs i + 1) s → Within (length rs) s
+      → ((next : ℕ) → i < next → Reads next (rest next)) → Later i s → Reads i (after s rest)
+  unfolding Reads Says Within Later
+  reads-after i (S.Refused x) rest h p w f g = tt
+  reads-after i (S.Read e next) rest h p w f g =
+      subst (λ (e : Reloc). Reads i (before e (rest next))) (sym (p .0))
+      (reads-before i h (omega arith) (rest next) (subst (λ (m : ℕ). Reads m (rest next)) (p .1) (f next g)))
+
+  walk-reads : (k i : ℕ) → length rs ≤ i + k → Reads i (readFrom (stepAt contents sections first rs) (length rs) k i)
+  walk-reads zero i h = subst (Reads i) (sym (done-any _ _ zero i (omega arith))) (reads-none i (omega arith))
+  walk-reads (suc k) i h = go (ltb i (length rs)) refl (λ next l. walk-reads k next (omega arith))
+    where
+      step : ℕ → Step
+      step = stepAt contents sections first rs
+
+      go : (t : Bool) → ltb i (length rs) ≡ t → ((next : ℕ) → i < next → Reads next (readFrom step (length rs) k next))
+          → Reads i (readFrom step (length rs) (suc k) i)
+      go false e f = let l = ltb-false i (length rs) e in subst (Reads i) (sym (done-any step (length rs) (suc k) i l)) (reads-none i l)
+      go true e f =
+          let l = ltb-true i (length rs) e in
+          subst (Reads i) (sym (turn-suc step (length rs) k i l))
+          (reads-after i (step i) (readFrom step (length rs) k) l (step-says contents sections first rs i) (step-within contents sections first rs i l) f
+          (step-onward contents sections first rs i))
+
+  -- the entries of a table, each by its records
+  pub fields : (es : List Reloc) → readRecords contents sections first rs ≡ entries es → es ≡ map (entryAt contents sections first rs) (starts 0 false rs)
+  unfolding readRecords readAll Reads
+  fields es e = subst (Reads 0) e (walk-reads (length rs) 0 (omega arith))
+
+-- ---- how many
+
+starts-count : (k : ℕ) (second : Bool) (rs : List MachRel) → length (starts k second rs) + pairs second rs ≡ length rs
+starts-count k second [] = refl
+starts-count k true (r ∷ rs) = omega (arith, starts-count (suc k) false rs)
+starts-count k false (r ∷ rs) = omega (arith, starts-count (suc k) (isAddend r) rs)
+
+-- the entries of a table are as many as its records less the ADDEND records that head a pair
+pub count : (contents sections : List ℕ) (first : Bool) (rs : List MachRel) (es : List Reloc) → readRecords contents sections first rs ≡ entries es
+    → length es + pairs false rs ≡ length rs
+count contents sections first rs es e =
+    ap (λ (m : ℕ). m + pairs false rs)
+    (ap length (fields contents sections first rs es e) ∙ length-map (starts 0 false rs) (entryAt contents sections first rs))
+    ∙ starts-count 0 false rs
+
+-- so they never exceed the records
+pub few-entries : (contents sections : List ℕ) (first : Bool) (rs : List MachRel) (es : List Reloc) → readRecords contents sections first rs ≡ entries es
+    → length es ≤ length rs
+few-entries contents sections first rs es e = omega (arith, count contents sections first rs es e)

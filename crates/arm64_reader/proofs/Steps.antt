@@ -1,0 +1,139 @@
+-- The step at a record in each of its cases: past the contents, an ADDEND record with and without a record after it, any other record.
+use mathlib.Core.Path.{_≡_, refl, sym, ap, _∙_}
+use mathlib.Core.Bool.{Bool, true, false}
+use mathlib.Core.List.{List}
+use Prim.Native.Nat.{ℕ, _+_, _-_, _/_, _<_, _≤_}
+use native.Mathlib.Omega.{arith}
+use borrow.Author.Tests.{eq-eqb, ne-eqb, lt-ltb, le-ltb, ltb-true}
+use lib.ListN.{length, drop}
+use lib.Dec.{eqb, ltb}
+use Rattle.util.specs.Bits.{extend}
+use Rattle.util.specs.Choice.{choose}
+use Rattle.util.proofs.Choice.{split, chosen, choose-true}
+use Rattle.macho.specs.MachRel.{idxOf, typeOf}
+use Rattle.macho.specs.Types.{ARM64-RELOC-SUBTRACTOR, ARM64-RELOC-ADDEND}
+use Rattle.macho.specs.declared.rel.MachRel.{MachRel}
+use Rattle.macho.specs.declared.reloc.Reloc.{Reloc}
+use Rattle.macho.specs.declared.refusal.Refusal.{Refusal}
+use Rattle.macho.specs.declared.refusal.Refusal.the-variants.{Bounds, LoneAddend}
+use Rattle.arch.specs.Table.{recordsOf, recordAt, subtractedAt, lengthsOf}
+use Rattle.arch.specs.Walk.{refused, readAll}
+use Rattle.arch.specs.declared.step.Check.{Check}
+use Rattle.arch.specs.declared.step.Check.the-variants as C
+use Rattle.arch.specs.declared.step.Step.{Step}
+use Rattle.arch.specs.declared.step.Step.the-variants as S
+use Rattle.arch.proofs.Records.{length-records}
+use Rattle.arch.proofs.Walk.{Later, Within, Ends, Onward, refused-later, refused-within, ends-later, ends-within, targeted-ends, onward}
+use Rattle.arm64_reader.specs.declared.record.Addend.{Addend}
+use Rattle.arm64_reader.specs.declared.record.Addend.the-variants.{Held, Refused}
+use Rattle.arm64_reader.specs.Check.{checkReloc}
+use Rattle.arm64_reader.specs.Record.{addendOf, passing, adding, recordOf, ownAt, stepAt}
+use Rattle.arm64_reader.specs.Read.{readRecords, readTable, readRelocs}
+
+-- the record after one that is no SUBTRACTOR is not subtracted
+pub after-other : (before : Bool) (rs : List MachRel) (i : ℕ) → (typeOf (recordAt rs i .bits) ≡ ARM64-RELOC-SUBTRACTOR → ⊥)
+    → subtractedAt ARM64-RELOC-SUBTRACTOR before rs (i + 1) ≡ false
+unfolding subtractedAt choose
+after-other before rs i h =
+    let z : i + 1 - 1 ≡ i = omega arith in
+    rw (ne-eqb (i + 1) 0 (omega arith), z) (ne-eqb _ _ h)
+
+module _ (contents sections : List ℕ) (before : Bool) (rs : List MachRel) (i : ℕ) where
+  abbrev off : ℕ
+  off = recordAt rs i .offset
+
+  pub past-is : length contents < off → stepAt contents sections before rs i ≡ S.Refused Bounds
+  unfolding stepAt choose
+  past-is h = simp (lt-ltb _ _ h)
+
+  pub lone-is : off ≤ length contents → typeOf (recordAt rs i .bits) ≡ ARM64-RELOC-ADDEND → length rs ≤ i + 1
+      → stepAt contents sections before rs i ≡ S.Refused LoneAddend
+  unfolding stepAt choose
+  lone-is h t l = simp (le-ltb _ _ h, eq-eqb _ _ t, le-ltb _ _ l)
+
+  pub pair-is : off ≤ length contents → typeOf (recordAt rs i .bits) ≡ ARM64-RELOC-ADDEND → i + 1 < length rs
+      → stepAt contents sections before rs i
+      ≡ recordOf (drop off contents) sections (recordAt rs (i + 1)) false off (extend (idxOf (recordAt rs i .bits)) 24) (i + 1 + 1)
+  unfolding stepAt choose
+  pair-is h t l =
+      let n : typeOf (recordAt rs i .bits) ≡ ARM64-RELOC-SUBTRACTOR → ⊥ = λ e. omega arith in
+      simp (le-ltb _ _ h, eq-eqb _ _ t, lt-ltb _ _ l, after-other before rs i n)
+
+  pub other-is : off ≤ length contents → (typeOf (recordAt rs i .bits) ≡ ARM64-RELOC-ADDEND → ⊥)
+      → stepAt contents sections before rs i ≡ ownAt contents sections before rs i off 0
+  unfolding stepAt choose
+  other-is h t = simp (le-ltb _ _ h, ne-eqb _ _ t)
+
+-- ---- where a step ends
+
+passing-ends : (m : ℕ) (c : Check) (s : Step) → Ends m s → Ends m (passing c s)
+unfolding Ends
+passing-ends m C.Fit s h = h
+passing-ends m (C.Refused x) s h = tt
+
+adding-ends : (sections : List ℕ) (r : MachRel) (subtracted : Bool) (offset next : ℕ) (a : Addend) → Ends next (adding sections r subtracted offset next a)
+unfolding Ends
+adding-ends sections r subtracted offset next (Held addend) = targeted-ends sections r subtracted offset addend next
+adding-ends sections r subtracted offset next (Refused x) = tt
+
+pub record-ends : (loc sections : List ℕ) (r : MachRel) (subtracted : Bool) (offset addend next : ℕ)
+    → Ends next (recordOf loc sections r subtracted offset addend next)
+unfolding recordOf
+record-ends loc sections r subtracted offset addend next =
+    passing-ends next (checkReloc r subtracted loc) _ (adding-ends sections r subtracted offset next (addendOf r loc addend))
+
+module _ (contents sections : List ℕ) (before : Bool) (rs : List MachRel) where
+  -- each step goes on
+  pub step-onward : Onward (stepAt contents sections before rs)
+  unfolding stepAt
+  step-onward i =
+      chosen (Later i) _ _ _ (refused-later i Bounds)
+      (chosen (Later i) _ _ _
+      (chosen (Later i) _ _ _ (ends-later i (i + 1 + 1) (omega arith) _ (record-ends _ _ _ _ _ _ (i + 1 + 1))) (refused-later i LoneAddend))
+      (ends-later i (i + 1) (omega arith) _ (record-ends _ _ _ _ _ _ (i + 1))))
+
+  -- and no step goes past the list
+  pub step-within : (i : ℕ) → i < length rs → Within (length rs) (stepAt contents sections before rs i)
+  unfolding stepAt
+  step-within i h =
+      let n = length rs in
+      chosen (Within n) _ _ _ (refused-within n Bounds)
+      (chosen (Within n) _ _ _
+      (split (Within n) (ltb (i + 1) n) _ _
+      (λ e. let l = ltb-true (i + 1) n e in ends-within n (i + 1 + 1) (omega arith) _ (record-ends _ _ _ _ _ _ (i + 1 + 1)))
+      (λ _. refused-within n LoneAddend))
+      (ends-within n (i + 1) (omega arith) _ (record-ends _ _ _ _ _ _ (i + 1))))
+
+  -- the step of an ADDEND record ends after the record after it
+  pub pair-ends : (i : ℕ) → typeOf (recordAt rs i .bits) ≡ ARM64-RELOC-ADDEND → Ends (i + 1 + 1) (stepAt contents sections before rs i)
+  unfolding stepAt Ends
+  pair-ends i t =
+      let e = eq-eqb (typeOf (recordAt rs i .bits)) ARM64-RELOC-ADDEND t in
+      chosen (Ends (i + 1 + 1)) _ _ _ tt
+      (rw (choose-true _ _ _ e) (chosen (Ends (i + 1 + 1)) _ _ _ (record-ends _ _ _ _ _ _ (i + 1 + 1)) tt))
+
+-- ---- a table of bytes
+
+module _ (contents rels sections : List ℕ) where
+  abbrev pub tableStep : ℕ → Step
+  tableStep = stepAt contents sections false (recordsOf rels)
+
+  pub table-is : readTable contents rels sections ≡ readAll tableStep (length rels / 8)
+  unfolding readRecords
+  table-is = ap (readAll tableStep) (length-records rels)
+
+  pub table-onward : (i : ℕ) {s : Step} {e : Reloc} {next : ℕ} → s ≡ S.Read e next → s ≡ tableStep i → i < next
+  table-onward i p q = onward tableStep (step-onward contents sections false (recordsOf rels)) i p q
+
+-- ---- the whole call, by the lengths that it is lent
+
+module _ (contents rels sections slots : List ℕ) where
+  pub lengths-refuse : {x : Refusal} → lengthsOf (length rels) (length sections) (length slots) ≡ C.Refused x
+      → readRelocs contents rels sections slots ≡ refused x
+  unfolding readRelocs
+  lengths-refuse e = rw e
+
+  pub lengths-fit : lengthsOf (length rels) (length sections) (length slots) ≡ C.Fit
+      → readRelocs contents rels sections slots ≡ readTable contents rels sections
+  unfolding readRelocs
+  lengths-fit e = rw e

@@ -1,0 +1,110 @@
+use borrow.Author.Tests.{eq-eqb, ne-eqb, le-leb, lt-leb, lt-ltb, le-ltb, not-true, not-false}
+use Rattle.arm64_reader.specs.Check.{checkReloc}
+use Rattle.util.specs.Choice.{choose}
+use borrow.Author.Needs.{needs}
+use Rattle.arm64_reader.proofs.check.check_reloc.Statement.{statement}
+use Rattle.arm64_reader.proofs.check.check_reloc.Tie as tie
+use Rattle.arm64_reader.proofs.check.check_reloc.Reads as reads
+use Rattle.arm64_reader.proofs.check.check_reloc.Lts as lts
+use Rattle.arm64_reader.proofs.check.check_word.Reads as check-word-reads
+use Rattle.arm64_reader.proofs.check.is_pointer32.Reads as is-pointer32-reads
+use Rattle.arm64_reader.proofs.support.is_supported.Reads as is-supported-reads
+use Rattle.macho.proofs.rel.MachRel.ty.Reads as ty-reads
+
+-- src/check.rt:76:9
+is-supported-requires : tie.Need-is-supported-requires
+is-supported-requires c κs = search needs
+
+-- src/check.rt:77:9
+returns : tie.Need-returns
+unfolding checkReloc choose
+returns c =
+    simp (
+      not-true (c .before .is-supported .result) (c .if1 .taken),
+      ← c .before .is-supported .ensures,
+    )
+
+-- src/check.rt:79:8
+is-pointer32-requires : tie.Need-is-pointer32-requires
+is-pointer32-requires c κs = search needs
+
+-- src/check.rt:80:9
+returns-2 : tie.Need-returns-2
+unfolding checkReloc choose
+returns-2 c =
+    simp (
+      c .if2 .taken,
+      ← c .before .is-pointer32 .ensures,
+      not-false (c .before .before .before .is-supported .result) (c .before .before .if1 .left),
+      ← c .before .before .before .is-supported .ensures,
+    )
+
+-- src/check.rt:82:9
+ty-requires : tie.Need-ty-requires
+ty-requires c κs = search needs
+
+-- src/check.rt:84:9
+check-word-requires : tie.Need-check-word-requires
+check-word-requires c κs = search needs
+
+-- src/check.rt:84:9
+returns-3 : tie.Need-returns-3
+unfolding checkReloc choose
+returns-3 c =
+    simp (
+      c .check-word .ensures,
+      eq-eqb _ _ (c .before .if3 .taken),
+      ← c .before .before .ty .ensures,
+      c .before .before .before .if2 .left,
+      ← c .before .before .before .before .is-pointer32 .ensures,
+      not-false (c .before .before .before .before .before .before .is-supported .result) (c .before .before .before .before .before .if1 .left),
+      ← c .before .before .before .before .before .before .is-supported .ensures,
+    )
+
+-- src/check.rt:87:9
+check-word-requires-2 : tie.Need-check-word-requires-2
+check-word-requires-2 c κs = search needs
+
+-- src/check.rt:87:9
+returns-4 : tie.Need-returns-4
+unfolding checkReloc choose
+returns-4 c =
+    simp (
+      c .check-word2 .ensures,
+      eq-eqb _ _ (c .before .if4 .taken),
+      ne-eqb _ _ (c .before .before .if3 .left),
+      ← c .before .before .before .ty .ensures,
+      c .before .before .before .before .if2 .left,
+      ← c .before .before .before .before .before .is-pointer32 .ensures,
+      not-false (c .before .before .before .before .before .before .before .is-supported .result) (c .before .before .before .before .before .before .if1 .left),
+      ← c .before .before .before .before .before .before .before .is-supported .ensures,
+    )
+
+-- src/check.rt:73:1
+returns-5 : tie.Need-returns-5
+unfolding checkReloc choose
+returns-5 c =
+    simp (
+      ne-eqb _ _ (c .if4 .left),
+      ne-eqb _ _ (c .before .if3 .left),
+      ← c .before .before .ty .ensures,
+      c .before .before .before .if2 .left,
+      ← c .before .before .before .before .is-pointer32 .ensures,
+      not-false (c .before .before .before .before .before .before .is-supported .result) (c .before .before .before .before .before .if1 .left),
+      ← c .before .before .before .before .before .before .is-supported .ensures,
+    )
+
+pub check-reloc-spec : {M : Type 1} → statement M
+check-reloc-spec =
+    tie.close
+    (tie.spec
+    is-supported-requires
+    returns
+    is-pointer32-requires
+    returns-2
+    ty-requires
+    check-word-requires
+    returns-3
+    check-word-requires-2
+    returns-4
+    returns-5)

@@ -1,0 +1,91 @@
+use borrow.Author.Tests.{eq-eqb, ne-eqb, le-leb, lt-leb, lt-ltb, le-ltb, not-true, not-false}
+use Rattle.arm64_reader.specs.Check.{wordCheck}
+use Rattle.util.specs.Choice.{choose}
+use borrow.Author.Needs.{needs}
+use Rattle.arm64_reader.proofs.check.check_word.Statement.{statement}
+use Rattle.arm64_reader.proofs.check.check_word.Tie as tie
+use Rattle.arm64_reader.proofs.check.check_word.Reads as reads
+use Rattle.arm64_reader.proofs.check.check_word.Lts as lts
+use Rattle.arm64_reader.proofs.check.got_fits.Reads as got-fits-reads
+use Rattle.arm64_reader.proofs.check.tlvp_fits.Reads as tlvp-fits-reads
+use Rattle.util.proofs.read32.Reads as read32-reads
+
+-- src/check.rt:57:9
+returns : tie.Need-returns
+unfolding wordCheck choose
+returns c =
+    simp
+    (lt-ltb _ _ (c .if1 .taken))
+
+-- src/check.rt:59:9
+read32-requires : tie.Need-read32-requires
+read32-requires c κs = search needs
+
+-- src/check.rt:61:12
+got-fits-requires : tie.Need-got-fits-requires
+got-fits-requires c κs = search needs
+
+-- src/check.rt:62:13
+returns-2 : tie.Need-returns-2
+unfolding wordCheck choose
+returns-2 c =
+    simp (
+      c .if3 .taken,
+      ← c .before .got-fits .ensures,
+      eq-eqb _ _ (c .before .before .if2 .taken),
+      ← c .before .before .before .read32 .ensures,
+      le-ltb _ _ (c .before .before .before .before .if1 .left),
+    )
+
+-- src/check.rt:64:9
+returns-3 : tie.Need-returns-3
+unfolding wordCheck choose
+returns-3 c =
+    simp (
+      c .if3 .left,
+      ← c .before .got-fits .ensures,
+      eq-eqb _ _ (c .before .before .if2 .taken),
+      ← c .before .before .before .read32 .ensures,
+      le-ltb _ _ (c .before .before .before .before .if1 .left),
+    )
+
+-- src/check.rt:66:8
+tlvp-fits-requires : tie.Need-tlvp-fits-requires
+tlvp-fits-requires c κs = search needs
+
+-- src/check.rt:67:9
+returns-4 : tie.Need-returns-4
+unfolding wordCheck choose
+returns-4 c =
+    simp (
+      c .if4 .taken,
+      ← c .before .tlvp-fits .ensures,
+      ne-eqb _ _ (c .before .before .if2 .left),
+      ← c .before .before .before .read32 .ensures,
+      le-ltb _ _ (c .before .before .before .before .if1 .left),
+    )
+
+-- src/check.rt:53:1
+returns-5 : tie.Need-returns-5
+unfolding wordCheck choose
+returns-5 c =
+    simp (
+      c .if4 .left,
+      ← c .before .tlvp-fits .ensures,
+      ne-eqb _ _ (c .before .before .if2 .left),
+      ← c .before .before .before .read32 .ensures,
+      le-ltb _ _ (c .before .before .before .before .if1 .left),
+    )
+
+pub check-word-spec : {M : Type 1} → statement M
+check-word-spec =
+    tie.close
+    (tie.spec
+    returns
+    read32-requires
+    got-fits-requires
+    returns-2
+    returns-3
+    tlvp-fits-requires
+    returns-4
+    returns-5)

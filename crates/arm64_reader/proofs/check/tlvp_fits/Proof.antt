@@ -1,0 +1,19 @@
+use Rattle.arm64_reader.specs.Check.{tlvpFits}
+use borrow.Author.Needs.{needs}
+use Rattle.arm64_reader.proofs.check.tlvp_fits.Statement.{statement}
+use Rattle.arm64_reader.proofs.check.tlvp_fits.Tie as tie
+use Rattle.arm64_reader.proofs.check.tlvp_fits.Reads as reads
+use Rattle.arm64_reader.proofs.check.tlvp_fits.Lts as lts
+use Rattle.arm64_reader.proofs.check.loaded_bytes.Reads as loaded-bytes-reads
+
+-- src/check.rt:42:5
+loaded-bytes-requires : tie.Need-loaded-bytes-requires
+loaded-bytes-requires c κs = search needs
+
+-- src/check.rt:39:1
+returns : tie.Need-returns
+unfolding tlvpFits
+returns c = simp (c .loaded-bytes .ensures)
+
+pub tlvp-fits-spec : {M : Type 1} → statement M
+tlvp-fits-spec = tie.close (tie.spec loaded-bytes-requires returns)

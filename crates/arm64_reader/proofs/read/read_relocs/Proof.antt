@@ -1,0 +1,102 @@
+use mathlib.Core.Path.{_≡_, refl, sym, ap, _∙_}
+use mathlib.Core.List.{List}
+use Prim.Native.Nat.{ℕ}
+use native.Mathlib.Omega.{arith}
+use denote.Ref.{now}
+use lib.ListN.{length}
+use Rattle.arch.specs.Walk.{Answer, outcomeOf, slotsAfter}
+use Rattle.arch.proofs.Walk.{fills-of, kept-of, fit-room}
+use Rattle.arm64_reader.specs.Read.{readTable}
+use Rattle.arm64_reader.proofs.Steps.{lengths-refuse, lengths-fit}
+use borrow.Author.Needs.{needs}
+use Rattle.arm64_reader.proofs.read.read_relocs.Statement.{statement}
+use Rattle.arm64_reader.proofs.read.read_relocs.Tie as tie
+use Rattle.arm64_reader.proofs.read.read_relocs.Reads as reads
+use Rattle.arm64_reader.proofs.read.read_relocs.Lts as lts
+use Rattle.arch.proofs.table.check_lengths.Reads as check-lengths-reads
+use Rattle.arm64_reader.proofs.read.check_walk.Reads as check-walk-reads
+use Rattle.arm64_reader.proofs.read.fill_walk.Reads as fill-walk-reads
+
+-- src/read.rt:62:11
+check-lengths-requires : tie.Need-check-lengths-requires
+check-lengths-requires c κs = search needs
+
+-- src/read.rt:63:24
+enum-known-refusal : tie.Need-enum-known-refusal
+enum-known-refusal c = search needs
+
+-- src/read.rt:64:29
+enum-told : tie.Need-enum-told
+enum-told c = search needs
+
+-- src/read.rt:64:29
+check-walk-requires : tie.Need-check-walk-requires
+check-walk-requires c κs = search needs
+
+-- src/read.rt:65:33
+enum-known-refusal-2 : tie.Need-enum-known-refusal-2
+enum-known-refusal-2 c = search needs
+
+-- src/read.rt:66:32
+enum-known-count : tie.Need-enum-known-count
+enum-known-count c = search needs
+
+-- src/read.rt:67:17
+fill-walk-requires : tie.Need-fill-walk-requires
+fill-walk-requires c κs =
+    let k = c .before .before .before .before in
+    let f = sym (k .before .before .before .check-lengths .ensures) ∙ k .before .enum-told .given .1 in
+    let a = k .before .before .before .before .before .before .before .before .args in
+    (fills-of (readTable (now (a .contents)) (now (a .rels)) (now (a .sections))) _ (sym (c .before .before .count .given .1) ∙ k .check-walk .ensures), fit-room _ _ _ f)
+
+-- src/read.rt:57:1
+returns : tie.Need-returns
+returns c =
+    let a = c .before .before .before .before .before .before .before .before .args in
+    let f = sym (c .before .before .before .check-lengths .ensures) ∙ c .before .refusal .given .1 in
+    let e = lengths-refuse (now (a .contents)) (now (a .rels)) (now (a .sections)) (now (a .slots)) f in
+    (ap outcomeOf (sym e), ap (λ (r : Answer). slotsAfter r (now (a .slots))) (sym e))
+
+-- src/read.rt:57:1
+returns-2 : tie.Need-returns-2
+returns-2 c =
+    let k = c .before .before .before in
+    let f = sym (k .before .before .before .check-lengths .ensures) ∙ k .before .enum-told .given .1 in
+    let a = k .before .before .before .before .before .before .before .before .args in
+    let e = lengths-fit (now (a .contents)) (now (a .rels)) (now (a .sections)) (now (a .slots)) f in
+    let d = sym (c .before .refusal2 .given .1) ∙ k .check-walk .ensures in (
+      d ∙ ap outcomeOf (sym e),
+      kept-of (readTable (now (a .contents)) (now (a .rels)) (now (a .sections))) _ _ d ∙ ap (λ (r : Answer). slotsAfter r (now (a .slots))) (sym e),
+    )
+
+-- src/read.rt:57:1
+same-length : tie.Need-same-length
+same-length c = search needs
+
+-- src/read.rt:57:1
+returns-3 : tie.Need-returns-3
+returns-3 c =
+    let m = c .before .before .before .before .before in
+    let k = m .before .before in
+    let f = sym (k .before .before .before .check-lengths .ensures) ∙ k .before .enum-told .given .1 in
+    let a = k .before .before .before .before .before .before .before .before .args in
+    let e = lengths-fit (now (a .contents)) (now (a .rels)) (now (a .sections)) (now (a .slots)) f in (
+      sym (m .count .given .1) ∙ k .check-walk .ensures ∙ ap outcomeOf (sym e),
+      c .before .before .fill-walk .ensures ∙ ap (λ (r : Answer). slotsAfter r (now (a .slots))) (sym e),
+    )
+
+pub read-relocs-spec : {M : Type 1} → statement M
+read-relocs-spec =
+    tie.close
+    (tie.spec
+    check-lengths-requires
+    enum-known-refusal
+    enum-told
+    check-walk-requires
+    enum-known-refusal-2
+    enum-known-count
+    fill-walk-requires
+    returns
+    returns-2
+    same-length
+    returns-3)

@@ -1,0 +1,34 @@
+use Prim.Native.Nat.{ℕ, _-_}
+use lib.ListN.{drop}
+use mathlib.Core.Path.{_≡_}
+use denote.Ref.{now}
+use native.Mathlib.Omega.{arith}
+use lib.ListN.{length, length-drop}
+use lib.Seq.{take-all}
+use borrow.Author.Needs.{needs}
+use Rattle.arm64_reader.proofs.record.contents_from.Statement.{statement}
+use Rattle.arm64_reader.proofs.record.contents_from.Tie as tie
+use Rattle.arm64_reader.proofs.record.contents_from.Reads as reads
+use Rattle.arm64_reader.proofs.record.contents_from.Lts as lts
+
+-- src/record.rt:75:5
+sub-result : tie.Need-sub-result
+sub-result c = search needs
+
+-- src/record.rt:75:5
+part-result-start : tie.Need-part-result-start
+part-result-start c = search needs
+
+-- src/record.rt:75:5
+part-result-end : tie.Need-part-result-end
+part-result-end c = search needs
+
+-- src/record.rt:70:1
+returns : tie.Need-returns
+returns c =
+    let s = now (c .before .args .contents) in
+    let k = c .before .args .offset in
+    take-all (length s - k) (drop k s) (simp length-drop (omega arith))
+
+pub contents-from-spec : {M : Type 1} → statement M
+contents-from-spec = tie.close (tie.spec sub-result part-result-start part-result-end returns)

@@ -1,0 +1,67 @@
+-- What the entries of a table hold, as functions of its records (document 01, "Odd spots", `read_relocs`).
+use Prim.Native.Nat.{ℕ, suc, _+_, _-_, _^_}
+use mathlib.Core.Bool.{Bool, true, false}
+use mathlib.Core.List.{List, [], _∷_}
+use lib.ListN.{getD}
+use lib.Dec.{eqb}
+use Rattle.util.specs.Bits.{extend}
+use Rattle.util.specs.Choice.{choose, flag}
+use Rattle.util.specs.Word.{le}
+use Rattle.util.specs.Wrap.{diff}
+use Rattle.macho.specs.MachRel.{idxOf, p2sizeOf, externOf, typeOf}
+use Rattle.macho.specs.Types.{ARM64-RELOC-UNSIGNED, ARM64-RELOC-SUBTRACTOR, ARM64-RELOC-GOT-LOAD-PAGEOFF12, ARM64-RELOC-TLVP-LOAD-PAGEOFF12}
+use Rattle.macho.specs.Types.{ARM64-RELOC-ADDEND}
+use Rattle.macho.specs.declared.rel.MachRel.{MachRel}
+use Rattle.macho.specs.declared.reloc.Reloc.{Reloc}
+use Rattle.arch.specs.Entry.{entryOf}
+use Rattle.arch.specs.Table.{recordAt, subtractedAt}
+
+-- whether a record is ADDEND
+abbrev pub isAddend : MachRel → Bool
+isAddend r = eqb (typeOf (r .bits)) ARM64-RELOC-ADDEND
+
+-- the numbers of the records at which entries start, the first record being number k: every record but those directly after an ADDEND record at
+-- which an entry starts; `second` says whether the first is such a one
+abbrev pub starts : ℕ → Bool → List MachRel → List ℕ
+starts k second [] = []
+starts k true (r ∷ rs) = starts (suc k) false rs
+starts k false (r ∷ rs) = k ∷ starts (suc k) (isAddend r) rs
+
+-- how many records are directly after an ADDEND record at which an entry starts: as many as ADDEND records head a pair
+abbrev pub pairs : Bool → List MachRel → ℕ
+pairs second [] = 0
+pairs true (r ∷ rs) = suc (pairs false rs)
+pairs false (r ∷ rs) = pairs (isAddend r) rs
+
+-- the own record of the entry that starts at record i
+abbrev pub ownOf : List MachRel → ℕ → ℕ
+ownOf rs i = choose (isAddend (recordAt rs i)) (i + 1) i
+
+-- how many bytes of the contents, from the entry's offset on, an own record is read against: the pointer of an UNSIGNED, the word under a GOT or
+-- TLVP page offset
+unfoldable pub lookedAt : MachRel → ℕ
+lookedAt r =
+    choose (eqb (typeOf (r .bits)) ARM64-RELOC-UNSIGNED) (choose (eqb (p2sizeOf (r .bits)) 2) 4 8)
+    (choose (eqb (typeOf (r .bits)) ARM64-RELOC-GOT-LOAD-PAGEOFF12) 4 (choose (eqb (typeOf (r .bits)) ARM64-RELOC-TLVP-LOAD-PAGEOFF12) 4 0))
+
+-- what a record adds: an UNSIGNED what stands at the place, any other what the ADDEND record gave
+unfoldable pub heldIn : MachRel → ℕ → ℕ → ℕ → ℕ
+heldIn r word pointer given =
+    choose (eqb (typeOf (r .bits)) ARM64-RELOC-UNSIGNED) (choose (eqb (p2sizeOf (r .bits)) 2) (extend word 32) pointer) given
+
+-- what it names: a symbol, or with bit 31 a section
+abbrev pub targetIn : MachRel → ℕ
+targetIn r = choose (eqb (externOf (r .bits)) 1) (idxOf (r .bits)) (2 ^ 31 + (idxOf (r .bits) - 1))
+
+-- the addend: of a section less that section's address
+abbrev pub addendIn : List ℕ → MachRel → ℕ → ℕ
+addendIn sections r held = choose (eqb (externOf (r .bits)) 1) held (diff held (getD sections (idxOf (r .bits) - 1) 0))
+
+-- the entry that starts at record i: its offset is of that record, everything else of its own
+unfoldable pub entryAt : List ℕ → List ℕ → Bool → List MachRel → ℕ → Reloc
+entryAt contents sections before rs i =
+    let offset = recordAt rs i .offset in
+    let own = recordAt rs (ownOf rs i) in
+    let given = choose (isAddend (recordAt rs i)) (extend (idxOf (recordAt rs i .bits)) 24) 0 in
+    entryOf own (subtractedAt ARM64-RELOC-SUBTRACTOR before rs (ownOf rs i)) offset (targetIn own)
+    (addendIn sections own (heldIn own (le 4 contents offset) (le 8 contents offset) given))

@@ -1,0 +1,37 @@
+-- Which relocation records the linker applies (arch/arm64.rs, `is_supported`).
+use Prim.Native.Nat.{ℕ}
+use mathlib.Core.Bool.{Bool}
+use mathlib.Core.List.{List, [], _∷_}
+use lib.ListN.{getD}
+use Rattle.macho.specs.MachRel.{typeOf}
+use Rattle.macho.specs.declared.rel.MachRel.{MachRel}
+use Rattle.arch.specs.Form.{Form, form, formIn, member}
+
+-- a pointer of 4 or 8 bytes: not pc-relative
+abbrev pointer : ℕ → List Form
+pointer ext = form 0 2 ext ∷ form 0 3 ext ∷ []
+
+-- for each type the forms that it takes: UNSIGNED, SUBTRACTOR, BRANCH26, PAGE21, PAGEOFF12, GOT_LOAD_PAGE21, GOT_LOAD_PAGEOFF12,
+-- POINTER_TO_GOT, TLVP_LOAD_PAGE21, TLVP_LOAD_PAGEOFF12, ADDEND
+abbrev pub forms : List (List Form)
+forms =
+    (form 0 2 1 ∷ form 0 3 1 ∷ form 0 2 0 ∷ form 0 3 0 ∷ [])
+    ∷ (form 0 2 1 ∷ form 0 3 1 ∷ [])
+    ∷ (form 1 2 1 ∷ [])
+    ∷ (form 1 2 1 ∷ [])
+    ∷ (form 0 2 1 ∷ [])
+    ∷ (form 1 2 1 ∷ [])
+    ∷ (form 0 2 1 ∷ [])
+    ∷ (form 1 2 1 ∷ [])
+    ∷ (form 1 2 1 ∷ [])
+    ∷ (form 0 2 1 ∷ [])
+    ∷ (form 0 2 0 ∷ [])
+    ∷ []
+
+-- the forms of a type
+unfoldable pub formsOf : ℕ → List Form
+formsOf ty = getD forms ty []
+
+-- whether a record has a form that its type takes
+unfoldable pub supportedOf : MachRel → Bool
+supportedOf r = member (formIn r) (formsOf (typeOf (r .bits)))

@@ -1,0 +1,72 @@
+// Relocation records into entries (arch/arm64.rs, `read_relocs`): one walk that checks and writes nothing, then one that fills.
+use crate::record::read_one;
+use arch::step::Check;
+use arch::step::ReadAnswer;
+use arch::step::Step;
+use arch::table::check_lengths;
+ghost use mathlib.Core.Path.{_≡_};
+ghost use Prim.Native.Nat.{_*_, _/_, _≤_};
+ghost use lib.ListN.{length};
+ghost use Rattle.arch.specs.Walk.{Fills, outcomeOf, slotsAfter};
+ghost use Rattle.arm64_reader.specs.Read.{readTable, readRelocs};
+
+// The walk that checks: all records, with nothing written.
+fn check_walk(contents: &[u8], rels: &[u8], sections: &[u64]) -> ReadAnswer
+    ensures { λ r. ⌜ r ≡ outcomeOf (readTable (now (contents .entry)) (now (rels .entry)) (now (sections .entry))) ⌝ }
+{
+    let n = rels.len() / 8;
+    let mut i = 0;
+    let mut count = 0;
+    while i < n {
+        match read_one(contents, rels, sections, i) {
+            Step::Refused(refusal) => {
+                return ReadAnswer::Refused(refusal);
+            }
+            Step::Read(_, next) => {
+                i = next;
+            }
+        }
+        count += 1;
+    }
+    ReadAnswer::Filled(count)
+}
+
+// The walk that fills, after the first has found that every record reads.
+fn fill_walk(contents: &[u8], rels: &[u8], sections: &[u64], slots: &mut [u8])
+    requires { ⌜ Fills (readTable (now contents) (now rels) (now sections)) × (24 * (length (now rels) / 8) ≤ length (now slots)) ⌝ }
+    ensures { λ _. ⌜ now (slots .exit) ≡ slotsAfter (readTable (now (contents .entry)) (now (rels .entry)) (now (sections .entry))) (now (slots .entry)) ⌝ }
+{
+    let n = rels.len() / 8;
+    let mut i = 0;
+    let mut count = 0;
+    while i < n {
+        match read_one(contents, rels, sections, i) {
+            Step::Refused(_) => {
+                return;
+            }
+            Step::Read(entry, next) => {
+                entry.write(slots, 24 * count);
+                i = next;
+            }
+        }
+        count += 1;
+    }
+}
+
+// Reads relocation records of a section into entries. `sections` has the address of each section. A refusal leaves the slots as they were.
+pub fn read_relocs(contents: &[u8], rels: &[u8], sections: &[u64], slots: &mut [u8]) -> ReadAnswer
+    ensures result { λ r. ⌜ r ≡ outcomeOf (readRelocs (now (contents .entry)) (now (rels .entry)) (now (sections .entry)) (now (slots .entry))) ⌝ }
+    ensures lent { λ _. ⌜ now (slots .exit)
+        ≡ slotsAfter (readRelocs (now (contents .entry)) (now (rels .entry)) (now (sections .entry)) (now (slots .entry))) (now (slots .entry)) ⌝ }
+{
+    match check_lengths(rels.len(), sections.len(), slots.len()) {
+        Check::Refused(refusal) => ReadAnswer::Refused(refusal),
+        Check::Fit => match check_walk(contents, rels, sections) {
+            ReadAnswer::Refused(refusal) => ReadAnswer::Refused(refusal),
+            ReadAnswer::Filled(count) => {
+                fill_walk(contents, rels, sections, slots);
+                ReadAnswer::Filled(count)
+            }
+        },
+    }
+}
