@@ -1,0 +1,5 @@
+-- Laws that belong to no one function.
+pub mod Sound
+pub mod Shapes
+pub mod Width
+pub mod ByType

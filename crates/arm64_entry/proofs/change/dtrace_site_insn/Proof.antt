@@ -1,0 +1,82 @@
+-- `dtrace_site_insn` meets its contract: kind of target and flags decide the choices.
+use borrow.Author.Tests.{eq-eqb, ne-eqb, le-leb, lt-leb, lt-ltb, le-ltb, not-true, not-false}
+use Rattle.arm64_entry.specs.Change.{dtraceSiteInsn}
+use Rattle.util.specs.Choice.{choose}
+use borrow.Author.Needs.{needs}
+use Rattle.arm64_entry.proofs.change.dtrace_site_insn.Statement.{statement}
+use Rattle.arm64_entry.proofs.change.dtrace_site_insn.Tie as tie
+use Rattle.arm64_entry.proofs.change.dtrace_site_insn.Reads as reads
+use Rattle.arm64_entry.proofs.change.dtrace_site_insn.Lts as lts
+use Rattle.macho.proofs.reloc.Reloc.is_section.Reads as is-section-reads
+use Rattle.macho.proofs.resolved.Resolved.is_enabled.Reads as is-enabled-reads
+use Rattle.macho.proofs.resolved.Resolved.is_probe.Reads as is-probe-reads
+
+-- src/change.rt:144:8
+is-section-requires : tie.Need-is-section-requires
+is-section-requires c κs = search needs
+
+-- src/change.rt:145:9
+returns : tie.Need-returns
+unfolding dtraceSiteInsn choose
+returns c =
+    simp (
+      c .if1 .taken,
+      ← c .before .is-section .ensures,
+    )
+
+-- src/change.rt:147:8
+is-probe-requires : tie.Need-is-probe-requires
+is-probe-requires c κs = search needs
+
+-- src/change.rt:148:9
+returns-2 : tie.Need-returns-2
+unfolding dtraceSiteInsn choose
+returns-2 c =
+    simp (
+      c .if2 .taken,
+      ← c .before .is-probe .ensures,
+      c .before .before .if1 .left,
+      ← c .before .before .before .is-section .ensures,
+    )
+
+-- src/change.rt:150:8
+is-enabled-requires : tie.Need-is-enabled-requires
+is-enabled-requires c κs = search needs
+
+-- src/change.rt:151:9
+returns-3 : tie.Need-returns-3
+unfolding dtraceSiteInsn choose
+returns-3 c =
+    simp (
+      c .if3 .taken,
+      ← c .before .is-enabled .ensures,
+      c .before .before .if2 .left,
+      ← c .before .before .before .is-probe .ensures,
+      c .before .before .before .before .if1 .left,
+      ← c .before .before .before .before .before .is-section .ensures,
+    )
+
+-- src/change.rt:141:1
+returns-4 : tie.Need-returns-4
+unfolding dtraceSiteInsn choose
+returns-4 c =
+    simp (
+      c .if3 .left,
+      ← c .before .is-enabled .ensures,
+      c .before .before .if2 .left,
+      ← c .before .before .before .is-probe .ensures,
+      c .before .before .before .before .if1 .left,
+      ← c .before .before .before .before .before .is-section .ensures,
+    )
+
+pub dtrace-site-insn-spec : {M : Type 1} → statement M
+dtrace-site-insn-spec =
+    tie.close
+    (tie.spec
+    is-section-requires
+    returns
+    is-probe-requires
+    returns-2
+    is-enabled-requires
+    returns-3
+    returns-4)

@@ -1,0 +1,155 @@
+-- Where branches go after the fix-up, from the manual's definitions: for entry k of any accepted list that no SUBTRACTOR consumes and whose
+-- bytes no other entry touches. The words are those of arm64_insn's `Encodes`, their targets those of its `Meaning`.
+use mathlib.Core.Path.{_≡_, refl, sym, ap, _∙_}
+use mathlib.Core.Bool.{Bool, true, false}
+use mathlib.Core.List.{List}
+use Prim.Native.Nat.{ℕ, _+_, _*_, _%_, _^_, _<_}
+use native.Mathlib.Omega.{arith}
+use native.Mathlib.Nat.{mod-eq-of-lt}
+use Rattle.util.specs.Choice.{choose}
+use Rattle.util.specs.Bits.{field}
+use Rattle.util.specs.Wrap.{sum, diff}
+use Rattle.util.proofs.Choice.{chosen, choose-true, choose-false}
+use Rattle.macho.specs.Types.{ARM64-RELOC-BRANCH26, ARM64-RELOC-GOT-LOAD-PAGE21}
+use Rattle.macho.specs.Resolved.{hasHelper, helperIsOwn, isProbe, isEnabled}
+use Rattle.macho.specs.declared.reloc.Reloc.{Reloc}
+use Rattle.macho.specs.declared.resolved.Resolved.{Resolved}
+use Rattle.macho.specs.declared.report.Report.{Report}
+use Rattle.arm64_insn.specs.Manual.{B, BL, NOP, MOVZ, form, decode}
+use Rattle.arm64_insn.specs.Fix.{nopWord, isEnabledWord}
+use Rattle.arm64_insn.specs.ManualTargets as M
+use Rattle.arm64_insn.specs.Branch.{branchReaches, branchWord, helperWord}
+use Rattle.arm64_insn.proofs.Encodes.{b-patched, bl-patched, helper-made, nop-made, is-enabled-made}
+use Rattle.arm64_insn.proofs.Meaning.{branch-means}
+use Rattle.arm64_insn.proofs.Manual.{encode-lt}
+use Rattle.arm64_entry.specs.Target.{isSymbol, placeOf}
+use Rattle.arm64_entry.specs.Change.{silent, reported, branchTarget, thunkServes, dtraceSiteInsn, branch, branchUnless, gotPage21, changeOf}
+use Rattle.arm64_fixup.specs.Walk.{entryAt, targetAt, Fixed, changeAt}
+use Rattle.arm64_fixup.specs.Footprint.{Lone, wordAt}
+use Rattle.arm64_entry.specs.declared.target.Bases.{Bases}
+use Rattle.arm64_entry.specs.declared.change.Site.{Site}
+use Rattle.arm64_entry.specs.declared.change.Change.{Change}
+use Rattle.arm64_entry.specs.declared.change.Traced.{Traced}
+use Rattle.arm64_entry.specs.declared.change.Traced.the-variants.{Insn, Untraced}
+use Rattle.arm64_entry.specs.declared.change.Write.the-variants.{Word}
+use Rattle.arm64_entry.proofs.ByType.{siteOf, branch-does, branch-untraced, got-page-does}
+use Rattle.arm64_fixup.proofs.Lone.{passed, stores-word}
+
+-- the displacement that a branch at p gets: to T in reach; else to the thunk, where it serves; else to T all the same
+abbrev pub displacement : Reloc → Resolved → ℕ → ℕ
+displacement e t p =
+    choose (branchReaches (branchTarget e t) p) (diff (branchTarget e t) p)
+    (choose (thunkServes e t (branchTarget e t)) (diff (t .thunk) p) (diff (branchTarget e t) p))
+
+by-tests : (word : ℕ) (x y : Bool) (d c : ℕ) (r : Report)
+    → choose x (silent (Word (branchWord word d))) (choose y (silent (Word (branchWord word c))) (reported (Word (branchWord word d)) r)) .write
+    ≡ Word (branchWord word (choose x d (choose y c d)))
+unfolding choose
+by-tests word true y d c r = refl
+by-tests word false true d c r = refl
+by-tests word false false d c r = refl
+
+branch-write : (s : Site) (e : Reloc) (t : Resolved) (word : ℕ) → branch s e t word .write ≡ Word (branchWord word (displacement e t (s .place)))
+unfolding branch
+branch-write s e t word = by-tests word (branchReaches (branchTarget e t) (s .place)) (thunkServes e t (branchTarget e t)) _ _ _
+
+branch-lt : (e : Reloc) (t : Resolved) → branchTarget e t < 2 ^ 64
+unfolding branchTarget
+branch-lt e t = omega arith
+
+branch-word-lt : (w d : ℕ) → branchWord w d < 2 ^ 32
+unfolding branchWord
+branch-word-lt w d = omega arith
+
+module _ {section : List ℕ} {b : Bases} {rels targets slots : List ℕ} {f : Fixed} {k : ℕ} (l : Lone section b rels targets slots f k)
+    (ty : entryAt rels k .ty ≡ ARM64-RELOC-BRANCH26) (plain : dtraceSiteInsn (entryAt rels k) (targetAt targets k) ≡ Untraced)
+  where
+    -- any word, at no tracing site: bits 31..26 stay, the others are the displacement in words
+    pub branch-word : wordAt rels (f .section) k
+        ≡ branchWord (wordAt rels section k) (displacement (entryAt rels k) (targetAt targets k) (placeOf b (entryAt rels k)))
+    branch-word =
+        stores-word l
+        (ap (λ (c : Change). c .write) (branch-untraced b k _ _ _ _ _ ty plain)
+        ∙ branch-write (siteOf b k (entryAt rels k)) (entryAt rels k) (targetAt targets k) (wordAt rels section k))
+        ∙ mod-eq-of-lt (branch-word-lt (wordAt rels section k) (displacement (entryAt rels k) (targetAt targets k) (placeOf b (entryAt rels k))))
+
+    -- a B stays a B, and a BL a BL
+    pub b-stays : (imm26 : ℕ) → decode (wordAt rels section k) ≡ form (B imm26)
+        → decode (wordAt rels (f .section) k) ≡ form (B (field (displacement (entryAt rels k) (targetAt targets k) (placeOf b (entryAt rels k))) 2 26))
+    b-stays imm26 d = ap decode branch-word ∙ b-patched _ imm26 _ d
+
+    pub bl-stays : (imm26 : ℕ) → decode (wordAt rels section k) ≡ form (BL imm26)
+        → decode (wordAt rels (f .section) k) ≡ form (BL (field (displacement (entryAt rels k) (targetAt targets k) (placeOf b (entryAt rels k))) 2 26))
+    bl-stays imm26 d = ap decode branch-word ∙ bl-patched _ imm26 _ d
+
+    -- in reach it goes to T, where place and T are multiples of 4
+    pub goes : branchReaches (branchTarget (entryAt rels k) (targetAt targets k)) (placeOf b (entryAt rels k)) ≡ true
+        → branchTarget (entryAt rels k) (targetAt targets k) % 4 ≡ 0
+        → placeOf b (entryAt rels k) % 4 ≡ 0
+        → M.branchTarget (field (displacement (entryAt rels k) (targetAt targets k) (placeOf b (entryAt rels k))) 2 26) (placeOf b (entryAt rels k))
+        ≡ branchTarget (entryAt rels k) (targetAt targets k)
+    goes near t p =
+        ap (λ (d : ℕ). M.branchTarget (field d 2 26) (placeOf b (entryAt rels k))) (choose-true _ _ _ near)
+        ∙ branch-means _ _ (branch-lt _ _) (passed l .place) near t p
+
+    -- else, where a thunk serves and is in reach of the branch, to the thunk
+    pub goes-by-thunk : branchReaches (branchTarget (entryAt rels k) (targetAt targets k)) (placeOf b (entryAt rels k)) ≡ false
+        → thunkServes (entryAt rels k) (targetAt targets k) (branchTarget (entryAt rels k) (targetAt targets k)) ≡ true
+        → branchReaches (targetAt targets k .thunk) (placeOf b (entryAt rels k)) ≡ true
+        → targetAt targets k .thunk < 2 ^ 64
+        → targetAt targets k .thunk % 4 ≡ 0
+        → placeOf b (entryAt rels k) % 4 ≡ 0
+        → M.branchTarget (field (displacement (entryAt rels k) (targetAt targets k) (placeOf b (entryAt rels k))) 2 26) (placeOf b (entryAt rels k))
+        ≡ targetAt targets k .thunk
+    goes-by-thunk far serves near lt t p =
+        ap (λ (d : ℕ). M.branchTarget (field d 2 26) (placeOf b (entryAt rels k))) (choose-false _ _ _ far ∙ choose-true _ _ _ serves)
+        ∙ branch-means _ _ lt (passed l .place) near t p
+
+-- at a tracing site
+module _ {section : List ℕ} {b : Bases} {rels targets slots : List ℕ} {f : Fixed} {k : ℕ} (l : Lone section b rels targets slots f k)
+    (ty : entryAt rels k .ty ≡ ARM64-RELOC-BRANCH26)
+  where
+    site-word : {w : ℕ} → dtraceSiteInsn (entryAt rels k) (targetAt targets k) ≡ Insn w → wordAt rels (f .section) k ≡ w % 2 ^ 32
+    site-word d =
+        stores-word l
+        (ap (λ (c : Change). c .write)
+        (branch-does b k _ _ _ _ _ ty
+        ∙ ap (λ (d : Traced). branchUnless d (branch (siteOf b k (entryAt rels k)) (entryAt rels k) (targetAt targets k) (wordAt rels section k))) d))
+
+    -- a symbol's probe becomes NOP, is-enabled "movz x0, #0"
+    pub probe-site : isSymbol (entryAt rels k) ≡ true → isProbe (targetAt targets k) ≡ true → decode (wordAt rels (f .section) k) ≡ form NOP
+    unfolding dtraceSiteInsn choose
+    probe-site s p = ap decode (site-word {w = nopWord} (rw (s, p))) ∙ nop-made
+
+    pub is-enabled-site : isSymbol (entryAt rels k) ≡ true → isProbe (targetAt targets k) ≡ false → isEnabled (targetAt targets k) ≡ true
+        → decode (wordAt rels (f .section) k) ≡ form (MOVZ 1 0 0 0)
+    unfolding dtraceSiteInsn choose
+    is-enabled-site s p e = ap decode (site-word {w = isEnabledWord} (rw (s, p, e))) ∙ is-enabled-made
+
+-- a GOT page with a helper becomes a B, to one of the site's own, or a BL
+helped : (s : Site) (e : Reloc) (t : Resolved) (word : ℕ) → hasHelper t ≡ true
+    → gotPage21 s e t word ≡ silent (Word (helperWord (helperIsOwn t) (diff (t .helper) (s .place))))
+unfolding gotPage21 choose
+helped s e t word h = rw h
+
+helper-lt : (own : Bool) (d : ℕ) → helperWord own d < 2 ^ 32
+unfolding helperWord
+helper-lt own d = chosen (λ (w : ℕ). w < 2 ^ 32) own _ _ (encode-lt (B (field d 2 26)) (omega arith)) (encode-lt (BL (field d 2 26)) (omega arith))
+
+module _ {section : List ℕ} {b : Bases} {rels targets slots : List ℕ} {f : Fixed} {k : ℕ} (l : Lone section b rels targets slots f k)
+    (ty : entryAt rels k .ty ≡ ARM64-RELOC-GOT-LOAD-PAGE21) (h : hasHelper (targetAt targets k) ≡ true)
+  where
+    helper-word : wordAt rels (f .section) k ≡ helperWord (helperIsOwn (targetAt targets k)) (diff (targetAt targets k .helper) (placeOf b (entryAt rels k)))
+    helper-word =
+        stores-word l (ap (λ (c : Change). c .write) (got-page-does b k _ _ _ _ _ ty ∙ helped _ _ _ _ h))
+        ∙ mod-eq-of-lt (helper-lt (helperIsOwn (targetAt targets k)) (diff (targetAt targets k .helper) (placeOf b (entryAt rels k))))
+
+    pub helper-own : helperIsOwn (targetAt targets k) ≡ true
+        → decode (wordAt rels (f .section) k) ≡ form (B (field (diff (targetAt targets k .helper) (placeOf b (entryAt rels k))) 2 26))
+    helper-own o =
+        ap decode (helper-word ∙ ap (λ (t : Bool). helperWord t (diff (targetAt targets k .helper) (placeOf b (entryAt rels k)))) o) ∙ helper-made _ .0
+
+    pub helper-shared : helperIsOwn (targetAt targets k) ≡ false
+        → decode (wordAt rels (f .section) k) ≡ form (BL (field (diff (targetAt targets k .helper) (placeOf b (entryAt rels k))) 2 26))
+    helper-shared o =
+        ap decode (helper-word ∙ ap (λ (t : Bool). helperWord t (diff (targetAt targets k .helper) (placeOf b (entryAt rels k)))) o) ∙ helper-made _ .1

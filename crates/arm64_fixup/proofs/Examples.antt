@@ -1,0 +1,70 @@
+-- Document 01's examples through the call: bench pieces 9 to 11, and the table "Turned-down input" for numbers 1 to 3, 5 and 8 to 11. Each is computed.
+use mathlib.Core.Path.{_≡_, refl}
+use mathlib.Core.List.{List, [], _∷_, _++_}
+use Prim.Native.Nat.{ℕ, _-_, _^_}
+use Rattle.util.specs.Choice.{choose}
+use Rattle.util.specs.Word.{le, put, bytes}
+use Rattle.util.specs.Wrap.{inRange}
+use Rattle.macho.specs.Types.{ARM64-RELOC-UNSIGNED, ARM64-RELOC-SUBTRACTOR, ARM64-RELOC-BRANCH26, ARM64-RELOC-PAGEOFF12}
+use Rattle.macho.specs.Types.{ARM64-RELOC-GOT-LOAD-PAGEOFF12, ARM64-RELOC-POINTER-TO-GOT, ARM64-RELOC-ADDEND}
+use Rattle.macho.specs.Record.{bytesOf}
+use Rattle.macho.specs.Reloc.{relocAt, relocBytes}
+use Rattle.macho.specs.Resolved.{resolvedAt, resolvedBytes, wellFormed}
+use Rattle.macho.specs.declared.reloc.Reloc.{Reloc}
+use Rattle.macho.specs.declared.resolved.Resolved.{Resolved}
+use Rattle.arm64_insn.specs.Branch.{branchReaches, branchWord}
+use Rattle.arm64_insn.specs.Fix.{scaleOf, offsetWith, relaxedWord}
+use Rattle.arm64_entry.specs.Target.{targetOf, widthOf}
+use Rattle.arm64_entry.specs.Check.{checkOf}
+use Rattle.arm64_entry.specs.Change.{branchTarget, dtraceSiteInsn, branch, pageoff12, relaxed, gotPageoff12, wordChange, changeOf}
+use Rattle.arm64_fixup.specs.Walk.{consumed, checkAt, checkTo, workAt, fixTo}
+use Rattle.arm64_fixup.specs.Answer.{checkLists, basesOf, Outcome, fixed, outcomeOf, answerOf, numberOf}
+
+-- an entry of a type, at an offset, with its target field; the other fields are zeros
+abbrev pub entry : ℕ → ℕ → ℕ → List ℕ
+entry ty offset target =
+    relocBytes
+    (record { offset = offset; ty = ty; size = 8; «is_pcrel» = 0; «is_subtracted» = 0; target = target; spare = 0; addend = 0 })
+
+-- a resolved target at an address, its branch target the same, with flags
+abbrev pub resolved : ℕ → ℕ → List ℕ
+resolved addr flags =
+    resolvedBytes (record { addr = addr; got = 0; branch = addr; thunk = 0; helper = 0; flags = flags; zero = 0 })
+
+-- the number of a call
+abbrev pub number : List ℕ → ℕ → List ℕ → List ℕ → List ℕ → ℕ
+number section base rels targets slots = numberOf (answerOf (outcomeOf section (basesOf base 0) rels targets slots))
+
+-- a call on one word at 0x1000 with one entry
+abbrev pub oneWord : ℕ → ℕ → ℕ → ℕ → Outcome
+oneWord word ty addr flags = outcomeOf (bytes 4 word) (basesOf 0x1000 0) (entry ty 0 0) (resolved addr flags) (bytes 24 0)
+
+-- a word with no report, and one with a report of alignment 8
+abbrev pub becomes : ℕ → Outcome
+becomes word = fixed (record { section = bytes 4 word; reports = [] })
+
+abbrev pub misaligned : ℕ → Outcome
+misaligned word = fixed (record { section = bytes 4 word; reports = record { entry = 0; kind = 3; size = 8; place = 0; target = 0 } ∷ [] })
+
+-- 9 with a target of 0x1238 and of 0x1234, 10, and 11 with a target that can be relaxed
+pub pieces : (oneWord 0xf9400000 ARM64-RELOC-PAGEOFF12 0x1238 4 ≡ becomes 0xf9411c00)
+    × (oneWord 0xf9400000 ARM64-RELOC-PAGEOFF12 0x1234 4 ≡ misaligned 0xf9400000)
+    × (oneWord 0x94000000 ARM64-RELOC-BRANCH26 0xffc 4 ≡ becomes 0x97ffffff)
+    × (oneWord 0xf9400000 ARM64-RELOC-GOT-LOAD-PAGEOFF12 0x1234 8 ≡ becomes 0x9108d000)
+unfolding relocBytes resolvedBytes bytesOf bytes outcomeOf checkLists checkTo checkAt checkOf consumed relocAt resolvedAt le wellFormed
+    widthOf fixTo workAt changeOf wordChange pageoff12 targetOf offsetWith scaleOf put choose branchTarget dtraceSiteInsn branch
+    branchReaches inRange branchWord gotPageoff12 relaxed relaxedWord
+pieces = (refl, refl, refl, refl)
+
+-- 7 bytes of entries; one entry with 23 bytes of slots; an 8-byte UNSIGNED at 4 of 8; a type of 10; one SUBTRACTOR;
+-- base 2^64 - 1 with offset 1; POINTER_TO_GOT with target bit 31; flags 0x200
+pub numbers : (number [] 0 (bytes 7 0) [] [] ≡ 1)
+    × (number (bytes 8 0) 0 (entry ARM64-RELOC-UNSIGNED 0 0) (resolved 0 0) (bytes 23 0) ≡ 2)
+    × (number (bytes 8 0) 0 (entry ARM64-RELOC-UNSIGNED 4 0) (resolved 0 0) (bytes 24 0) ≡ 3)
+    × (number (bytes 8 0) 0 (entry ARM64-RELOC-ADDEND 0 0) (resolved 0 0) (bytes 24 0) ≡ 5)
+    × (number (bytes 8 0) 0 (entry ARM64-RELOC-SUBTRACTOR 0 0) (resolved 0 0) (bytes 24 0) ≡ 8)
+    × (number (bytes 8 0) (2 ^ 64 - 1) (entry ARM64-RELOC-UNSIGNED 1 0) (resolved 0 0) (bytes 24 0) ≡ 9)
+    × (number (bytes 8 0) 0 (entry ARM64-RELOC-POINTER-TO-GOT 0 (2 ^ 31)) (resolved 0 0) (bytes 24 0) ≡ 10)
+    × (number (bytes 8 0) 0 (entry ARM64-RELOC-UNSIGNED 0 0) (resolved 0 0x200) (bytes 24 0) ≡ 11)
+unfolding relocBytes resolvedBytes bytesOf bytes outcomeOf checkLists checkTo checkAt checkOf consumed relocAt resolvedAt le wellFormed widthOf choose
+numbers = (refl, refl, refl, refl, refl, refl, refl, refl)

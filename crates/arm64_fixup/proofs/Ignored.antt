@@ -1,0 +1,210 @@
+-- What is ignored changes nothing: an entry's spare bytes and its pc-relative and subtracted marks, and of an entry that a SUBTRACTOR
+-- consumes everything but its addend and its target's address. Lists that agree in the rest have the same outcome.
+use mathlib.Core.Path.{_≡_, refl, sym, ap, ap₂, _∙_}
+use mathlib.Core.Bool.{Bool, true, false, _&&_, not}
+use mathlib.Core.List.{List}
+use mathlib.Core.Logic.{_⊎_, inl, inr, ⊎-elim}
+use Prim.Native.Nat.{ℕ, zero, suc, _+_, _*_, _/_, _≤_, _<_}
+use native.Mathlib.Omega.{arith}
+use borrow.Author.Tests.{ltb-true, ltb-false}
+use lib.Dec.{eqb, ltb, lit≤}
+use lib.ListN.{length, set, length-set}
+use lib.Seq.{getD-set-other}
+use Rattle.util.specs.Choice.{choose}
+use Rattle.util.specs.Word.{le}
+use Rattle.util.proofs.Word.{le-ext}
+use Rattle.macho.specs.Reloc.{relocAt}
+use Rattle.macho.specs.declared.reloc.Reloc.{Reloc}
+use Rattle.macho.specs.declared.resolved.Resolved.{Resolved}
+use Rattle.arm64_entry.specs.Target.{targetOf, slotOf, gotTarget, widthOf}
+use Rattle.arm64_entry.specs.Check.{subtracts, checkOf}
+use Rattle.arm64_entry.specs.Change.{unsignedValue, subtractorValue, difference, dtraceSiteInsn, branchTarget, thunkServes, branch, gotPage21}
+use Rattle.arm64_entry.specs.Change.{gotPageoff12, pointerToGot, wordChange, changeOf}
+use Rattle.arm64_fixup.specs.Walk.{entryAt, targetAt, entries, consumed, checkAt, first, checkTo, Fixed, changeAt, applied, workAt, fixTo}
+use Rattle.arm64_fixup.specs.Answer.{checkLists, Outcome, after, fixed, outcomeOf}
+use Rattle.arm64_entry.specs.declared.target.Bases.{Bases}
+use Rattle.arm64_entry.specs.declared.check.Checked.{Checked}
+use Rattle.arm64_entry.specs.declared.check.Checked.the-variants.{Fine, Refused}
+use Rattle.arm64_entry.specs.declared.change.Change.{Change}
+use Rattle.arm64_entry.proofs.Sound.{followed}
+use Rattle.arm64_fixup.proofs.Turns.{and-false, check-taken, check-worked, passes, work-worked, work-taken, fix-suc}
+
+-- an entry with zeros for its spare bytes and marks
+abbrev pub seen : Reloc → Reloc
+seen e =
+    record { offset = e .offset; ty = e .ty; size = e .size; «is_pcrel» = 0; «is_subtracted» = 0; target = e .target; spare = 0; addend = e .addend }
+
+check-seen : (len : ℕ) (b : Bases) (e : Reloc) (t : Resolved) (last : Bool) → checkOf len b (seen e) t last ≡ checkOf len b e t last
+unfolding checkOf widthOf
+check-seen len b e t last = refl
+
+-- what the work of an entry takes of the next one and its target
+abbrev addendOf : ℕ → Reloc
+addendOf a = record { offset = 0; ty = 0; size = 0; «is_pcrel» = 0; «is_subtracted» = 0; target = 0; spare = 0; addend = a }
+
+abbrev addressOf : ℕ → Resolved
+addressOf s = record { addr = s; got = 0; branch = 0; thunk = 0; helper = 0; flags = 0; zero = 0 }
+
+change-seen : (b : Bases) (i : ℕ) (e : Reloc) (t : Resolved) (next : Reloc) (nextTarget : Resolved) (word : ℕ)
+    → changeOf b i (seen e) t (addendOf (next .addend)) (addressOf (nextTarget .addr)) word ≡ changeOf b i e t next nextTarget word
+unfolding changeOf widthOf unsignedValue subtractorValue difference targetOf slotOf gotTarget wordChange
+    dtraceSiteInsn branchTarget thunkServes branch gotPage21 gotPageoff12 pointerToGot
+change-seen b i e t next nextTarget word = refl
+
+-- only a SUBTRACTOR takes anything of them
+indifferent : (b : Bases) (i : ℕ) (e : Reloc) (t : Resolved) (n₁ n₂ : Reloc) (t₁ t₂ : Resolved) (word : ℕ) → subtracts (e .ty) ≡ false
+    → changeOf b i e t n₁ t₁ word ≡ changeOf b i e t n₂ t₂ word
+unfolding changeOf choose
+indifferent b i e t n₁ n₂ t₁ t₂ word s = rw s
+
+-- lists that agree in what is not ignored
+pub record Agree (rels rels′ targets targets′ : List ℕ) : Type 0 where
+  pub length-rels : length rels ≡ length rels′
+  pub length-targets : length targets ≡ length targets′
+  pub worked : (i : ℕ) → i < entries rels → consumed rels i ≡ false
+      → (seen (entryAt rels i) ≡ seen (entryAt rels′ i)) × (targetAt targets i ≡ targetAt targets′ i)
+  pub taken : (i : ℕ) → i < entries rels → consumed rels i ≡ true
+      → (entryAt rels i .addend ≡ entryAt rels′ i .addend) × (targetAt targets i .addr ≡ targetAt targets′ i .addr)
+
+module _ (b : Bases) (rels rels′ targets targets′ : List ℕ) (agree : Agree rels rels′ targets targets′) where
+  same-count : entries rels ≡ entries rels′
+  same-count = ap (λ (n : ℕ). n / 24) (agree .length-rels)
+
+  consumed-next : (i : ℕ) → i < entries rels → consumed rels i ≡ consumed rels′ i → (t : Bool) → consumed rels i ≡ t
+      → (subtracts (entryAt rels i .ty) && not (consumed rels i)) ≡ (subtracts (entryAt rels′ i .ty) && not (consumed rels′ i))
+  consumed-next i l h true e = rw (sym h ∙ e, e) (and-false (subtracts (entryAt rels i .ty)) ∙ sym (and-false (subtracts (entryAt rels′ i .ty))))
+  consumed-next i l h false e = ap₂ (λ (x y : Bool). x && not y) (ap (λ (r : Reloc). subtracts (r .ty)) (agree .worked i l e .0)) h
+
+  same-consumed : (i : ℕ) → i ≤ entries rels → consumed rels i ≡ consumed rels′ i
+  unfolding consumed
+  same-consumed zero l = refl
+  same-consumed (suc i) l = consumed-next i l (same-consumed i (omega arith)) (consumed rels i) refl
+
+  -- the first walk
+  same-check-at : (len i : ℕ) → i < entries rels → (t : Bool) → consumed rels i ≡ t → checkAt len b rels targets i ≡ checkAt len b rels′ targets′ i
+  same-check-at len i l true e = check-taken len b rels targets i e ∙ sym (check-taken len b rels′ targets′ i (sym (same-consumed i (omega arith)) ∙ e))
+  same-check-at len i l false e =
+      let a = agree .worked i l e in
+      check-worked len b rels targets i e
+      ∙ sym (check-seen len b _ _ _)
+      ∙ ap (λ (r : Reloc). checkOf len b r (targetAt targets i) (eqb (i + 1) (entries rels))) (a .0)
+      ∙ ap (λ (t : Resolved). checkOf len b (seen (entryAt rels′ i)) t (eqb (i + 1) (entries rels))) (a .1)
+      ∙ ap (λ (n : ℕ). checkOf len b (seen (entryAt rels′ i)) (targetAt targets′ i) (eqb (i + 1) n)) same-count
+      ∙ check-seen len b _ _ _
+      ∙ sym (check-worked len b rels′ targets′ i (sym (same-consumed i (omega arith)) ∙ e))
+
+  same-check : (len k : ℕ) → k ≤ entries rels → checkTo len b rels targets k ≡ checkTo len b rels′ targets′ k
+  unfolding checkTo
+  same-check len zero l = refl
+  same-check len (suc i) l = ap₂ first (same-check len i (omega arith)) (same-check-at len i l (consumed rels i) refl)
+
+  -- the second walk
+  same-next : (i : ℕ) → i < entries rels → (t : Bool) → consumed rels i ≡ t
+      → (entryAt rels i .addend ≡ entryAt rels′ i .addend) × (targetAt targets i .addr ≡ targetAt targets′ i .addr)
+  same-next i l true e = agree .taken i l e
+  same-next i l false e =
+      let a = agree .worked i l e in
+      (ap (λ (r : Reloc). r .addend) (a .0), ap (λ (t : Resolved). t .addr) (a .1))
+
+  module _ (len : ℕ) (fine : checkTo len b rels targets (entries rels) ≡ Fine) where
+    module _ (i : ℕ) (l : i < entries rels) (free : consumed rels i ≡ false) (s : List ℕ) where
+      -- the entry's own fields
+      same-own : (next : Reloc) (nextTarget : Resolved)
+          → changeOf b i (entryAt rels i) (targetAt targets i) next nextTarget (le 4 s (entryAt rels i .offset))
+          ≡ changeOf b i (entryAt rels′ i) (targetAt targets′ i) next nextTarget (le 4 s (entryAt rels′ i .offset))
+      same-own next nextTarget =
+          sym (change-seen b i (entryAt rels i) (targetAt targets i) next nextTarget _)
+          ∙ ap₂ (λ (r : Reloc) (t : Resolved). changeOf b i r t (addendOf (next .addend)) (addressOf (nextTarget .addr)) (le 4 s (r .offset)))
+          (agree .worked i l free .0) (agree .worked i l free .1)
+          ∙ change-seen b i (entryAt rels′ i) (targetAt targets′ i) next nextTarget _
+
+      -- what it takes of the next entry
+      same-other : (word : ℕ) (t : Bool) → subtracts (entryAt rels′ i .ty) ≡ t
+          → changeOf b i (entryAt rels′ i) (targetAt targets′ i) (entryAt rels (i + 1)) (targetAt targets (i + 1)) word
+          ≡ changeOf b i (entryAt rels′ i) (targetAt targets′ i) (entryAt rels′ (i + 1)) (targetAt targets′ (i + 1)) word
+      same-other word false e = indifferent b i _ _ _ _ _ _ word e
+      same-other word true e =
+          let own = ap (λ (r : Reloc). subtracts (r .ty)) (agree .worked i l free .0) ∙ e in
+          let checked = sym (check-worked len b rels targets i free) ∙ passes len b rels targets (entries rels) i fine l in
+          let n = same-next (i + 1) (followed len b _ _ i (entries rels) checked own l) (consumed rels (i + 1)) refl in
+          sym (change-seen b i _ _ (entryAt rels (i + 1)) (targetAt targets (i + 1)) word)
+          ∙ ap₂ (λ (a s : ℕ). changeOf b i (seen (entryAt rels′ i)) (targetAt targets′ i) (addendOf a) (addressOf s) word) (n .0) (n .1)
+          ∙ change-seen b i _ _ (entryAt rels′ (i + 1)) (targetAt targets′ (i + 1)) word
+
+      same-change : changeAt b rels targets s i ≡ changeAt b rels′ targets′ s i
+      same-change = same-own _ _ ∙ same-other _ _ refl
+
+    same-work-at : (f : Fixed) (i : ℕ) → i < entries rels → (t : Bool) → consumed rels i ≡ t → workAt b rels targets f i ≡ workAt b rels′ targets′ f i
+    same-work-at f i l true e = work-taken b rels targets f i e ∙ sym (work-taken b rels′ targets′ f i (sym (same-consumed i (omega arith)) ∙ e))
+    same-work-at f i l false e =
+        work-worked b rels targets f i e
+        ∙ ap₂ (λ (r : Reloc) (c : Change). applied f (r .offset) c) (agree .worked i l e .0) (same-change i l e (f .section))
+        ∙ sym (work-worked b rels′ targets′ f i (sym (same-consumed i (omega arith)) ∙ e))
+
+    same-work : (section : List ℕ) (k : ℕ) → k ≤ entries rels → fixTo b rels targets section k ≡ fixTo b rels′ targets′ section k
+    unfolding fixTo
+    same-work section zero l = refl
+    same-work section (suc i) l =
+        same-work-at (fixTo b rels targets section i) i l (consumed rels i) refl
+        ∙ ap (λ (f : Fixed). workAt b rels′ targets′ f i) (same-work section i (omega arith))
+
+  -- the whole call
+  pub ignored : (section slots : List ℕ) → outcomeOf section b rels targets slots ≡ outcomeOf section b rels′ targets′ slots
+  unfolding outcomeOf
+  ignored section slots = go (checkTo (length section) b rels targets (entries rels)) refl
+    where
+      lists-same : checkLists (length rels) (length targets) (length slots) ≡ checkLists (length rels′) (length targets′) (length slots)
+      lists-same = ap₂ (λ (m n : ℕ). checkLists m n (length slots)) (agree .length-rels) (agree .length-targets)
+
+      checks-same : checkTo (length section) b rels targets (entries rels) ≡ checkTo (length section) b rels′ targets′ (entries rels′)
+      checks-same = same-check (length section) (entries rels) (omega arith) ∙ ap (λ (n : ℕ). checkTo (length section) b rels′ targets′ n) same-count
+
+      go : (c : Checked) → checkTo (length section) b rels targets (entries rels) ≡ c
+          → outcomeOf section b rels targets slots ≡ outcomeOf section b rels′ targets′ slots
+      go (Refused r) e = ap₂ after lists-same (rw (e, sym checks-same ∙ e))
+      go Fine e =
+          ap₂ after lists-same
+          (rw (e, sym checks-same ∙ e)
+          (ap fixed
+          (same-work (length section) e section (entries rels) (omega arith) ∙ ap (λ (n : ℕ). fixTo b rels′ targets′ section n) same-count)))
+
+-- ---- the spare bytes of one entry
+
+-- a byte stored elsewhere
+le-set : (n : ℕ) (s : List ℕ) (at p v : ℕ) → (p < at) ⊎ (at + n ≤ p) → le n (set s p v) at ≡ le n s at
+le-set n s at p v h = le-ext n (set s p v) s at at (λ j l. getD-set-other s p (at + j) v 0 (λ e. ⊎-elim (λ w. omega arith) (λ w. omega arith) h))
+
+-- spare byte j of entry i is in no other field of any entry
+elsewhere : (i j k off n : ℕ) → j < 4 → (off + n ≤ 12) ⊎ ((16 ≤ off) × (off + n ≤ 24))
+    → (24 * i + 12 + j < 24 * k + off) ⊎ (24 * k + off + n ≤ 24 * i + 12 + j)
+elsewhere i j k off n l h = go (ltb k i) (ltb i k) refl refl
+  where
+    go : (x y : Bool) → ltb k i ≡ x → ltb i k ≡ y → (24 * i + 12 + j < 24 * k + off) ⊎ (24 * k + off + n ≤ 24 * i + 12 + j)
+    go true y e d = inr (⊎-elim (λ w. omega (arith, ltb-true k i e)) (λ w. omega (arith, ltb-true k i e)) h)
+    go false true e d = inl (omega (arith, ltb-true i k d))
+    go false false e d =
+        ⊎-elim (λ w. inr (omega (arith, ltb-false k i e, ltb-false i k d))) (λ w. inl (omega (arith, ltb-false k i e, ltb-false i k d))) h
+
+seen-set : (rels : List ℕ) (i j v k : ℕ) → j < 4 → seen (entryAt (set rels (24 * i + 12 + j) v) k) ≡ seen (entryAt rels k)
+unfolding relocAt
+seen-set rels i j v k l =
+    let p : ℕ = 24 * i + 12 + j in
+    let at : (n off : ℕ) → (off + n ≤ 12) ⊎ ((16 ≤ off) × (off + n ≤ 24)) → le n (set rels p v) (24 * k + off) ≡ le n rels (24 * k + off) =
+    λ n off h. le-set n rels (24 * k + off) p v (elsewhere i j k off n l h) in
+    let zero-off : 24 * k ≡ 24 * k + 0 = omega arith in
+    let o : le 4 (set rels p v) (24 * k) ≡ le 4 rels (24 * k) = rw zero-off (at 4 0 (inl (lit≤ tt))) in
+    rw (o, at 1 4 (inl (lit≤ tt)), at 1 5 (inl (lit≤ tt)), at 4 8 (inl (lit≤ tt)), at 8 16 (inr (lit≤ tt, lit≤ tt)))
+
+-- whatever they hold
+pub spare-bytes : (section : List ℕ) (b : Bases) (rels targets slots : List ℕ) (i j v : ℕ) → j < 4
+    → outcomeOf section b rels targets slots ≡ outcomeOf section b (set rels (24 * i + 12 + j) v) targets slots
+spare-bytes section b rels targets slots i j v l =
+    ignored b rels (set rels (24 * i + 12 + j) v) targets targets
+    (record {
+      length-rels = simp length-set;
+      length-targets = refl;
+      worked = λ k _ _. (sym (seen-set rels i j v k l), refl);
+      taken = λ k _ _. (ap (λ (r : Reloc). r .addend) (sym (seen-set rels i j v k l)), refl);
+    })
+    section
+    slots

@@ -1,0 +1,61 @@
+-- What stands at the place of an entry whose bytes no other entry touches: what its change on the lent bytes stores.
+use mathlib.Core.Path.{_≡_, refl, sym, ap, _∙_}
+use mathlib.Core.List.{List}
+use Prim.Native.Nat.{ℕ, _+_, _%_, _^_, _≤_, _<_}
+use native.Mathlib.Omega.{arith}
+use lib.Dec.{eqb}
+use lib.ListN.{length}
+use Rattle.util.specs.Word.{le}
+use Rattle.util.proofs.Word.{le-put}
+use Rattle.arm64_entry.specs.Target.{widthOf}
+use Rattle.arm64_entry.specs.Change.{bytesIn}
+use Rattle.arm64_fixup.specs.Walk.{entryAt, targetAt, entries, stored, Fixed, changeAt}
+use Rattle.arm64_fixup.specs.Footprint.{offsetAt, widthAt, Lone, wordAt, pointerAt}
+use Rattle.arm64_entry.specs.declared.target.Bases.{Bases}
+use Rattle.arm64_entry.specs.declared.change.Write.{Write}
+use Rattle.arm64_entry.specs.declared.change.Write.the-variants.{Nothing, Word, Pointer}
+use Rattle.arm64_entry.proofs.Sound.{Sound, sound}
+use Rattle.arm64_entry.proofs.Width.{change-fits}
+use Rattle.arm64_fixup.proofs.Works.{fine-at}
+use Rattle.arm64_fixup.proofs.Whole.{accepts}
+use Rattle.arm64_fixup.proofs.Bytewise.{worked-width}
+use Rattle.arm64_fixup.proofs.Footprint.{only-word}
+
+module _ {section : List ℕ} {b : Bases} {rels targets slots : List ℕ} {f : Fixed} {k : ℕ} (l : Lone section b rels targets slots f k) where
+  -- the entry passed its check
+  pub passed : Sound (length section) b (entryAt rels k) (targetAt targets k) (eqb (k + 1) (entries rels))
+  passed =
+      sound (length section) b (entryAt rels k) (targetAt targets k) (eqb (k + 1) (entries rels))
+      (fine-at b rels targets section k (l .worked) (accepts section b rels targets slots (l .accepted) .fine) (l .listed) refl refl refl)
+
+  -- the bytes of its width at its place
+  pub stands : (n : ℕ) → n ≤ widthAt rels targets k
+      → (offsetAt rels k + n ≤ length section)
+      × (le n (f .section) (offsetAt rels k) ≡ le n (stored section (offsetAt rels k) (changeAt b rels targets section k .write)) (offsetAt rels k))
+  stands n h =
+      let s = passed in
+      (omega (arith, worked-width rels targets k (l .worked)), only-word section b rels targets slots (l .accepted) k (l .listed) (l .alone) n h)
+
+  -- a change stores no more than the width
+  wide-enough : (n : ℕ) → bytesIn (changeAt b rels targets section k .write) ≡ n → n ≤ widthAt rels targets k
+  wide-enough n h =
+      rw (← h, worked-width rels targets k (l .worked))
+      (change-fits b k (entryAt rels k) (targetAt targets k) (entryAt rels (k + 1)) (targetAt targets (k + 1)) (wordAt rels section k))
+
+  -- the word, or the pointer, that it stores
+  pub stores-word : {v : ℕ} → changeAt b rels targets section k .write ≡ Word v → wordAt rels (f .section) k ≡ v % 2 ^ 32
+  stores-word {v} h =
+      let w = stands 4 (wide-enough 4 (ap bytesIn h)) in
+      w .1 ∙ ap (λ (x : Write). le 4 (stored section (offsetAt rels k) x) (offsetAt rels k)) h ∙ le-put 4 section (offsetAt rels k) v (w .0)
+
+  pub stores-pointer : {v : ℕ} → changeAt b rels targets section k .write ≡ Pointer v → pointerAt rels (f .section) k ≡ v % 2 ^ 64
+  stores-pointer {v} h =
+      let w = stands 8 (wide-enough 8 (ap bytesIn h)) in
+      w .1 ∙ ap (λ (x : Write). le 8 (stored section (offsetAt rels k) x) (offsetAt rels k)) h ∙ le-put 8 section (offsetAt rels k) v (w .0)
+
+  -- the word that it leaves
+  pub leaves-word : 4 ≤ widthOf (entryAt rels k) (targetAt targets k) → changeAt b rels targets section k .write ≡ Nothing
+      → wordAt rels (f .section) k ≡ wordAt rels section k
+  leaves-word n h =
+      stands 4 (rw (worked-width rels targets k (l .worked)) n) .1
+      ∙ ap (λ (x : Write). le 4 (stored section (offsetAt rels k) x) (offsetAt rels k)) h

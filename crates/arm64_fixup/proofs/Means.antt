@@ -1,0 +1,228 @@
+-- What the fixed words mean, from the manual's definitions: for entry k of any accepted list that no SUBTRACTOR consumes and whose bytes
+-- no other entry touches. The words are those of arm64_insn's `Encodes`, their targets those of its `Meaning`.
+use mathlib.Core.Path.{_≡_, refl, sym, ap, _∙_}
+use mathlib.Core.Bool.{Bool, true, false}
+use mathlib.Core.List.{List}
+use mathlib.Core.Logic.{_⊎_, inl, inr, ⊎-elim}
+use Prim.Native.Nat.{ℕ, _+_, _*_, _/_, _%_, _^_, _≤_, _<_}
+use native.Mathlib.Omega.{arith}
+use native.Mathlib.Nat.{mod-eq-of-lt, div-le-self}
+use borrow.Author.Tests.{eq-eqb, ne-eqb}
+use lib.Dec.{eqb, lit<, lit≤}
+use Rattle.util.specs.Choice.{choose}
+use Rattle.util.specs.Bits.{field}
+use Rattle.util.specs.Wrap.{sum, diff}
+use Rattle.util.proofs.Choice.{chosen, choose-true, choose-false}
+use Rattle.util.proofs.Word.{le-lt}
+use Rattle.macho.specs.Types.{ARM64-RELOC-BRANCH26, ARM64-RELOC-GOT-LOAD-PAGE21}
+use Rattle.macho.specs.Resolved.{canRelaxGot, hasHelper, helperIsOwn}
+use Rattle.macho.specs.declared.reloc.Reloc.{Reloc}
+use Rattle.macho.specs.declared.resolved.Resolved.{Resolved}
+use Rattle.arm64_insn.specs.Manual.{ADRP, ADD, LDST, B, BL, InRange, encode, form, decode, rdIn, rnIn}
+use Rattle.arm64_insn.specs.LoadStoreTable.{rowOf, movedBy}
+use Rattle.arm64_insn.specs.ManualTargets as M
+use Rattle.arm64_insn.specs.Page.{pageOf, adrpPage}
+use Rattle.arm64_insn.specs.Reach.{pageImm, pageOffset, adrpReaches}
+use Rattle.arm64_insn.specs.Branch.{branchReaches, branchWord, helperWord}
+use Rattle.arm64_insn.specs.Fix.{adrpWith, scaleOf, offsetWith, relaxedWord}
+use Rattle.arm64_insn.specs.declared.fix.Fit.the-variants as Fit
+use Rattle.arm64_insn.proofs.Encodes.{adrp-patched, add-patched, load-store-patched, b-patched, bl-patched, helper-made, relaxed-made}
+use Rattle.arm64_insn.proofs.Meaning.{adrp-means, add-means, access-means, branch-means}
+use Rattle.arm64_insn.proofs.Manual.{decode-encode, decode-in-range, encode-lt}
+use Rattle.arm64_entry.specs.Target.{placeOf, targetOf, slotOf, gotTarget, widthOf}
+use Rattle.arm64_entry.specs.Change.{branchTarget, thunkServes, dtraceSiteInsn, branch, branchUnless, page21, fitted, pageoff12, gotPage21}
+use Rattle.arm64_entry.specs.Change.{canRelax, relaxed, gotPageoff12, changeOf}
+use Rattle.arm64_fixup.specs.Walk.{entryAt, targetAt, Fixed, changeAt}
+use Rattle.arm64_fixup.specs.Footprint.{Lone, wordAt, Octets}
+use Rattle.arm64_entry.specs.Roles.{Page, page, got-page, tlv-page, GotOffset, Offset, offset, got-offset, Relaxed}
+use Rattle.arm64_entry.specs.declared.target.Bases.{Bases}
+use Rattle.arm64_entry.specs.declared.change.Site.{Site}
+use Rattle.arm64_entry.specs.declared.change.Change.{Change}
+use Rattle.arm64_entry.specs.declared.change.Write.the-variants.{Nothing, Word}
+use Rattle.arm64_entry.specs.declared.change.Traced.the-variants.{Untraced}
+use Rattle.arm64_entry.proofs.ByType.{siteOf, page-does-it, got-offset-does-it, offset-does-it}
+use Rattle.arm64_fixup.proofs.Lone.{passed, stores-word, leaves-word}
+
+-- ---- pages
+
+-- whatever the reach, the word is written
+page-write : (s : Site) (target word : ℕ) → page21 s target word .write ≡ Word (adrpWith word target (s .place))
+unfolding page21
+page-write s target word = chosen (λ (c : Change). c .write ≡ Word (adrpWith word target (s .place))) (adrpReaches target (s .place)) _ _ refl refl
+
+target-lt : (e : Reloc) (t : Resolved) → targetOf e t < 2 ^ 64
+unfolding targetOf
+target-lt e t = omega arith
+
+got-lt : (e : Reloc) (t : Resolved) → gotTarget e t < 2 ^ 64
+unfolding gotTarget slotOf
+got-lt e t = chosen (λ (n : ℕ). n < 2 ^ 64) (canRelaxGot t) _ _ (target-lt e t) (omega arith)
+
+page-lt : (e : Reloc) (t : Resolved) {target : ℕ} → Page e t target → target < 2 ^ 64
+page-lt e t (page h a) = target-lt e t
+page-lt e t (got-page h n) = got-lt e t
+page-lt e t (tlv-page h) = got-lt e t
+
+-- a patched word is a word
+adrp-with-lt : (w hi lo : ℕ) → adrpWith w hi lo < 2 ^ 32
+unfolding adrpWith pageOffset pageImm
+adrp-with-lt w hi lo = omega arith
+
+module _ {section : List ℕ} {b : Bases} {rels targets slots : List ℕ} {f : Fixed} {k : ℕ} (l : Lone section b rels targets slots f k) where
+  -- any word: bit 31, bits 28..24 and bits 4..0 stay, the others are the immediate
+  pub page-word : {target : ℕ} → Page (entryAt rels k) (targetAt targets k) target
+      → wordAt rels (f .section) k ≡ adrpWith (wordAt rels section k) target (placeOf b (entryAt rels k))
+  page-word {target} r =
+      stores-word l (ap (λ (c : Change). c .write) (page-does-it b k _ _ _ _ _ r) ∙ page-write _ target (wordAt rels section k))
+      ∙ mod-eq-of-lt (adrp-with-lt (wordAt rels section k) target (placeOf b (entryAt rels k)))
+
+  -- an ADRP is one of the old register; in reach, it makes the target's page
+  pub page-means : Octets section → {target : ℕ} → Page (entryAt rels k) (targetAt targets k) target
+      → (rd imm : ℕ) → decode (wordAt rels section k) ≡ form (ADRP rd imm)
+      → adrpReaches target (placeOf b (entryAt rels k)) ≡ true
+      → (decode (wordAt rels (f .section) k) ≡ form (ADRP rd (pageImm target (placeOf b (entryAt rels k)))))
+      × (adrpPage (pageImm target (placeOf b (entryAt rels k))) (placeOf b (entryAt rels k)) ≡ pageOf target)
+  page-means o {target} r rd imm d near = (
+    ap decode (page-word r) ∙ adrp-patched _ rd imm target _ (le-lt 4 section _ o) d,
+    adrp-means target _ (page-lt _ _ r) (passed l .place) near,
+  )
+
+-- ---- page offsets
+
+-- the width of a page offset's word
+got-offset-width : (e : Reloc) (t : Resolved) → GotOffset e → 4 ≤ widthOf e t
+unfolding widthOf choose
+got-offset-width e t = ⊎-elim (λ h. rw h (lit≤ tt)) (λ h. rw h (lit≤ tt))
+
+offset-width : (e : Reloc) (t : Resolved) {target : ℕ} → Offset e t target → 4 ≤ widthOf e t
+unfolding widthOf choose
+offset-width e t (offset h a) = rw (h, a) (lit≤ tt)
+offset-width e t (got-offset g n) = got-offset-width e t g
+
+module _ {section : List ℕ} {b : Bases} {rels targets slots : List ℕ} {f : Fixed} {k : ℕ} (l : Lone section b rels targets slots f k) where
+  module _ {target : ℕ} (r : Offset (entryAt rels k) (targetAt targets k) target) where
+    fits : {w : ℕ} → offsetWith (wordAt rels section k) target ≡ Fit.Word w → wordAt rels (f .section) k ≡ w % 2 ^ 32
+    fits e = stores-word l (ap (λ (c : Change). c .write) (offset-does-it b k _ _ _ _ _ r ∙ ap (fitted (siteOf b k (entryAt rels k))) e))
+
+    stays : {n : ℕ} → offsetWith (wordAt rels section k) target ≡ Fit.Misaligned n → wordAt rels (f .section) k ≡ wordAt rels section k
+    stays e =
+        leaves-word l (offset-width _ _ r)
+        (ap (λ (c : Change). c .write) (offset-does-it b k _ _ _ _ _ r ∙ ap (fitted (siteOf b k (entryAt rels k))) e))
+
+    -- an ADD is the old one with the target's low 12 bits
+    pub offset-add : (sf sh rd rn imm12 : ℕ) → decode (wordAt rels section k) ≡ form (ADD sf sh rd rn imm12)
+        → decode (wordAt rels (f .section) k) ≡ form (ADD sf sh rd rn (field target 0 12))
+    offset-add sf sh rd rn imm12 d =
+        let i = decode-in-range _ (ADD sf sh rd rn imm12) d in
+        let j : InRange (ADD sf sh rd rn (field target 0 12)) = (i .0, i .1, i .2, i .3, omega arith) in
+        ap decode (fits (add-patched _ sf sh rd rn imm12 target d) ∙ mod-eq-of-lt (encode-lt (ADD sf sh rd rn (field target 0 12)) j))
+        ∙ decode-encode (ADD sf sh rd rn (field target 0 12)) j
+
+    module _ (size v opc rt rn imm12 : ℕ) (d : decode (wordAt rels section k) ≡ form (LDST size v opc rt rn imm12)) where
+      -- a load or store is the old one with the target's low 12 bits in its unit
+      pub offset-access : target % movedBy (rowOf size v opc) ≡ 0
+          → decode (wordAt rels (f .section) k) ≡ form (LDST size v opc rt rn (target % 2 ^ 12 / movedBy (rowOf size v opc)))
+      offset-access h =
+          let i = decode-in-range _ (LDST size v opc rt rn imm12) d in
+          let q = div-le-self (target % 2 ^ 12) (movedBy (rowOf size v opc)) in
+          let j : InRange (LDST size v opc rt rn (target % 2 ^ 12 / movedBy (rowOf size v opc))) = (i .0, i .1, i .2, i .3, i .4, omega arith, i .6) in
+          ap decode
+          (fits (load-store-patched _ size v opc rt rn imm12 target d ∙ choose-true _ _ _ (eq-eqb _ _ h))
+          ∙ mod-eq-of-lt (encode-lt (LDST size v opc rt rn (target % 2 ^ 12 / movedBy (rowOf size v opc))) j))
+          ∙ decode-encode (LDST size v opc rt rn (target % 2 ^ 12 / movedBy (rowOf size v opc))) j
+
+      -- where its size does not divide the target, it stays
+      pub offset-misaligned : (target % movedBy (rowOf size v opc) ≡ 0 → ⊥) → wordAt rels (f .section) k ≡ wordAt rels section k
+      offset-misaligned h = stays (load-store-patched _ size v opc rt rn imm12 target d ∙ choose-false _ _ _ (ne-eqb _ _ h))
+
+    -- any word: bits 31..22 and 9..0 stay, bits 21..10 are the page offset in the word's scale; or all of it stays
+    pub offset-word : target % 2 ^ scaleOf (wordAt rels section k) ≡ 0
+        → wordAt rels (f .section) k
+        ≡ field (wordAt rels section k) 22 10 * 2 ^ 22 + target % 2 ^ 12 / 2 ^ scaleOf (wordAt rels section k) * 2 ^ 10 + field (wordAt rels section k) 0 10
+    unfolding offsetWith
+    offset-word h =
+        let q = div-le-self (target % 2 ^ 12) (2 ^ scaleOf (wordAt rels section k)) in
+        fits (choose-true _ _ _ (eq-eqb _ _ h)) ∙ mod-eq-of-lt (omega arith)
+
+    pub offset-kept : (target % 2 ^ scaleOf (wordAt rels section k) ≡ 0 → ⊥) → wordAt rels (f .section) k ≡ wordAt rels section k
+    unfolding offsetWith
+    offset-kept h = stays (choose-false _ _ _ (ne-eqb _ _ h))
+
+-- ---- relaxed page offsets
+
+relaxes-it : (s : Site) (e : Reloc) (t : Resolved) (word : ℕ) → canRelaxGot t ≡ true → gotPageoff12 s e t word ≡ relaxed s (e .ty) (targetOf e t) word
+unfolding gotPageoff12 choose
+relaxes-it s e t word h = rw h
+
+module _ {section : List ℕ} {b : Bases} {rels targets slots : List ℕ} {f : Fixed} {k : ℕ} (l : Lone section b rels targets slots f k)
+    (r : Relaxed (entryAt rels k) (targetAt targets k))
+  where
+    does : changeAt b rels targets section k
+        ≡ relaxed (siteOf b k (entryAt rels k)) (entryAt rels k .ty) (targetOf (entryAt rels k) (targetAt targets k)) (wordAt rels section k)
+    does = got-offset-does-it b k _ _ _ _ _ (r .type) ∙ relaxes-it _ _ _ _ (r .relaxes)
+
+    -- an LDR, for GOT also a 64-bit ADD, becomes the 64-bit ADD of its registers and the low 12 bits of S + A
+    pub relaxed-means : canRelax (entryAt rels k .ty) (wordAt rels section k) ≡ true
+        → decode (wordAt rels (f .section) k)
+        ≡ form (ADD 1 0 (rdIn (wordAt rels section k)) (rnIn (wordAt rels section k)) (field (targetOf (entryAt rels k) (targetAt targets k)) 0 12))
+    unfolding relaxed relaxedWord
+    relaxed-means h =
+        let target = targetOf (entryAt rels k) (targetAt targets k) in
+        let w = wordAt rels section k in
+        let j : InRange (ADD 1 0 (rdIn w) (rnIn w) (field target 0 12)) = (lit< tt, lit< tt, omega arith, omega arith, omega arith) in
+        ap decode
+        (stores-word l (ap (λ (c : Change). c .write) (does ∙ choose-true _ _ _ h))
+        ∙ mod-eq-of-lt (encode-lt (ADD 1 0 (rdIn w) (rnIn w) (field target 0 12)) j))
+        ∙ relaxed-made w target
+
+    -- any other word stays
+    pub relaxed-kept : canRelax (entryAt rels k .ty) (wordAt rels section k) ≡ false → wordAt rels (f .section) k ≡ wordAt rels section k
+    unfolding relaxed
+    relaxed-kept h =
+        leaves-word l (got-offset-width _ _ (r .type)) (ap (λ (c : Change). c .write) (does ∙ choose-false _ _ _ h))
+
+-- ---- page and page offset together
+
+module _ {section : List ℕ} {b : Bases} {rels targets slots : List ℕ} {f : Fixed} {k m : ℕ} (octets : Octets section)
+    (l : Lone section b rels targets slots f k) (l′ : Lone section b rels targets slots f m)
+    {target : ℕ} (r : Page (entryAt rels k) (targetAt targets k) target) (near : adrpReaches target (placeOf b (entryAt rels k)) ≡ true)
+    (rd imm : ℕ) (d : decode (wordAt rels section k) ≡ form (ADRP rd imm))
+  where
+    -- ADRP and an unshifted ADD of 64 bits make the target
+    pub adrp-add : Offset (entryAt rels m) (targetAt targets m) target
+        → (rd′ rn imm12 : ℕ) → decode (wordAt rels section m) ≡ form (ADD 1 0 rd′ rn imm12)
+        → (decode (wordAt rels (f .section) k) ≡ form (ADRP rd (pageImm target (placeOf b (entryAt rels k)))))
+        × (decode (wordAt rels (f .section) m) ≡ form (ADD 1 0 rd′ rn (field target 0 12)))
+        × (M.addValue 1 0 (adrpPage (pageImm target (placeOf b (entryAt rels k))) (placeOf b (entryAt rels k))) (field target 0 12) ≡ target)
+    adrp-add r′ rd′ rn imm12 d′ = (
+      page-means l octets r rd imm d near .0,
+      offset-add l′ r′ 1 0 rd′ rn imm12 d′,
+      add-means target (placeOf b (entryAt rels k)) (page-lt _ _ r) (passed l .place) near,
+    )
+
+    -- and so do ADRP and a relaxed load
+    pub adrp-relaxed : Relaxed (entryAt rels m) (targetAt targets m) → targetOf (entryAt rels m) (targetAt targets m) ≡ target
+        → canRelax (entryAt rels m .ty) (wordAt rels section m) ≡ true
+        → (decode (wordAt rels (f .section) k) ≡ form (ADRP rd (pageImm target (placeOf b (entryAt rels k)))))
+        × (decode (wordAt rels (f .section) m) ≡ form (ADD 1 0 (rdIn (wordAt rels section m)) (rnIn (wordAt rels section m)) (field target 0 12)))
+        × (M.addValue 1 0 (adrpPage (pageImm target (placeOf b (entryAt rels k))) (placeOf b (entryAt rels k))) (field target 0 12) ≡ target)
+    adrp-relaxed r′ same h = (
+      page-means l octets r rd imm d near .0,
+      relaxed-means l′ r′ h
+          ∙ ap (λ (t : ℕ). form (ADD 1 0 (rdIn (wordAt rels section m)) (rnIn (wordAt rels section m)) (field t 0 12))) same,
+      add-means target (placeOf b (entryAt rels k)) (page-lt _ _ r) (passed l .place) near,
+    )
+
+    -- ADRP and a load or store, whose size divides the target, access it
+    pub adrp-access : Offset (entryAt rels m) (targetAt targets m) target
+        → (size v opc rt rn imm12 : ℕ) → decode (wordAt rels section m) ≡ form (LDST size v opc rt rn imm12) → target % movedBy (rowOf size v opc) ≡ 0
+        → (decode (wordAt rels (f .section) k) ≡ form (ADRP rd (pageImm target (placeOf b (entryAt rels k)))))
+        × (decode (wordAt rels (f .section) m) ≡ form (LDST size v opc rt rn (target % 2 ^ 12 / movedBy (rowOf size v opc))))
+        × (M.accessAddress (rowOf size v opc) (adrpPage (pageImm target (placeOf b (entryAt rels k))) (placeOf b (entryAt rels k)))
+        (target % 2 ^ 12 / movedBy (rowOf size v opc))
+        ≡ target)
+    adrp-access r′ size v opc rt rn imm12 d′ h = (
+      page-means l octets r rd imm d near .0,
+      offset-access l′ r′ size v opc rt rn imm12 d′ h,
+      access-means target (placeOf b (entryAt rels k)) (page-lt _ _ r) (passed l .place) _ size v opc rt rn imm12 d′ near h,
+    )

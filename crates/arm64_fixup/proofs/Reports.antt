@@ -1,0 +1,149 @@
+-- What the reports say: each report of an entry carries its number; what entry k tells stands in the list; so an entry with no report in the
+-- list was in reach.
+use mathlib.Core.Path.{_≡_, refl, sym, ap, _∙_, subst}
+use mathlib.Core.Bool.{Bool, true, false}
+use mathlib.Core.List.{List, [], _∷_, _++_, List·Memᴰ, List·Memᴰ·head, Memᴰ·append-left, Memᴰ·append-right}
+use mathlib.Core.Logic.{_⊎_, inl, inr, ⊎-elim}
+use Prim.Native.Nat.{ℕ, zero, suc, _+_, _-_, _≤_, _<_}
+use native.Mathlib.Omega.{arith}
+use borrow.Author.Tests.{eqb-false}
+use lib.Dec.{eqb}
+use Rattle.util.specs.Choice.{choose}
+use Rattle.util.proofs.Choice.{split, chosen, choose-false}
+use Rattle.macho.specs.Types.{ARM64-RELOC-BRANCH26}
+use Rattle.macho.specs.declared.reloc.Reloc.{Reloc}
+use Rattle.macho.specs.declared.resolved.Resolved.{Resolved}
+use Rattle.macho.specs.declared.report.Report as R
+use Rattle.arm64_insn.specs.Reach.{adrpReaches}
+use Rattle.arm64_insn.specs.Branch.{branchReaches}
+use Rattle.arm64_entry.specs.Target.{placeOf, widthOf}
+use Rattle.arm64_entry.specs.Change.{silent, branchTarget, thunkServes, dtraceSiteInsn, branch, page21, difference, changeOf}
+use Rattle.arm64_fixup.specs.Walk.{entryAt, targetAt, entries, consumed, reportsOf, Fixed, changeAt, applied, workAt, fixTo}
+use Rattle.arm64_fixup.specs.Footprint.{widthAt, Lone, wordAt}
+use Rattle.arm64_entry.specs.Roles.{Page}
+use Rattle.arm64_entry.specs.declared.target.Bases.{Bases}
+use Rattle.arm64_entry.specs.declared.change.Site.{Site}
+use Rattle.arm64_entry.specs.declared.change.Traced.the-variants.{Untraced}
+use Rattle.arm64_entry.specs.declared.change.Write.{Write}
+use Rattle.arm64_entry.specs.declared.change.Told.{Told}
+use Rattle.arm64_entry.specs.declared.change.Told.the-variants.{Silent, Report}
+use Rattle.arm64_entry.specs.declared.change.Change.{Change}
+use Rattle.arm64_entry.proofs.Shapes.{of-word}
+use Rattle.arm64_fixup.proofs.Turns.{work-worked, fix-suc}
+use Rattle.arm64_fixup.proofs.Whole.{accepts}
+use Rattle.arm64_fixup.proofs.Bytewise.{worked-width, same-change}
+use Rattle.arm64_entry.proofs.ByType.{siteOf, branch-untraced, page-does-it}
+
+-- ---- whose report it is
+
+-- that what is told is entry i's
+Of : ℕ → Told → Type 0
+Of i Silent = Unit {0}
+Of i (Report r) = r .entry ≡ i
+
+Tells : ℕ → Change → Type 0
+Tells i c = Of i (c .told)
+
+difference-tells : (i : ℕ) (e : Reloc) (value : ℕ) → Tells i (difference e value)
+unfolding difference Tells Of
+difference-tells i e value = chosen (Tells i) _ _ _ tt tt
+
+change-tells : (b : Bases) (i : ℕ) (e : Reloc) (t : Resolved) (next : Reloc) (nextTarget : Resolved) (word : ℕ)
+    → Tells i (changeOf b i e t next nextTarget word)
+unfolding changeOf Tells Of
+change-tells b i e t next nextTarget word =
+    chosen (Tells i) _ _ _ tt
+    (chosen (Tells i) _ _ _ tt
+    (chosen (Tells i) _ _ _ (difference-tells i e _)
+    (of-word (Tells i) (record { entry = i; place = placeOf b e }) (λ w. tt) (λ w kind target. refl) (λ kind size. refl) e t word)))
+
+-- ---- what is told stands in the list
+
+module _ (b : Bases) (rels targets : List ℕ) where
+  -- reports stay
+  work-keeps : (f : Fixed) (i : ℕ) {r : R.Report} → List·Memᴰ r (f .reports) → List·Memᴰ r (workAt b rels targets f i .reports)
+  unfolding workAt
+  work-keeps f i {r} m = chosen (λ (g : Fixed). List·Memᴰ r (g .reports)) (consumed rels i) f _ m (Memᴰ·append-left _ m)
+
+  fix-keeps : (section : List ℕ) (j i : ℕ) {r : R.Report} → List·Memᴰ r (fixTo b rels targets section i .reports)
+      → List·Memᴰ r (fixTo b rels targets section (j + i) .reports)
+  fix-keeps section zero i {r} m = subst (λ (k : ℕ). List·Memᴰ r (fixTo b rels targets section k .reports)) (omega arith) m
+  fix-keeps section (suc j) i {r} m =
+      subst (λ (k : ℕ). List·Memᴰ r (fixTo b rels targets section k .reports)) {x = suc (j + i)} {y = suc j + i} (omega arith)
+      (subst (λ (g : Fixed). List·Memᴰ r (g .reports)) (sym (fix-suc b rels targets section (j + i)))
+      (work-keeps (fixTo b rels targets section (j + i)) (j + i) (fix-keeps section j i m)))
+
+-- an entry that touches nothing tells nothing
+told-some : (b : Bases) (i : ℕ) (e : Reloc) (t : Resolved) (next : Reloc) (nextTarget : Resolved) (word : ℕ) (r : R.Report)
+    → changeOf b i e t next nextTarget word .told ≡ Report r → 0 < widthOf e t
+unfolding changeOf
+told-some b i e t next nextTarget word r =
+    split (λ (c : Change). c .told ≡ Report r → 0 < widthOf e t) (eqb (widthOf e t) 0) _ _
+    (λ z d. let y : _≡_ {A = ℕ} 0 1 = cc in absurd (omega arith))
+    (λ z d. omega (arith, eqb-false (widthOf e t) 0 z))
+
+-- a page and a branch that tell nothing
+silent-test : (q : Bool) (w : Write) (c : Change) (r : R.Report) → c .told ≡ Report r → choose q (silent w) c .told ≡ Silent → q ≡ true
+unfolding choose
+silent-test true w c r h e = refl
+silent-test false w c r h e = let z : _≡_ {A = ℕ} 0 1 = cc in absurd (omega arith)
+
+page-silent : (s : Site) (target word : ℕ) → page21 s target word .told ≡ Silent → adrpReaches target (s .place) ≡ true
+unfolding page21
+page-silent s target word h = silent-test (adrpReaches target (s .place)) _ _ _ refl h
+
+branch-silent : (s : Site) (e : Reloc) (t : Resolved) (word : ℕ) → thunkServes e t (branchTarget e t) ≡ false → branch s e t word .told ≡ Silent
+    → branchReaches (branchTarget e t) (s .place) ≡ true
+unfolding branch
+branch-silent s e t word far h =
+    silent-test (branchReaches (branchTarget e t) (s .place)) _ _ _ (ap (λ (c : Change). c .told) (choose-false (thunkServes e t (branchTarget e t)) _ _ far)) h
+
+-- that no report names entry k
+abbrev pub Unreported : Fixed → ℕ → Type 0
+Unreported f k = (r : R.Report) → List·Memᴰ r (f .reports) → r .entry ≡ k → ⊥
+
+module _ {section : List ℕ} {b : Bases} {rels targets slots : List ℕ} {f : Fixed} {k : ℕ} (l : Lone section b rels targets slots f k) where
+  -- what entry k tells of the lent bytes stands in the list
+  pub told-in : {r : R.Report} → changeAt b rels targets section k .told ≡ Report r → List·Memᴰ r (f .reports)
+  told-in {r} h =
+      let a = accepts section b rels targets slots (l .accepted) in
+      let some : 0 < widthAt rels targets k =
+      rw (worked-width rels targets k (l .worked)) (told-some b k (entryAt rels k) (targetAt targets k) _ _ _ r h) in
+      let same = same-change section b rels targets k (l .listed) (l .alone) (a .fine) some in
+      let one : fixTo b rels targets section (suc k) .reports ≡ fixTo b rels targets section k .reports ++ (r ∷ []) =
+      ap (λ (g : Fixed). g .reports)
+      (fix-suc b rels targets section k ∙ work-worked b rels targets (fixTo b rels targets section k) k (l .worked))
+      ∙ ap (λ (t : Told). fixTo b rels targets section k .reports ++ reportsOf t) (ap (λ (c : Change). c .told) same ∙ h) in
+      let m : List·Memᴰ r (fixTo b rels targets section (suc k) .reports) =
+      subst (λ (rs : List R.Report). List·Memᴰ r rs) (sym one) (Memᴰ·append-right (fixTo b rels targets section k .reports) (List·Memᴰ·head {xs = []} refl)) in
+      let n : entries rels - suc k + suc k ≡ entries rels = omega (arith, l .listed) in
+      subst (λ (g : Fixed). List·Memᴰ r (g .reports)) (sym (a .work))
+      (subst (λ (j : ℕ). List·Memᴰ r (fixTo b rels targets section j .reports)) n (fix-keeps b rels targets section (entries rels - suc k) (suc k) m))
+
+  -- an entry that no report names told nothing
+  pub unreported : Unreported f k → changeAt b rels targets section k .told ≡ Silent
+  unfolding Of Tells
+  unreported u = go (changeAt b rels targets section k .told) refl
+    where
+      go : (t : Told) → changeAt b rels targets section k .told ≡ t → t ≡ Silent
+      go Silent e = refl
+      go (Report r) e =
+          absurd
+          (u r (told-in e)
+          (subst (Of k) e
+          (change-tells b k (entryAt rels k) (targetAt targets k) (entryAt rels (k + 1)) (targetAt targets (k + 1)) (wordAt rels section k))))
+
+  -- so an ADRP was in reach
+  pub page-in-reach : {target : ℕ} → Page (entryAt rels k) (targetAt targets k) target → Unreported f k
+      → adrpReaches target (placeOf b (entryAt rels k)) ≡ true
+  page-in-reach {target} r u =
+      page-silent (siteOf b k (entryAt rels k)) target (wordAt rels section k)
+      (sym (ap (λ (c : Change). c .told) (page-does-it b k _ _ _ _ _ r)) ∙ unreported u)
+
+  -- and a branch that takes no thunk
+  pub branch-in-reach : entryAt rels k .ty ≡ ARM64-RELOC-BRANCH26 → dtraceSiteInsn (entryAt rels k) (targetAt targets k) ≡ Untraced → Unreported f k
+      → thunkServes (entryAt rels k) (targetAt targets k) (branchTarget (entryAt rels k) (targetAt targets k)) ≡ false
+      → branchReaches (branchTarget (entryAt rels k) (targetAt targets k)) (placeOf b (entryAt rels k)) ≡ true
+  branch-in-reach ty plain u far =
+      branch-silent (siteOf b k (entryAt rels k)) (entryAt rels k) (targetAt targets k) (wordAt rels section k) far
+      (sym (ap (λ (c : Change). c .told) (branch-untraced b k _ _ _ _ _ ty plain)) ∙ unreported u)

@@ -1,0 +1,187 @@
+-- One turn of each walk: the entry at an index that no SUBTRACTOR takes, and with it the one that it takes.
+use mathlib.Core.Path.{_≡_, refl, sym, ap, _∙_, subst}
+use mathlib.Core.Bool.{Bool, true, false, _&&_}
+use mathlib.Core.List.{List, [], _∷_, _++_}
+use mathlib.Core.Logic.{_⊎_, inl, inr, ⊎-elim}
+use Prim.Native.Nat.{ℕ, zero, suc, _+_, _-_, _≤_, _<_}
+use native.Mathlib.Omega.{arith}
+use native.Mathlib.Nat.{not-suc-le-zero, eq-or-lt-of-le, le-of-suc-le-suc}
+use lib.Dec.{eqb, lit<, lit≤}
+use lib.ListN.{length}
+use Rattle.util.specs.Choice.{choose}
+use Rattle.util.proofs.Choice.{chosen}
+use Rattle.util.proofs.Word.{length-put}
+use Rattle.macho.specs.declared.reloc.Reloc.{Reloc}
+use Rattle.macho.specs.declared.resolved.Resolved.{Resolved}
+use Rattle.macho.specs.declared.refusal.Refusal.{Refusal}
+use Rattle.arm64_entry.specs.Check.{subtracts, checkOf}
+use Rattle.arm64_fixup.specs.Walk.{entries, entryAt, targetAt, takenBy, consumed, checkAt, first, checkTo, stored, Fixed, changeAt, applied}
+use Rattle.arm64_fixup.specs.Walk.{workAt, fixTo}
+use Rattle.arm64_entry.specs.declared.target.Bases.{Bases}
+use Rattle.arm64_entry.specs.declared.check.Checked.{Checked}
+use Rattle.arm64_entry.specs.declared.check.Checked.the-variants.{Fine, Refused}
+use Rattle.arm64_entry.specs.declared.change.Write.{Write}
+use Rattle.arm64_entry.specs.declared.change.Write.the-variants.{Nothing, Word, Pointer}
+use Rattle.arm64_entry.proofs.Sound.{followed}
+
+-- ---- which entries are worked
+
+pub and-false : (b : Bool) → (b && false) ≡ false
+and-false true = refl
+and-false false = refl
+
+module _ (rels : List ℕ) (i : ℕ) (free : consumed rels i ≡ false) where
+  -- an entry that takes no other is followed by one that is worked
+  single : subtracts (entryAt rels i .ty) ≡ false → consumed rels (suc i) ≡ false
+  unfolding consumed
+  single s = rw s
+
+  -- a SUBTRACTOR takes the next entry
+  pair : subtracts (entryAt rels i .ty) ≡ true → consumed rels (suc i) ≡ true
+  unfolding consumed
+  pair s = rw (s, free)
+
+  -- and the one after that is worked
+  after-pair : subtracts (entryAt rels i .ty) ≡ true → consumed rels (suc (suc i)) ≡ false
+  unfolding consumed
+  after-pair s = rw (s, free) (and-false (subtracts (entryAt rels (suc i) .ty)))
+
+  -- what holds at the next index that is worked: after one entry, or after a SUBTRACTOR and the entry that it takes
+  pub next : (P : ℕ → Type 0) → (subtracts (entryAt rels i .ty) ≡ false → P (suc i))
+      → (subtracts (entryAt rels i .ty) ≡ true → P (suc (suc i))) → P (i + takenBy (entryAt rels i .ty))
+  unfolding choose
+  next P one two = go (subtracts (entryAt rels i .ty)) refl
+    where
+      go : (s : Bool) → subtracts (entryAt rels i .ty) ≡ s → P (i + choose s 2 1)
+      go true e = subst P (omega arith) (two e)
+      go false e = subst P (omega arith) (one e)
+
+  pub next-worked : consumed rels (i + takenBy (entryAt rels i .ty)) ≡ false
+  next-worked = next (λ (k : ℕ). consumed rels k ≡ false) single after-pair
+
+-- ---- the first walk
+
+first-fine : (a c : Checked) → first a c ≡ Fine → (a ≡ Fine) × (c ≡ Fine)
+first-fine Fine c h = (refl, h)
+first-fine (Refused r) c h = let z : _≡_ {A = ℕ} 0 1 = cc in absurd (omega arith)
+
+module _ (len : ℕ) (b : Bases) (rels targets : List ℕ) where
+  check-suc : (i : ℕ) → checkTo len b rels targets (suc i) ≡ first (checkTo len b rels targets i) (checkAt len b rels targets i)
+  unfolding checkTo
+  check-suc i = refl
+
+  -- every entry of a list that passes has passed
+  pub passes : (n i : ℕ) → checkTo len b rels targets n ≡ Fine → i < n → checkAt len b rels targets i ≡ Fine
+  passes zero i h l = absurd (not-suc-le-zero l)
+  passes (suc n) i h l =
+      let p = first-fine (checkTo len b rels targets n) _ (sym (check-suc n) ∙ h) in
+      ⊎-elim (λ (e : i ≡ n). rw e (p .1)) (λ (w : i < n). passes n i (p .0) w) (eq-or-lt-of-le (le-of-suc-le-suc l))
+
+  -- a refusal stays
+  stays : (k i : ℕ) (r : Refusal) → checkTo len b rels targets i ≡ Refused r → checkTo len b rels targets (k + i) ≡ Refused r
+  stays zero i r h = ap (λ (m : ℕ). checkTo len b rels targets m) (omega arith) ∙ h
+  stays (suc k) i r h =
+      ap (λ (m : ℕ). checkTo len b rels targets m) {x = suc k + i} {y = suc (k + i)} (omega arith)
+      ∙ check-suc (k + i)
+      ∙ ap (λ (c : Checked). first c (checkAt len b rels targets (k + i))) (stays k i r h)
+
+  -- the check of an entry that a SUBTRACTOR takes
+  pub check-taken : (i : ℕ) → consumed rels i ≡ true → checkAt len b rels targets i ≡ Fine
+  unfolding checkAt choose
+  check-taken i h = rw h
+
+  module _ (i : ℕ) (free : consumed rels i ≡ false) where
+    -- and of one that is worked
+    pub check-worked : checkAt len b rels targets i ≡ checkOf len b (entryAt rels i) (targetAt targets i) (eqb (i + 1) (entries rels))
+    unfolding checkAt choose
+    check-worked = rw free
+
+    module _ (below : i < entries rels) (before : checkTo len b rels targets i ≡ Fine) where
+      -- a turn that ends the walk
+      pub check-refused : {e : Reloc} {t : Resolved} {c : Checked} {r : Refusal} → e ≡ entryAt rels i → t ≡ targetAt targets i
+          → c ≡ checkOf len b e t (eqb (i + 1) (entries rels)) → c ≡ Refused r → Refused r ≡ checkTo len b rels targets (entries rels)
+      check-refused {r = r} pe pt q p =
+          let k : entries rels - suc i + suc i ≡ entries rels = omega arith in
+          let found : checkOf len b (entryAt rels i) (targetAt targets i) (eqb (i + 1) (entries rels)) ≡ Refused r = rw (← pe, ← pt) (sym q ∙ p) in
+          sym
+          (ap (λ (m : ℕ). checkTo len b rels targets m) (sym k)
+          ∙ stays (entries rels - suc i) (suc i) r
+          (check-suc i ∙ ap (λ (a : Checked). first a (checkAt len b rels targets i)) before ∙ check-worked ∙ found))
+
+      module _ (fine : checkOf len b (entryAt rels i) (targetAt targets i) (eqb (i + 1) (entries rels)) ≡ Fine) where
+        check-one : checkTo len b rels targets (suc i) ≡ Fine
+        check-one = check-suc i ∙ ap (λ (a : Checked). first a (checkAt len b rels targets i)) before ∙ check-worked ∙ fine
+
+        check-next : checkTo len b rels targets (i + takenBy (entryAt rels i .ty)) ≡ Fine
+        check-next =
+            next rels i free (λ (k : ℕ). checkTo len b rels targets k ≡ Fine) (λ s. check-one)
+            (λ s. check-suc (suc i) ∙ ap (λ (a : Checked). first a (checkAt len b rels targets (suc i))) check-one ∙ check-taken (suc i) (pair rels i free s))
+
+    pub next-within : i < entries rels → checkOf len b (entryAt rels i) (targetAt targets i) (eqb (i + 1) (entries rels)) ≡ Fine
+        → i + takenBy (entryAt rels i .ty) ≤ entries rels
+    next-within below fine =
+        next rels i free (λ (k : ℕ). k ≤ entries rels) (λ s. below) (λ s. omega (arith, followed len b _ _ i (entries rels) fine s below))
+
+    -- a turn that goes on
+    pub check-again : {e : Reloc} {t : Resolved} {c : Checked} {k : ℕ} → i < entries rels → checkTo len b rels targets i ≡ Fine
+        → e ≡ entryAt rels i → t ≡ targetAt targets i → c ≡ checkOf len b e t (eqb (i + 1) (entries rels)) → c ≡ Fine → k ≡ takenBy (e .ty)
+        → (i + k ≤ entries rels) × (consumed rels (i + k) ≡ false) × (checkTo len b rels targets (i + k) ≡ Fine)
+    check-again below before pe pt q p pk =
+        let fine : checkOf len b (entryAt rels i) (targetAt targets i) (eqb (i + 1) (entries rels)) ≡ Fine = rw (← pe, ← pt) (sym q ∙ p) in
+        rw (pk, pe) (next-within below fine, next-worked rels i free, check-next below before fine)
+
+-- what holds at the end
+pub ended {ℓ} : (P : ℕ → Type ℓ) {i n : ℕ} → i ≤ n → n ≤ i → P i → P n
+ended P {i} {n} l g = subst P (omega arith)
+
+-- a turn takes one entry or two
+pub takes : (ty : ℕ) {k : ℕ} → k ≡ takenBy ty → (0 < k) × (k ≤ 2)
+takes ty p = rw p (chosen (λ (k : ℕ). (0 < k) × (k ≤ 2)) (subtracts ty) 2 1 (lit< tt, lit≤ tt) (lit< tt, lit≤ tt))
+
+-- ---- the second walk
+
+length-stored : (s : List ℕ) (at : ℕ) (w : Write) → length (stored s at w) ≡ length s
+length-stored s at Nothing = refl
+length-stored s at (Word v) = length-put 4 s at v
+length-stored s at (Pointer v) = length-put 8 s at v
+
+module _ (b : Bases) (rels targets : List ℕ) where
+  -- an entry that is worked, and one that is taken
+  pub work-worked : (f : Fixed) (i : ℕ) → consumed rels i ≡ false
+      → workAt b rels targets f i ≡ applied f (entryAt rels i .offset) (changeAt b rels targets (f .section) i)
+  unfolding workAt choose
+  work-worked f i free = rw free
+
+  pub work-taken : (f : Fixed) (i : ℕ) → consumed rels i ≡ true → workAt b rels targets f i ≡ f
+  unfolding workAt choose
+  work-taken f i h = rw h
+
+  length-work : (f : Fixed) (i : ℕ) → length (workAt b rels targets f i .section) ≡ length (f .section)
+  unfolding workAt
+  length-work f i =
+      chosen (λ (g : Fixed). length (g .section) ≡ length (f .section)) (consumed rels i) f _ refl
+      (length-stored (f .section) (entryAt rels i .offset) (changeAt b rels targets (f .section) i .write))
+
+  module _ (section : List ℕ) where
+    pub fix-suc : (i : ℕ) → fixTo b rels targets section (suc i) ≡ workAt b rels targets (fixTo b rels targets section i) i
+    unfolding fixTo
+    fix-suc i = refl
+
+    -- a turn
+    pub fix-next : (i : ℕ) → consumed rels i ≡ false
+        → fixTo b rels targets section (i + takenBy (entryAt rels i .ty))
+        ≡ applied (fixTo b rels targets section i) (entryAt rels i .offset) (changeAt b rels targets (fixTo b rels targets section i .section) i)
+    fix-next i free =
+        let one = fix-suc i ∙ work-worked (fixTo b rels targets section i) i free in
+        next rels i free
+        (λ (k : ℕ).
+        fixTo b rels targets section k
+        ≡ applied (fixTo b rels targets section i) (entryAt rels i .offset) (changeAt b rels targets (fixTo b rels targets section i .section) i))
+        (λ s. one)
+        (λ s. fix-suc (suc i) ∙ work-taken (fixTo b rels targets section (suc i)) (suc i) (pair rels i free s) ∙ one)
+
+    -- the section keeps its length
+    pub length-fix : (k : ℕ) → length (fixTo b rels targets section k .section) ≡ length section
+    unfolding fixTo
+    length-fix zero = refl
+    length-fix (suc i) = length-work (fixTo b rels targets section i) i ∙ length-fix i

@@ -1,0 +1,83 @@
+-- The numbers that UNSIGNED, SUBTRACTOR and POINTER_TO_GOT leave at their place, as plain arithmetic: for entry k of any accepted list
+-- that no SUBTRACTOR consumes and whose bytes no other entry touches.
+use mathlib.Core.Path.{_≡_, refl, sym, ap, _∙_}
+use mathlib.Core.Bool.{Bool, true, false}
+use mathlib.Core.List.{List}
+use Prim.Native.Nat.{ℕ, _+_, _%_, _^_, _<_}
+use native.Mathlib.Omega.{arith}
+use native.Mathlib.Nat.{mod-eq-of-lt, mod-mod}
+use borrow.Author.Tests.{eq-eqb, ne-eqb}
+use Rattle.util.specs.Choice.{choose}
+use Rattle.util.specs.Wrap.{sum, diff}
+use Rattle.macho.specs.Types.{ARM64-RELOC-UNSIGNED, ARM64-RELOC-SUBTRACTOR, ARM64-RELOC-POINTER-TO-GOT}
+use Rattle.macho.specs.Resolved.{isTls}
+use Rattle.macho.specs.declared.reloc.Reloc.{Reloc}
+use Rattle.arm64_entry.specs.Target.{importedSymbol, placeOf, targetOf, slotOf}
+use Rattle.arm64_entry.specs.Change.{silent, unsignedValue, subtractorValue, difference, pointerToGot}
+use Rattle.arm64_fixup.specs.Walk.{entryAt, targetAt, Fixed, changeAt}
+use Rattle.arm64_fixup.specs.Footprint.{Lone, wordAt, pointerAt}
+use Rattle.arm64_entry.specs.declared.target.Bases.{Bases}
+use Rattle.arm64_entry.specs.declared.change.Change.{Change}
+use Rattle.arm64_entry.specs.declared.change.Write.the-variants.{Word, Pointer}
+use Rattle.arm64_entry.proofs.ByType.{siteOf, unsigned-does, subtractor-does, pointer-does}
+use Rattle.arm64_fixup.proofs.Lone.{stores-word, stores-pointer}
+
+-- sums and differences are 64-bit numbers
+sum-lt : (a c : ℕ) → sum a c < 2 ^ 64
+sum-lt a c = omega arith
+
+diff-lt : (a c : ℕ) → diff a c < 2 ^ 64
+diff-lt a c = omega arith
+
+-- a SUBTRACTOR's value in 4 bytes, and in 8
+difference-4 : (e : Reloc) (value : ℕ) → e .size ≡ 4 → difference e value ≡ silent (Word (value % 2 ^ 32))
+unfolding difference choose
+difference-4 e value s = rw (eq-eqb _ _ s)
+
+difference-8 : (e : Reloc) (value : ℕ) → (e .size ≡ 4 → ⊥) → difference e value ≡ silent (Pointer value)
+unfolding difference choose
+difference-8 e value s = rw (ne-eqb _ _ s)
+
+module _ {section : List ℕ} {b : Bases} {rels targets slots : List ℕ} {f : Fixed} {k : ℕ} (l : Lone section b rels targets slots f k) where
+  -- UNSIGNED of anything but an imported symbol: S + A
+  pub unsigned-plain : entryAt rels k .ty ≡ ARM64-RELOC-UNSIGNED → importedSymbol (entryAt rels k) (targetAt targets k) ≡ false
+      → isTls (targetAt targets k) ≡ false
+      → pointerAt rels (f .section) k ≡ sum (targetAt targets k .addr) (entryAt rels k .addend)
+  unfolding unsignedValue targetOf choose
+  unsigned-plain h i t =
+      stores-pointer l (ap (λ (c : Change). c .write) (unsigned-does b k _ _ _ _ _ h i))
+      ∙ rw t (mod-eq-of-lt (sum-lt (targetAt targets k .addr) (entryAt rels k .addend)))
+
+  -- of a thread-local: S + A less the start of thread-local storage
+  pub unsigned-tls : entryAt rels k .ty ≡ ARM64-RELOC-UNSIGNED → importedSymbol (entryAt rels k) (targetAt targets k) ≡ false
+      → isTls (targetAt targets k) ≡ true
+      → pointerAt rels (f .section) k ≡ diff (sum (targetAt targets k .addr) (entryAt rels k .addend)) (b .«tls_begin»)
+  unfolding unsignedValue targetOf choose
+  unsigned-tls h i t =
+      stores-pointer l (ap (λ (c : Change). c .write) (unsigned-does b k _ _ _ _ _ h i))
+      ∙ rw t (mod-eq-of-lt (diff-lt (sum (targetAt targets k .addr) (entryAt rels k .addend)) (b .«tls_begin»)))
+
+  -- SUBTRACTOR: the next entry's S + A minus the own S, its low 4 bytes or all 8
+  pub subtractor-4 : entryAt rels k .ty ≡ ARM64-RELOC-SUBTRACTOR → entryAt rels k .size ≡ 4
+      → wordAt rels (f .section) k
+      ≡ diff (sum (targetAt targets (k + 1) .addr) (entryAt rels (k + 1) .addend)) (targetAt targets k .addr) % 2 ^ 32
+  unfolding subtractorValue targetOf
+  subtractor-4 h s =
+      stores-word l (ap (λ (c : Change). c .write) (subtractor-does b k _ _ _ _ _ h ∙ difference-4 _ _ s))
+      ∙ mod-mod (diff (sum (targetAt targets (k + 1) .addr) (entryAt rels (k + 1) .addend)) (targetAt targets k .addr)) (2 ^ 32)
+
+  pub subtractor-8 : entryAt rels k .ty ≡ ARM64-RELOC-SUBTRACTOR → (entryAt rels k .size ≡ 4 → ⊥)
+      → pointerAt rels (f .section) k
+      ≡ diff (sum (targetAt targets (k + 1) .addr) (entryAt rels (k + 1) .addend)) (targetAt targets k .addr)
+  unfolding subtractorValue targetOf
+  subtractor-8 h s =
+      stores-pointer l (ap (λ (c : Change). c .write) (subtractor-does b k _ _ _ _ _ h ∙ difference-8 _ _ s))
+      ∙ mod-eq-of-lt (diff-lt (sum (targetAt targets (k + 1) .addr) (entryAt rels (k + 1) .addend)) (targetAt targets k .addr))
+
+  -- POINTER_TO_GOT: the low 32 bits of G + A - P
+  pub pointer-to-got : entryAt rels k .ty ≡ ARM64-RELOC-POINTER-TO-GOT
+      → wordAt rels (f .section) k ≡ diff (sum (targetAt targets k .got) (entryAt rels k .addend)) (placeOf b (entryAt rels k)) % 2 ^ 32
+  unfolding pointerToGot slotOf
+  pointer-to-got h =
+      stores-word l (ap (λ (c : Change). c .write) (pointer-does b k _ _ _ _ _ h))
+      ∙ mod-mod (diff (sum (targetAt targets k .got) (entryAt rels k .addend)) (placeOf b (entryAt rels k))) (2 ^ 32)

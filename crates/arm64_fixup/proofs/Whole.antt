@@ -1,0 +1,101 @@
+-- The whole call: its outcome by the two checks, and what an outcome says of the answer and of the lent bytes.
+use mathlib.Core.Path.{_≡_, refl, sym, ap, _∙_}
+use mathlib.Core.Bool.{Bool, true, false, _||_, not}
+use mathlib.Core.List.{List}
+use Prim.Native.Nat.{ℕ, _*_, _/_, _%_, _^_, _≤_, _<_}
+use native.Mathlib.Omega.{arith}
+use borrow.Author.Tests.{ltb-false, leb-false, eqb-true}
+use lib.Dec.{eqb, leb}
+use lib.ListN.{length}
+use Rattle.util.specs.Choice.{choose}
+use Rattle.macho.specs.declared.refusal.Refusal.{Refusal}
+use Rattle.arm64_fixup.specs.Walk.{checkAll, Fixed, fixAll}
+use Rattle.arm64_fixup.specs.Answer.{disagree, lacksSlots, checkLists, Outcome, refused, fixed, after, outcomeOf, answerOf, sectionAfter}
+use Rattle.arm64_fixup.specs.Answer.{filled, slotsAfter}
+use Rattle.arm64_entry.specs.declared.target.Bases.{Bases}
+use Rattle.arm64_entry.specs.declared.check.Checked.{Checked}
+use Rattle.arm64_entry.specs.declared.check.Checked.the-variants as C
+use Rattle.arm64_fixup.specs.declared.walk.FixAnswer.{FixAnswer}
+use Rattle.arm64_fixup.specs.declared.walk.FixAnswer.the-variants.{Filled, Refused}
+use Rattle.arm64_entry.proofs.Sound.{passed}
+
+-- lists whose lengths agree
+pub record Lists (rels targets slots : ℕ) : Type 0 where
+  pub whole : rels % 24 ≡ 0
+  pub few : rels / 24 < 2 ^ 32
+  pub paired : rels / 24 ≡ targets / 48
+  pub enough : 24 * (rels / 24) ≤ slots
+
+or-false : (a b : Bool) → (a || b) ≡ false → (a ≡ false) × (b ≡ false)
+or-false false b h = (refl, h)
+or-false true b h = let z : _≡_ {A = ℕ} 0 1 = cc in absurd (omega arith)
+
+not-eqb : (m n : ℕ) → not (eqb m n) ≡ false → m ≡ n
+not-eqb m n h = go (eqb m n) refl h
+  where
+    go : (t : Bool) → eqb m n ≡ t → not t ≡ false → m ≡ n
+    go true e _ = eqb-true m n e
+    go false e h = let z : _≡_ {A = ℕ} 0 1 = cc in absurd (omega arith)
+
+pub lists : (rels targets slots : ℕ) → checkLists rels targets slots ≡ C.Fine → Lists rels targets slots
+unfolding checkLists
+lists rels targets slots h =
+    let p = passed (disagree rels targets) _ _ h in
+    let q = passed (lacksSlots rels slots) _ _ (p .1) in
+    let a = or-false (not (eqb (rels % 24) 0) || not (eqb (targets % 48) 0) || leb (2 ^ 32) (rels / 24)) _ (p .0) in
+    let b = or-false (not (eqb (rels % 24) 0) || not (eqb (targets % 48) 0)) _ (a .0) in
+    let c = or-false (not (eqb (rels % 24) 0)) _ (b .0) in
+    record {
+      whole = not-eqb _ _ (c .0);
+      few = leb-false _ _ (b .1);
+      paired = not-eqb _ _ (a .1);
+      enough = ltb-false _ _ (q .0);
+    }
+
+module _ (section : List ℕ) (b : Bases) (rels targets slots : List ℕ) where
+  -- what a refusal of the call says
+  pub turned-down : {r : Refusal} → outcomeOf section b rels targets slots ≡ refused r
+      → (Refused r ≡ answerOf (outcomeOf section b rels targets slots))
+      × ((section ≡ sectionAfter (outcomeOf section b rels targets slots) section) × (slots ≡ slotsAfter (outcomeOf section b rels targets slots) slots))
+  turned-down o = rw o (refl, (refl, refl))
+
+  -- by the lists, and by an entry
+  pub by-lists : {c : Checked} {r : Refusal} → c ≡ checkLists (length rels) (length targets) (length slots) → c ≡ C.Refused r
+      → outcomeOf section b rels targets slots ≡ refused r
+  unfolding outcomeOf
+  by-lists q p = rw (sym q ∙ p)
+
+  module _ (fine : checkLists (length rels) (length targets) (length slots) ≡ C.Fine) where
+    pub by-entry : {c : Checked} {r : Refusal} → c ≡ checkAll (length section) b rels targets → c ≡ C.Refused r
+        → outcomeOf section b rels targets slots ≡ refused r
+    unfolding outcomeOf
+    by-entry q p = rw (fine, sym q ∙ p)
+
+    accepted : checkAll (length section) b rels targets ≡ C.Fine → outcomeOf section b rels targets slots ≡ fixed (fixAll b rels targets section)
+    unfolding outcomeOf
+    accepted h = rw (fine, h)
+
+    pub done : {n : ℕ} {section′ slots′ : List ℕ} → checkAll (length section) b rels targets ≡ C.Fine
+        → n ≡ length (fixAll b rels targets section .reports)
+        → section′ ≡ fixAll b rels targets section .section
+        → slots′ ≡ filled (fixAll b rels targets section) slots
+        → (Filled n ≡ answerOf (outcomeOf section b rels targets slots))
+        × ((section′ ≡ sectionAfter (outcomeOf section b rels targets slots) section) × (slots′ ≡ slotsAfter (outcomeOf section b rels targets slots) slots))
+    done h pn ps pl = rw (accepted h) (ap Filled pn, (ps, pl))
+
+  -- what an accepted call says
+  pub record Accepted (f : Fixed) : Type 0 where
+    pub agree : Lists (length rels) (length targets) (length slots)
+    pub fine : checkAll (length section) b rels targets ≡ C.Fine
+    pub work : f ≡ fixAll b rels targets section
+
+  after-fixed : (c : Checked) (o : Outcome) (f : Fixed) → after c o ≡ fixed f → (c ≡ C.Fine) × (o ≡ fixed f)
+  after-fixed C.Fine o f h = (refl, h)
+  after-fixed (C.Refused r) o f h = let z : _≡_ {A = ℕ} 0 1 = cc in absurd (omega arith)
+
+  pub accepts : {f : Fixed} → outcomeOf section b rels targets slots ≡ fixed f → Accepted f
+  unfolding outcomeOf
+  accepts {f} h =
+      let p = after-fixed (checkLists (length rels) (length targets) (length slots)) _ f h in
+      let q = after-fixed (checkAll (length section) b rels targets) _ f (p .1) in
+      record { agree = lists (length rels) (length targets) (length slots) (p .0); fine = q .0; work = cc }

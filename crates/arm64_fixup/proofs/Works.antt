@@ -1,0 +1,128 @@
+-- One turn of the second walk, in the form in which the loop asks for it, and the reports' bytes one after another.
+use mathlib.Core.Path.{_≡_, refl, sym, ap, _∙_, subst}
+use mathlib.Core.Bool.{Bool, false}
+use mathlib.Core.List.{List, [], _∷_, _++_, append-assoc}
+use Prim.Native.Nat.{ℕ, zero, suc, _+_, _*_, _≤_, _<_}
+use native.Mathlib.Omega.{arith}
+use lib.Dec.{eqb}
+use lib.ListN.{length, drop, length-append}
+use lib.Seq.{sets, sets-eq}
+use Rattle.util.specs.Word.{le}
+use Rattle.util.proofs.Part.{length-bytes}
+use Rattle.util.proofs.Bytes.{sets-append}
+use Rattle.macho.specs.Record.{bytesOf}
+use Rattle.macho.specs.Report.{reportBytes}
+use Rattle.macho.specs.declared.reloc.Reloc.{Reloc}
+use Rattle.macho.specs.declared.resolved.Resolved.{Resolved}
+use Rattle.macho.specs.declared.report.Report.{Report}
+use Rattle.arm64_entry.specs.Check.{checkOf}
+use Rattle.arm64_entry.specs.Change.{bytesIn, changeOf}
+use Rattle.arm64_fixup.specs.Walk.{entries, entryAt, targetAt, takenBy, consumed, checkAll, stored, reportsOf, Fixed}
+use Rattle.arm64_fixup.specs.Walk.{changeAt, applied, fixTo, fixAll}
+use Rattle.arm64_fixup.specs.Answer.{reportsBytes, filled}
+use Rattle.arm64_entry.specs.declared.target.Bases.{Bases}
+use Rattle.arm64_entry.specs.declared.check.Checked.the-variants.{Fine}
+use Rattle.arm64_entry.specs.declared.change.Told.{Told}
+use Rattle.arm64_entry.specs.declared.change.Told.the-variants as Told
+use Rattle.arm64_entry.specs.declared.change.Change.{Change}
+use Rattle.arm64_entry.proofs.Sound.{sound}
+use Rattle.arm64_fixup.proofs.Turns.{next-worked, passes, check-worked, next-within, ended, takes, fix-next}
+use Rattle.arm64_entry.proofs.Width.{change-fits}
+
+-- ---- reports
+
+length-report : (r : Report) → length (reportBytes r) ≡ 24
+unfolding reportBytes bytesOf
+length-report r = simp (length-append, length-bytes)
+
+length-reports : (rs : List Report) → length (reportsBytes rs) ≡ 24 * length rs
+unfolding reportsBytes
+length-reports [] = refl
+length-reports (r ∷ rs) = simp (length-append, length-report r, length-reports rs) (omega arith)
+
+reports-append : (rs qs : List Report) → reportsBytes (rs ++ qs) ≡ reportsBytes rs ++ reportsBytes qs
+unfolding reportsBytes
+reports-append [] qs = refl
+reports-append (r ∷ rs) qs = rw (reports-append rs qs) (sym (append-assoc (reportBytes r) (reportsBytes rs) (reportsBytes qs)))
+
+-- reports stored after others
+more : (slots : List ℕ) (rs qs : List Report)
+    → sets slots 0 (reportsBytes (rs ++ qs)) ≡ sets (sets slots 0 (reportsBytes rs)) (24 * length rs) (reportsBytes qs)
+more slots rs qs =
+    rw (reports-append rs qs) (sets-append (reportsBytes rs) (reportsBytes qs) slots 0 (24 * length rs) (omega (arith, length-reports rs)))
+
+-- stored reports are the front of the slots
+front : (slots : List ℕ) (f : Fixed) → 24 * length (f .reports) ≤ length slots → sets slots 0 (reportsBytes (f .reports)) ≡ filled f slots
+front slots f h =
+    let n : 0 + length (reportsBytes (f .reports)) ≡ 24 * length (f .reports) = omega (arith, length-reports (f .reports)) in
+    sets-eq (reportsBytes (f .reports)) slots 0 (omega (arith, length-reports (f .reports)))
+    ∙ ap (λ (k : ℕ). reportsBytes (f .reports) ++ drop k slots) n
+
+-- at most one report an entry
+at-most-one : (t : Told) → length (reportsOf t) ≤ 1
+at-most-one Told.Silent = omega arith
+at-most-one (Told.Report r) = omega arith
+
+-- ---- the turn
+
+-- what a change stores has room
+pub room : (len : ℕ) (b : Bases) (i : ℕ) (e : Reloc) (t : Resolved) (last : Bool) (next : Reloc) (nextTarget : Resolved) (word : ℕ) {c : Change}
+    → checkOf len b e t last ≡ Fine → c ≡ changeOf b i e t next nextTarget word → e .offset + bytesIn (c .write) ≤ len
+room len b i e t last next nextTarget word h q =
+    let s = sound len b e t last h in
+    rw q (omega (arith, change-fits b i e t next nextTarget word))
+
+module _ (b : Bases) (rels targets section : List ℕ) (i : ℕ) (free : consumed rels i ≡ false) where
+  -- the entry was checked
+  pub fine-at : {e : Reloc} {t : Resolved} {len : ℕ} → checkAll (length section) b rels targets ≡ Fine → i < entries rels
+      → e ≡ entryAt rels i → t ≡ targetAt targets i → len ≡ length section → checkOf len b e t (eqb (i + 1) (entries rels)) ≡ Fine
+  fine-at h below pe pt pl =
+      rw (pl, pe, pt) (sym (check-worked (length section) b rels targets i free) ∙ passes (length section) b rels targets (entries rels) i h below)
+
+  module _ {e : Reloc} {t : Resolved} {c : Change} {k : ℕ} (pe : e ≡ entryAt rels i) (pt : t ≡ targetAt targets i) (pk : k ≡ takenBy (e .ty))
+      {buf : List ℕ} (pb : buf ≡ fixTo b rels targets section i .section)
+      (pc : c ≡ changeOf b i e t (entryAt rels (i + 1)) (targetAt targets (i + 1)) (le 4 buf (e .offset)))
+    where
+      step : fixTo b rels targets section (i + k) ≡ applied (fixTo b rels targets section i) (e .offset) c
+      step = rw (pc, pb, pk, pe, pt) (fix-next b rels targets section i free)
+
+      -- what holds after the turn
+      pub work-again : (slots₀ : List ℕ) {count count′ : ℕ} {slots slots′ buf′ : List ℕ} → i < entries rels → checkAll (length section) b rels targets ≡ Fine
+          → count ≤ i
+          → count ≡ length (fixTo b rels targets section i .reports)
+          → slots ≡ sets slots₀ 0 (reportsBytes (fixTo b rels targets section i .reports))
+          → buf′ ≡ stored buf (e .offset) (c .write)
+          → count′ ≡ count + length (reportsOf (c .told))
+          → slots′ ≡ sets slots (24 * count) (reportsBytes (reportsOf (c .told)))
+          → (i + k ≤ entries rels)
+          × (consumed rels (i + k) ≡ false)
+          × (count′ ≤ i + k)
+          × (count′ ≡ length (fixTo b rels targets section (i + k) .reports))
+          × (buf′ ≡ fixTo b rels targets section (i + k) .section)
+          × (slots′ ≡ sets slots₀ 0 (reportsBytes (fixTo b rels targets section (i + k) .reports)))
+      work-again slots₀ below h few pn ps qb qn qs = (
+        rw (pk, pe) (next-within (length section) b rels targets i free below (fine-at h below refl refl refl)),
+        rw (pk, pe) (next-worked rels i free),
+        omega (arith, at-most-one (c .told), takes (e .ty) pk .0),
+        rw step (qn ∙ simp length-append (omega arith)),
+        rw step (qb ∙ ap (λ (s : List ℕ). stored s (e .offset) (c .write)) pb),
+        rw step (qs ∙ rw (ps, pn) (sym (more slots₀ (fixTo b rels targets section i .reports) (reportsOf (c .told))))),
+      )
+
+-- what holds after the last turn
+pub work-done : (b : Bases) (rels targets section slots₀ : List ℕ) (i : ℕ) {count : ℕ} {buf slots : List ℕ} → i ≤ entries rels → entries rels ≤ i
+    → count ≤ i
+    → 24 * entries rels ≤ length slots₀
+    → count ≡ length (fixTo b rels targets section i .reports)
+    → buf ≡ fixTo b rels targets section i .section
+    → slots ≡ sets slots₀ 0 (reportsBytes (fixTo b rels targets section i .reports))
+    → (count ≡ length (fixAll b rels targets section .reports))
+    × ((buf ≡ fixAll b rels targets section .section) × (slots ≡ filled (fixAll b rels targets section) slots₀))
+work-done b rels targets section slots₀ i {count} {buf} {slots} l g few enough pn pb ps =
+    ended
+    (λ (k : ℕ).
+    (count ≡ length (fixTo b rels targets section k .reports))
+    × ((buf ≡ fixTo b rels targets section k .section) × (slots ≡ filled (fixTo b rels targets section k) slots₀)))
+    l
+    g
+    (pn, (pb, ps ∙ front slots₀ (fixTo b rels targets section i) (omega arith)))

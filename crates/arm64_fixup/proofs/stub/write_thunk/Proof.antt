@@ -1,0 +1,41 @@
+-- `write_thunk` meets its contract: the length decides both choices.
+use Rattle.arm64_fixup.specs.Stub.{wordsIn}
+use borrow.Author.Tests.{eq-eqb, ne-eqb, le-leb, lt-leb, lt-ltb, le-ltb, not-true, not-false}
+use Rattle.arm64_fixup.specs.Stub.{thunkAnswer}
+use Rattle.util.specs.Choice.{choose}
+use borrow.Author.Needs.{needs}
+use Rattle.arm64_fixup.proofs.stub.write_thunk.Statement.{statement}
+use Rattle.arm64_fixup.proofs.stub.write_thunk.Tie as tie
+use Rattle.arm64_fixup.proofs.stub.write_thunk.Reads as reads
+use Rattle.arm64_fixup.proofs.stub.write_thunk.Lts as lts
+use Rattle.arm64_fixup.proofs.stub.write_words.Reads as write-words-reads
+use Rattle.arm64_insn.proofs.stub.thunk_words.Reads as thunk-words-reads
+
+-- src/stub.rt:59:9
+returns : tie.Need-returns
+unfolding thunkAnswer wordsIn choose
+returns c = (simp (lt-ltb _ _ (c .if1 .taken)), simp (lt-ltb _ _ (c .if1 .taken)))
+
+-- src/stub.rt:61:22
+thunk-words-requires : tie.Need-thunk-words-requires
+thunk-words-requires c κs = search needs
+
+-- src/stub.rt:61:5
+write-words-requires : tie.Need-write-words-requires
+write-words-requires c κs = search needs
+
+-- src/stub.rt:54:1
+same-length : tie.Need-same-length
+same-length c = search needs
+
+-- src/stub.rt:54:1
+returns-2 : tie.Need-returns-2
+unfolding thunkAnswer wordsIn choose
+returns-2 c =
+    let w = c .before .before in
+    let t = le-ltb _ _ (w .before .before .before .if1 .left) in
+    (simp t, simp (w .write-words .ensures, w .before .thunk-words .ensures, t))
+
+pub write-thunk-spec : {M : Type 1} → statement M
+write-thunk-spec =
+    tie.close (tie.spec returns thunk-words-requires write-words-requires same-length returns-2)

@@ -1,0 +1,196 @@
+-- `change_at` meets its contract: width and type decide the choices; the check that the entry passed gives the room.
+use native.Mathlib.Omega.{arith}
+use mathlib.Core.Path.{_≡_, sym, _∙_, ap}
+use mathlib.Core.Bool.{false}
+use Prim.Native.Nat.{ℕ}
+use lib.Dec.{eqb}
+use Rattle.arm64_entry.specs.Target.{widthOf}
+use Rattle.arm64_entry.proofs.Sound.{sound, followed}
+use Rattle.arm64_entry.proofs.Width.{wide}
+use borrow.Author.Tests.{eq-eqb, ne-eqb, le-leb, lt-leb, lt-ltb, le-ltb, not-true, not-false}
+use Rattle.arm64_entry.specs.Change.{changeOf}
+use Rattle.util.specs.Choice.{choose}
+use borrow.Author.Needs.{needs}
+use Rattle.arm64_fixup.proofs.walk.change_at.Statement.{statement}
+use Rattle.arm64_fixup.proofs.walk.change_at.Tie as tie
+use Rattle.arm64_fixup.proofs.walk.change_at.Reads as reads
+use Rattle.arm64_fixup.proofs.walk.change_at.Lts as lts
+use Rattle.arm64_entry.proofs.change.difference.Reads as difference-reads
+use Rattle.arm64_entry.proofs.change.silent.Reads as silent-reads
+use Rattle.arm64_entry.proofs.change.subtractor_value.Reads as subtractor-value-reads
+use Rattle.arm64_entry.proofs.change.unsigned_value.Reads as unsigned-value-reads
+use Rattle.arm64_entry.proofs.change.word_change.Reads as word-change-reads
+use Rattle.arm64_entry.proofs.check.subtracts.Reads as subtracts-reads
+use Rattle.arm64_entry.proofs.target.width_of.Reads as width-of-reads
+use Rattle.macho.proofs.reloc.Reloc.read.Reads as reloc-Reloc-read-reads
+use Rattle.macho.proofs.resolved.Resolved.read.Reads as resolved-Resolved-read-reads
+use Rattle.util.proofs.read32.Reads as read32-reads
+
+-- src/walk.rt:107:8
+width-of-requires : tie.Need-width-of-requires
+width-of-requires c κs = search needs
+
+-- src/walk.rt:108:9
+silent-requires : tie.Need-silent-requires
+silent-requires c κs = search needs
+
+-- src/walk.rt:108:9
+returns : tie.Need-returns
+unfolding changeOf choose
+returns c =
+    simp (
+      c .silent .ensures,
+      eq-eqb _ _ (c .before .if1 .taken),
+      ← c .before .before .width-of .ensures,
+    )
+
+-- src/walk.rt:111:38
+unsigned-value-requires : tie.Need-unsigned-value-requires
+unsigned-value-requires c κs = search needs
+
+-- src/walk.rt:111:9
+silent-requires-2 : tie.Need-silent-requires-2
+silent-requires-2 c κs = search needs
+
+-- src/walk.rt:111:9
+returns-2 : tie.Need-returns-2
+unfolding changeOf choose
+returns-2 c =
+    simp (
+      c .silent2 .ensures,
+      c .before .unsigned-value .ensures,
+      eq-eqb _ _ (c .before .before .if2 .taken),
+      ne-eqb _ _ (c .before .before .before .before .if1 .left),
+      ← c .before .before .before .before .before .width-of .ensures,
+    )
+
+-- src/walk.rt:113:8
+subtracts-requires : tie.Need-subtracts-requires
+subtracts-requires c κs = search needs
+
+-- src/walk.rt:114:44
+add-read : tie.Need-add-read
+add-read c = search needs
+
+-- src/walk.rt:114:38
+mul-read : tie.Need-mul-read
+mul-read c = search needs
+
+-- src/walk.rt:114:13
+read-requires : tie.Need-read-requires
+read-requires c κs =
+    let a = c .before .before .before .before .before .before .before .before .before in
+    omega (arith, followed _ _ _ _ _ _ (a .pre .1) (sym (c .before .subtracts .ensures) ∙ c .if3 .taken) (a .pre .0 .0))
+
+-- src/walk.rt:115:57
+add-read-2 : tie.Need-add-read-2
+add-read-2 c = search needs
+
+-- src/walk.rt:115:51
+mul-read-2 : tie.Need-mul-read-2
+mul-read-2 c = search needs
+
+-- src/walk.rt:115:13
+read-requires-2 : tie.Need-read-requires-2
+read-requires-2 c κs =
+    let k = c .before in
+    let a = k .before .before .before .before .before .before .before .before .before in
+    omega (arith, followed _ _ _ _ _ _ (a .pre .1) (sym (k .before .subtracts .ensures) ∙ k .if3 .taken) (a .pre .0 .0))
+
+-- src/walk.rt:116:30
+subtractor-value-requires : tie.Need-subtractor-value-requires
+subtractor-value-requires c κs = search needs
+
+-- src/walk.rt:116:9
+difference-requires : tie.Need-difference-requires
+difference-requires c κs = search needs
+
+-- src/walk.rt:116:9
+returns-3 : tie.Need-returns-3
+unfolding changeOf choose
+returns-3 c =
+    simp (
+      c .difference .ensures,
+      c .before .subtractor-value .ensures,
+      c .before .before .read2 .ensures,
+      c .before .before .before .read .ensures,
+      c .before .before .before .before .if3 .taken,
+      ← c .before .before .before .before .before .subtracts .ensures,
+      ne-eqb _ _ (c .before .before .before .before .before .before .if2 .left),
+      ne-eqb _ _ (c .before .before .before .before .before .before .before .before .if1 .left),
+      ← c .before .before .before .before .before .before .before .before .before .width-of .ensures,
+    )
+
+-- src/walk.rt:118:14
+cast-at : tie.Need-cast-at
+cast-at c = search needs
+
+-- src/walk.rt:120:16
+cast-word-change : tie.Need-cast-word-change
+cast-word-change c = search needs
+
+-- src/walk.rt:121:29
+cast-t22 : tie.Need-cast-t22
+cast-t22 c = search needs
+
+-- src/walk.rt:121:16
+add-t23 : tie.Need-add-t23
+add-t23 c =
+    let a = c .before .before .before .before .before .before .before .before .before .before .before .before in
+    let s = sound _ _ _ _ _ (a .pre .1) in
+    omega arith
+
+-- src/walk.rt:123:26
+read32-requires : tie.Need-read32-requires
+read32-requires c κs =
+    let k = c .before .before .before .before .before .before .before in
+    let a = k .before .before .before .before .before in
+    let s = sound _ _ _ _ _ (a .pre .1) in
+    let z : eqb (widthOf (a .args .e) (a .args .t)) 0 ≡ false = ap (λ (n : ℕ). eqb n 0) (sym (k .before .width-of .ensures)) ∙ ne-eqb _ _ (k .if1 .left) in
+    omega (arith, wide _ _ z)
+
+-- src/walk.rt:123:5
+word-change-requires : tie.Need-word-change-requires
+word-change-requires c κs = search needs
+
+-- src/walk.rt:95:1
+returns-4 : tie.Need-returns-4
+unfolding changeOf choose
+returns-4 c =
+    simp (
+      c .word-change .ensures,
+      c .before .read32 .ensures,
+      c .before .before .before .before .before .if3 .left,
+      ← c .before .before .before .before .before .before .subtracts .ensures,
+      ne-eqb _ _ (c .before .before .before .before .before .before .before .if2 .left),
+      ne-eqb _ _ (c .before .before .before .before .before .before .before .before .before .if1 .left),
+      ← c .before .before .before .before .before .before .before .before .before .before .width-of .ensures,
+    )
+
+pub change-at-spec : {M : Type 1} → statement M
+change-at-spec =
+    tie.close
+    (tie.spec
+    width-of-requires
+    silent-requires
+    returns
+    unsigned-value-requires
+    silent-requires-2
+    returns-2
+    subtracts-requires
+    add-read
+    mul-read
+    read-requires
+    add-read-2
+    mul-read-2
+    read-requires-2
+    subtractor-value-requires
+    difference-requires
+    returns-3
+    cast-at
+    cast-word-change
+    cast-t22
+    add-t23
+    read32-requires
+    word-change-requires
+    returns-4)

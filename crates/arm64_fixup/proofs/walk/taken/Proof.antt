@@ -1,0 +1,35 @@
+-- `taken` meets its contract: the type decides the choice.
+use borrow.Author.Tests.{eq-eqb, ne-eqb, le-leb, lt-leb, lt-ltb, le-ltb, not-true, not-false}
+use Rattle.arm64_fixup.specs.Walk.{takenBy}
+use Rattle.util.specs.Choice.{choose}
+use borrow.Author.Needs.{needs}
+use Rattle.arm64_fixup.proofs.walk.taken.Statement.{statement}
+use Rattle.arm64_fixup.proofs.walk.taken.Tie as tie
+use Rattle.arm64_fixup.proofs.walk.taken.Reads as reads
+use Rattle.arm64_fixup.proofs.walk.taken.Lts as lts
+use Rattle.arm64_entry.proofs.check.subtracts.Reads as subtracts-reads
+
+-- src/walk.rt:66:8
+subtracts-requires : tie.Need-subtracts-requires
+subtracts-requires c κs = search needs
+
+-- src/walk.rt:67:9
+returns : tie.Need-returns
+unfolding choose
+returns c =
+    simp (
+      c .if1 .taken,
+      ← c .before .subtracts .ensures,
+    )
+
+-- src/walk.rt:63:1
+returns-2 : tie.Need-returns-2
+unfolding choose
+returns-2 c =
+    simp (
+      c .if1 .left,
+      ← c .before .subtracts .ensures,
+    )
+
+pub taken-spec : {M : Type 1} → statement M
+taken-spec = tie.close (tie.spec subtracts-requires returns returns-2)

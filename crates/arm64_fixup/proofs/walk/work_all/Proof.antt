@@ -1,0 +1,166 @@
+-- `work_all` meets its contract: section, slots and count are those after the first i entries; a turn is `work-again` of Works.
+use Rattle.arm64_fixup.proofs.Works.{work-done}
+use Rattle.arm64_fixup.specs.Walk.{Fixed}
+use Rattle.arm64_fixup.proofs.Turns.{length-fix, ended, takes}
+use Rattle.arm64_fixup.proofs.Works.{fine-at, room, work-again}
+use denote.Ref.{now}
+use mathlib.Core.Path.{_≡_, refl, sym, ap, _∙_}
+use mathlib.Core.Bool.{false}
+use Prim.Native.Nat.{ℕ, _-_, _≤_, zero-le}
+use native.Mathlib.Omega.{arith}
+use borrow.Author.Needs.{needs}
+use lib.ListN.{length}
+use lib.Seq.{sets}
+use Rattle.arm64_fixup.specs.Walk.{entries, consumed, fixTo}
+use Rattle.arm64_fixup.specs.Answer.{reportsBytes}
+use Rattle.arm64_fixup.proofs.walk.work_all.Statement.{statement}
+use Rattle.arm64_fixup.proofs.walk.work_all.Tie as tie
+use Rattle.arm64_fixup.proofs.walk.work_all.Reads as reads
+use Rattle.arm64_fixup.proofs.walk.work_all.Lts as lts
+use Rattle.arm64_fixup.proofs.walk.change_at.Reads as change-at-reads
+use Rattle.arm64_fixup.proofs.walk.store.Reads as store-reads
+use Rattle.arm64_fixup.proofs.walk.taken.Reads as taken-reads
+use Rattle.arm64_fixup.proofs.walk.tell.Reads as tell-reads
+use Rattle.macho.proofs.reloc.Reloc.read.Reads as reloc-Reloc-read-reads
+use Rattle.macho.proofs.resolved.Resolved.read.Reads as resolved-Resolved-read-reads
+
+abbrev Inv-loop : tie.InvT-loop
+Inv-loop buf₀ bases rels targets slots₀ n i₀ count₀ buf slots i count =
+    (i ≤ entries rels)
+    × (consumed rels i ≡ false)
+    × (count ≤ i)
+    × (count ≡ length (fixTo bases rels targets buf₀ i .reports))
+    × (buf ≡ fixTo bases rels targets buf₀ i .section)
+    × (slots ≡ sets slots₀ 0 (reportsBytes (fixTo bases rels targets buf₀ i .reports)))
+    × (length slots ≡ length slots₀)
+
+abbrev μ-loop : tie.MeasureT-loop
+μ-loop buf₀ bases rels targets slots₀ n i₀ count₀ buf slots i count = entries rels - i
+
+-- src/walk.rt:167:5
+loop-holds : tie.Need-loop-holds Inv-loop μ-loop
+unfolding consumed fixTo reportsBytes
+loop-holds c = (zero-le, refl, zero-le, refl, refl, refl, refl)
+
+-- src/walk.rt:168:35
+mul-read : tie.Need-mul-read Inv-loop μ-loop
+mul-read c = search needs
+
+-- src/walk.rt:168:13
+read-requires : tie.Need-read-requires Inv-loop μ-loop
+read-requires c κs = search needs
+
+-- src/walk.rt:169:41
+mul-read-2 : tie.Need-mul-read-2 Inv-loop μ-loop
+mul-read-2 c = search needs
+
+-- src/walk.rt:169:13
+read-requires-2 : tie.Need-read-requires-2 Inv-loop μ-loop
+read-requires-2 c κs = search needs
+
+-- src/walk.rt:170:13
+change-at-requires : tie.Need-change-at-requires Inv-loop μ-loop
+change-at-requires c κs =
+    let l = c .before .before .before in
+    let p = l .before .loop in
+    let a = l .before .before .before .before .before .before in
+    let len = ap length (p .inv .4) ∙ length-fix _ _ _ _ (p .i) in
+    let fine =
+    fine-at _ _ _ (now (a .args .buf)) (p .i) (p .inv .1) (a .pre .0) (l .loop-test .taken) (c .before .before .read .ensures)
+    (c .before .read2 .ensures) len in
+    ((l .loop-test .taken, a .pre .1 .1, a .pre .1 .0), fine)
+
+-- src/walk.rt:173:20
+cast-store : tie.Need-cast-store Inv-loop μ-loop
+cast-store c = search needs
+
+-- src/walk.rt:173:9
+store-requires : tie.Need-store-requires Inv-loop μ-loop
+store-requires c κs =
+    let r = c .before .before .before .before in
+    let l = r .before .before in
+    let p = l .before .loop in
+    let a = l .before .before .before .before .before .before in
+    let len = ap length (p .inv .4) ∙ length-fix _ _ _ _ (p .i) in
+    let fine =
+    fine-at _ _ _ (now (a .args .buf)) (p .i) (p .inv .1) (a .pre .0) (l .loop-test .taken) (r .before .read .ensures) (r .read2 .ensures) len in
+    room _ _ _ _ _ _ _ _ _ fine (c .before .before .change-at .ensures)
+
+-- src/walk.rt:174:9
+tell-requires : tie.Need-tell-requires Inv-loop μ-loop
+tell-requires c κs =
+    let l = c .before .before .before .before .before .before .before .before .before .before in
+    let p = l .before .loop in
+    omega (arith, l .before .before .before .before .before .before .pre .1 .2, p .inv .6, p .inv .2, l .loop-test .taken)
+
+-- src/walk.rt:175:14
+taken-requires : tie.Need-taken-requires Inv-loop μ-loop
+taken-requires c κs = search needs
+
+-- src/walk.rt:175:9
+add-i : tie.Need-add-i Inv-loop μ-loop
+add-i c =
+    let h = c .before .before .before .before .before .before .before .before .before .before in
+    let l = h .before .before .before .before in
+    let t = takes (h .before .before .before .read .result .ty) (c .taken .ensures) in
+    omega (arith, l .before .before .before .before .before .before .pre .1 .1, l .loop-test .taken)
+
+-- src/walk.rt:167:5
+loop-less : tie.Need-loop-less Inv-loop μ-loop
+loop-less c =
+    let h = c .before .before .before .before .before .before .before .before .before .before in
+    let t = takes (h .before .before .before .read .result .ty) (c .taken .ensures) in
+    omega (arith, h .before .before .before .before .loop-test .taken)
+
+-- src/walk.rt:167:5
+loop-again : tie.Need-loop-again Inv-loop μ-loop
+loop-again c =
+    let t = c .before .before .before .tell .ensures in
+    let s = c .before .before .before .before .before .before .before in
+    let h = s .before .before .before in
+    let l = h .before .before .before .before in
+    let p = l .before .loop in
+    let a = l .before .before .before .before .before .before in
+    let w =
+    work-again _ _ _ (now (a .args .buf)) (p .i) (p .inv .1) (h .before .before .before .read .ensures) (h .before .before .read2 .ensures)
+    (c .taken .ensures) (p .inv .4) (h .change-at .ensures) (now (a .args .slots)) (l .loop-test .taken) (a .pre .0) (p .inv .2) (p .inv .3) (p .inv .5)
+    (s .store .ensures) (t .0) (t .1) in
+    (w .0, w .1, w .2, w .3, w .4, w .5, omega arith)
+
+-- src/walk.rt:158:1
+same-length : tie.Need-same-length Inv-loop μ-loop
+same-length c = ap length (c .before .loop .inv .4) ∙ length-fix _ _ _ _ (c .before .loop .i)
+
+-- src/walk.rt:158:1
+same-length-2 : tie.Need-same-length-2 Inv-loop μ-loop
+same-length-2 c = c .before .loop .inv .6
+
+-- src/walk.rt:158:1
+returns : tie.Need-returns Inv-loop μ-loop
+returns c =
+    let p = c .before .loop in
+    let a = c .before .before .before .before .before .before in
+    work-done _ _ _ (now (a .args .buf)) _ (p .i) (p .inv .0) (c .loop-test .left) (p .inv .2) (a .pre .1 .2) (p .inv .3) (p .inv .4) (p .inv .5)
+
+pub work-all-spec : {M : Type 1} → statement M
+work-all-spec =
+    tie.close
+    (tie.spec
+    Inv-loop
+    μ-loop
+    loop-holds
+    mul-read
+    read-requires
+    mul-read-2
+    read-requires-2
+    change-at-requires
+    cast-store
+    store-requires
+    tell-requires
+    taken-requires
+    add-i
+    loop-less
+    loop-again
+    same-length
+    same-length-2
+    returns)

@@ -1,0 +1,98 @@
+-- The whole call: a refusal that leaves everything, or the fixed section with its reports (document 01, "Turned-down input", "Records lent by the linker").
+use Prim.Native.Nat.{ℕ, _*_, _/_, _%_, _^_}
+use mathlib.Core.Bool.{Bool, _||_, not}
+use mathlib.Core.List.{List, [], _∷_, _++_}
+use lib.Dec.{eqb, ltb, leb}
+use lib.ListN.{length, drop}
+use Rattle.util.specs.Choice.{choose}
+use Rattle.macho.specs.Refusal as Refusal
+use Rattle.macho.specs.Report.{reportBytes}
+use Rattle.macho.specs.declared.report.Report.{Report}
+use Rattle.macho.specs.declared.refusal.Refusal.{Refusal}
+use Rattle.macho.specs.declared.refusal.Refusal.the-variants.{Lengths, Slots}
+use Rattle.arm64_fixup.specs.Walk.{checkAll, Fixed, fixAll}
+use Rattle.arm64_entry.specs.declared.target.Bases.{Bases}
+use Rattle.arm64_entry.specs.declared.check.Checked.{Checked}
+use Rattle.arm64_entry.specs.declared.check.Checked.the-variants as C
+use Rattle.arm64_fixup.specs.declared.walk.FixAnswer.{FixAnswer}
+use Rattle.arm64_fixup.specs.declared.walk.FixAnswer.the-variants.{Filled, Refused}
+
+-- number 1: no whole entries or targets, more than 2^32 - 1 entries, or not one target an entry
+abbrev pub disagree : ℕ → ℕ → Bool
+disagree rels targets =
+    not (eqb (rels % 24) 0) || not (eqb (targets % 48) 0) || leb (2 ^ 32) (rels / 24) || not (eqb (rels / 24) (targets / 48))
+
+-- number 2: fewer than 24 bytes of slots for each entry
+abbrev pub lacksSlots : ℕ → ℕ → Bool
+lacksSlots rels slots = ltb slots (24 * (rels / 24))
+
+-- the numbers of the lists' lengths, before those of the entries
+unfoldable pub checkLists : ℕ → ℕ → ℕ → Checked
+checkLists rels targets slots =
+    choose (disagree rels targets) (C.Refused Lengths) (choose (lacksSlots rels slots) (C.Refused Slots) C.Fine)
+
+-- the address of the section's first byte, and the start of thread-local storage
+abbrev pub basesOf : ℕ → ℕ → Bases
+basesOf base tls = record { base = base; «tls_begin» = tls }
+
+-- what a call does: nothing, or the fixed section with its reports
+pub data Outcome : Type 0 where
+  refused : Refusal → Outcome
+  fixed : Fixed → Outcome
+
+-- a refusal, or what comes after the checks
+abbrev pub after : Checked → Outcome → Outcome
+after (C.Refused r) o = refused r
+after C.Fine o = o
+
+-- the lists' lengths first, then the entries, and only then the work
+unfoldable pub outcomeOf : List ℕ → Bases → List ℕ → List ℕ → List ℕ → Outcome
+outcomeOf section b rels targets slots =
+    after (checkLists (length rels) (length targets) (length slots))
+    (after (checkAll (length section) b rels targets) (fixed (fixAll b rels targets section)))
+
+-- the answer: how many reports were filled, or the refusal
+abbrev pub answerOf : Outcome → FixAnswer
+answerOf (refused r) = Refused r
+answerOf (fixed f) = Filled (length (f .reports))
+
+-- the section at exit
+abbrev pub sectionAfter : Outcome → List ℕ → List ℕ
+sectionAfter (refused r) section = section
+sectionAfter (fixed f) section = f .section
+
+-- the reports' bytes one after another
+unfoldable pub reportsBytes : List Report → List ℕ
+reportsBytes [] = []
+reportsBytes (r ∷ rs) = reportBytes r ++ reportsBytes rs
+
+-- the slots with the reports from the front on, and after them the old bytes
+abbrev pub filled : Fixed → List ℕ → List ℕ
+filled f slots = reportsBytes (f .reports) ++ drop (24 * length (f .reports)) slots
+
+-- the slots at exit
+abbrev pub slotsAfter : Outcome → List ℕ → List ℕ
+slotsAfter (refused r) slots = slots
+slotsAfter (fixed f) slots = filled f slots
+
+-- what a call answers to what was lent
+abbrev pub answerTo : List ℕ → ℕ → ℕ → List ℕ → List ℕ → List ℕ → FixAnswer
+answerTo section base tls rels targets slots = answerOf (outcomeOf section (basesOf base tls) rels targets slots)
+
+-- the section after it
+abbrev pub sectionTo : List ℕ → ℕ → ℕ → List ℕ → List ℕ → List ℕ → List ℕ
+sectionTo section base tls rels targets slots = sectionAfter (outcomeOf section (basesOf base tls) rels targets slots) section
+
+-- the slots after it
+abbrev pub slotsTo : List ℕ → ℕ → ℕ → List ℕ → List ℕ → List ℕ → List ℕ
+slotsTo section base tls rels targets slots = slotsAfter (outcomeOf section (basesOf base tls) rels targets slots) slots
+
+-- document 01's number of an answer, 0 for none
+abbrev pub numberOf : FixAnswer → ℕ
+numberOf (Filled n) = 0
+numberOf (Refused r) = Refusal.numberOf r
+
+-- the reports that an answer counts
+abbrev pub filledOf : FixAnswer → ℕ
+filledOf (Filled n) = n
+filledOf (Refused r) = 0

@@ -1,0 +1,45 @@
+-- One stub entry and one thunk entry (document 01, "Order of the port"; arch/arm64.rs, `write_stubs` and `write_thunk`).
+use Prim.Native.Nat.{ℕ}
+use mathlib.Core.List.{List}
+use lib.Dec.{ltb}
+use lib.ListN.{length}
+use Rattle.util.specs.Choice.{choose}
+use Rattle.util.specs.Word.{put}
+use Rattle.macho.specs.Refusal as Refusal
+use Rattle.macho.specs.declared.refusal.Refusal.the-variants.{Bounds}
+use Rattle.arm64_insn.specs.Reach.{adrpReaches}
+use Rattle.arm64_insn.specs.Stub.{stubWords, thunkWords}
+use Rattle.arm64_insn.specs.declared.stub.Words3.{Words3}
+use Rattle.arm64_fixup.specs.declared.stub.StubAnswer.{StubAnswer}
+use Rattle.arm64_fixup.specs.declared.stub.StubAnswer.the-variants as S
+use Rattle.arm64_fixup.specs.declared.stub.ThunkAnswer.{ThunkAnswer}
+use Rattle.arm64_fixup.specs.declared.stub.ThunkAnswer.the-variants as T
+
+-- three words at the front, where there are 12 bytes
+unfoldable pub wordsIn : List ℕ → Words3 → List ℕ
+wordsIn s w = choose (ltb (length s) 12) s (put 4 (put 4 (put 4 s 0 (w .first)) 4 (w .second)) 8 (w .third))
+
+-- a stub entry at addr with its pointer at ptr: written, with whether ADRP reaches; or fewer than 12 bytes
+unfoldable pub stubAnswer : List ℕ → ℕ → ℕ → StubAnswer
+stubAnswer s addr ptr = choose (ltb (length s) 12) (S.Refused Bounds) (choose (adrpReaches ptr addr) S.Reaches S.OutOfReach)
+
+-- a thunk entry
+unfoldable pub thunkAnswer : List ℕ → ThunkAnswer
+thunkAnswer s = choose (ltb (length s) 12) (T.Refused Bounds) T.Written
+
+-- document 01's number of a stub's answer, 0 for none
+abbrev pub stubNumber : StubAnswer → ℕ
+stubNumber S.Reaches = 0
+stubNumber S.OutOfReach = 0
+stubNumber (S.Refused r) = Refusal.numberOf r
+
+-- whether the ADRP of a stub entry reaches its pointer's page, as 1 or 0
+abbrev pub reachesOf : StubAnswer → ℕ
+reachesOf S.Reaches = 1
+reachesOf S.OutOfReach = 0
+reachesOf (S.Refused r) = 0
+
+-- document 01's number of a thunk's answer
+abbrev pub thunkNumber : ThunkAnswer → ℕ
+thunkNumber T.Written = 0
+thunkNumber (T.Refused r) = Refusal.numberOf r

@@ -1,0 +1,104 @@
+-- The entries one after another: which number turns the list down, and what the list does (document 01, "Fix-up and hint rules", "Turned-down input").
+use Prim.Native.Nat.{ℕ, zero, suc, _+_, _*_, _/_}
+use mathlib.Core.Bool.{Bool, true, false, _&&_, not}
+use mathlib.Core.List.{List, [], _∷_, _++_}
+use lib.Dec.{eqb}
+use lib.ListN.{length}
+use Rattle.util.specs.Choice.{choose}
+use Rattle.util.specs.Word.{le, put}
+use Rattle.macho.specs.Reloc.{relocAt}
+use Rattle.macho.specs.Resolved.{resolvedAt}
+use Rattle.macho.specs.declared.reloc.Reloc.{Reloc}
+use Rattle.macho.specs.declared.resolved.Resolved.{Resolved}
+use Rattle.macho.specs.declared.report.Report as R
+use Rattle.arm64_entry.specs.Check.{subtracts, checkOf}
+use Rattle.arm64_entry.specs.Change.{changeOf}
+use Rattle.arm64_entry.specs.declared.target.Bases.{Bases}
+use Rattle.arm64_entry.specs.declared.check.Checked.{Checked}
+use Rattle.arm64_entry.specs.declared.check.Checked.the-variants.{Fine, Refused}
+use Rattle.arm64_entry.specs.declared.change.Write.{Write}
+use Rattle.arm64_entry.specs.declared.change.Write.the-variants.{Nothing, Word, Pointer}
+use Rattle.arm64_entry.specs.declared.change.Told.{Told}
+use Rattle.arm64_entry.specs.declared.change.Told.the-variants.{Silent, Report}
+use Rattle.arm64_entry.specs.declared.change.Change.{Change}
+
+-- entry i
+abbrev pub entryAt : List ℕ → ℕ → Reloc
+entryAt rels i = relocAt rels (24 * i)
+
+-- its target
+abbrev pub targetAt : List ℕ → ℕ → Resolved
+targetAt targets i = resolvedAt targets (48 * i)
+
+-- how many entries a list has
+abbrev pub entries : List ℕ → ℕ
+entries rels = length rels / 24
+
+-- how many entries the work of one takes
+abbrev pub takenBy : ℕ → ℕ
+takenBy ty = choose (subtracts ty) 2 1
+
+-- whether the SUBTRACTOR before it takes entry i
+unfoldable pub consumed : List ℕ → ℕ → Bool
+consumed rels zero = false
+consumed rels (suc i) = subtracts (entryAt rels i .ty) && not (consumed rels i)
+
+-- the check of entry i; a consumed one is not looked at
+unfoldable pub checkAt : ℕ → Bases → List ℕ → List ℕ → ℕ → Checked
+checkAt len b rels targets i =
+    choose (consumed rels i) Fine (checkOf len b (entryAt rels i) (targetAt targets i) (eqb (i + 1) (entries rels)))
+
+-- the first refusal of two checks
+abbrev pub first : Checked → Checked → Checked
+first (Refused r) c = Refused r
+first Fine c = c
+
+-- the first refusal among the first k entries
+unfoldable pub checkTo : ℕ → Bases → List ℕ → List ℕ → ℕ → Checked
+checkTo len b rels targets zero = Fine
+checkTo len b rels targets (suc i) = first (checkTo len b rels targets i) (checkAt len b rels targets i)
+
+-- the first refusal among all entries
+abbrev pub checkAll : ℕ → Bases → List ℕ → List ℕ → Checked
+checkAll len b rels targets = checkTo len b rels targets (entries rels)
+
+-- the bytes with a write at a place
+abbrev pub stored : List ℕ → ℕ → Write → List ℕ
+stored s at Nothing = s
+stored s at (Word v) = put 4 s at v
+stored s at (Pointer v) = put 8 s at v
+
+-- the reports of what is told
+abbrev pub reportsOf : Told → List R.Report
+reportsOf Silent = []
+reportsOf (Report r) = r ∷ []
+
+-- the section's bytes and the reports so far
+pub record Fixed : Type 0 where
+  pub section : List ℕ
+  pub reports : List R.Report
+
+-- what an entry i does to the section: the next entry and the word at its place are looked up
+abbrev pub changeBy : Bases → List ℕ → List ℕ → List ℕ → ℕ → Reloc → Resolved → Change
+changeBy b rels targets section i e t = changeOf b i e t (entryAt rels (i + 1)) (targetAt targets (i + 1)) (le 4 section (e .offset))
+
+-- what entry i of the list does to the section
+abbrev pub changeAt : Bases → List ℕ → List ℕ → List ℕ → ℕ → Change
+changeAt b rels targets section i = changeBy b rels targets section i (entryAt rels i) (targetAt targets i)
+
+-- a change at a place
+abbrev pub applied : Fixed → ℕ → Change → Fixed
+applied f at c = record { section = stored (f .section) at (c .write); reports = f .reports ++ reportsOf (c .told) }
+
+-- entry i after those before it; a consumed one does nothing of its own
+unfoldable pub workAt : Bases → List ℕ → List ℕ → Fixed → ℕ → Fixed
+workAt b rels targets f i = choose (consumed rels i) f (applied f (entryAt rels i .offset) (changeAt b rels targets (f .section) i))
+
+-- the first k entries, from the lent section on
+unfoldable pub fixTo : Bases → List ℕ → List ℕ → List ℕ → ℕ → Fixed
+fixTo b rels targets section zero = record { section = section; reports = [] }
+fixTo b rels targets section (suc i) = workAt b rels targets (fixTo b rels targets section i) i
+
+-- all entries
+abbrev pub fixAll : Bases → List ℕ → List ℕ → List ℕ → Fixed
+fixAll b rels targets section = fixTo b rels targets section (entries rels)

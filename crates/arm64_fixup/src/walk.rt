@@ -1,0 +1,202 @@
+// The fix-up of a section: a walk that checks every entry, then one that works them (apply_reloc_alloc).
+use arm64_entry::change::Change;
+use arm64_entry::change::Site;
+use arm64_entry::change::Told;
+use arm64_entry::change::Write;
+use arm64_entry::change::difference;
+use arm64_entry::change::silent;
+use arm64_entry::change::subtractor_value;
+use arm64_entry::change::unsigned_value;
+use arm64_entry::change::word_change;
+use arm64_entry::check::Checked;
+use arm64_entry::check::check_entry;
+use arm64_entry::check::subtracts;
+use arm64_entry::target::Bases;
+use arm64_entry::target::width_of;
+use macho::consts::ARM64_RELOC_UNSIGNED;
+use macho::refusal::Refusal;
+use macho::reloc::Reloc;
+use macho::resolved::Resolved;
+use util::read32;
+use util::write32;
+use util::write64;
+ghost use mathlib.Core.Path.{_≡_};
+ghost use Prim.Native.Nat.{_+_, _*_, _/_, _≤_, _<_, _^_};
+ghost use lib.Dec.{eqb};
+ghost use lib.ListN.{length};
+ghost use lib.Seq.{sets};
+ghost use Rattle.arm64_entry.specs.Check.{checkOf};
+ghost use Rattle.arm64_entry.specs.Change.{bytesIn};
+ghost use Rattle.arm64_fixup.specs.Walk.{entries, takenBy, checkAll, stored, reportsOf, changeBy, fixAll};
+ghost use Rattle.arm64_fixup.specs.Answer.{checkLists, reportsBytes, filled, answerTo, sectionTo, slotsTo};
+
+// What the fix-up of a section answers: the reports filled, or why nothing was changed.
+pub enum FixAnswer {
+    Filled(usize),
+    Refused(Refusal),
+}
+
+// The numbers of the lists' lengths.
+fn check_lists(rels: usize, targets: usize, slots: usize) -> Checked
+    ensures { λ r. ⌜ r ≡ checkLists rels targets slots ⌝ }
+{
+    if rels % 24 != 0 {
+        return Checked::Refused(Refusal::Lengths);
+    }
+    if targets % 48 != 0 {
+        return Checked::Refused(Refusal::Lengths);
+    }
+    if 0x1_0000_0000 <= rels / 24 {
+        return Checked::Refused(Refusal::Lengths);
+    }
+    if rels / 24 != targets / 48 {
+        return Checked::Refused(Refusal::Lengths);
+    }
+    if slots < 24 * (rels / 24) {
+        return Checked::Refused(Refusal::Slots);
+    }
+    Checked::Fine
+}
+
+// How many entries the work of one takes: a SUBTRACTOR takes the next one too.
+fn taken(ty: u8) -> usize
+    ensures { λ r. ⌜ r ≡ takenBy ty ⌝ }
+{
+    if subtracts(ty) {
+        return 2;
+    }
+    1
+}
+
+// The first walk: goes through all entries and writes nothing.
+fn check_all(len: usize, bases: Bases, rels: &[u8], targets: &[u8]) -> Checked
+    requires { ⌜ entries (now rels) ≡ length (now targets) / 48 ⌝ }
+    ensures { λ r. ⌜ r ≡ checkAll len bases (now (rels .entry)) (now (targets .entry)) ⌝ }
+{
+    let n = rels.len() / 24;
+    let mut i = 0;
+    while i < n {
+        let e = Reloc::read(rels, 24 * i);
+        let t = Resolved::read(targets, 48 * i);
+        match check_entry(len, bases, e, t, i + 1 == n) {
+            Checked::Refused(r) => {
+                return Checked::Refused(r);
+            }
+            Checked::Fine => {
+                i += taken(e.ty);
+            }
+        }
+    }
+    Checked::Fine
+}
+
+// What entry i does.
+fn change_at(
+    buf: &[u8],
+    bases: Bases,
+    rels: &[u8],
+    targets: &[u8],
+    i: usize,
+    e: Reloc,
+    t: Resolved,
+) -> Change
+    requires { ⌜ (i < entries (now rels)) × (entries (now rels) < 2 ^ 32) × (entries (now rels) ≡ length (now targets) / 48) ⌝ }
+    requires { ⌜ checkOf (length (now buf)) bases e t (eqb (i + 1) (entries (now rels))) ≡ Checked.Fine ⌝ }
+    ensures { λ r. ⌜ r ≡ changeBy bases (now (rels .entry)) (now (targets .entry)) (now (buf .entry)) i e t ⌝ }
+{
+    if width_of(e, t) == 0 {
+        return silent(Write::Nothing);
+    }
+    if e.ty == ARM64_RELOC_UNSIGNED {
+        return silent(Write::Pointer(unsigned_value(bases, e, t)));
+    }
+    if subtracts(e.ty) {
+        let next = Reloc::read(rels, 24 * (i + 1));
+        let next_target = Resolved::read(targets, 48 * (i + 1));
+        return difference(e, subtractor_value(t, next, next_target));
+    }
+    let at = e.offset as usize;
+    let s = Site {
+        entry: i as u32,
+        place: bases.base + e.offset as u64,
+    };
+    word_change(s, e, t, read32(buf, at))
+}
+
+// Stores what a change writes.
+fn store(buf: &mut [u8], at: usize, w: Write)
+    requires { ⌜ at + bytesIn w ≤ length (now buf) ⌝ }
+    ensures { λ _. ⌜ now (buf .exit) ≡ stored (now (buf .entry)) at w ⌝ }
+{
+    match w {
+        Write::Nothing => {}
+        Write::Word(v) => {
+            write32(buf, at, v);
+        }
+        Write::Pointer(v) => {
+            write64(buf, at, v);
+        }
+    }
+}
+
+// Stores what a change reports in the next slot, and counts it.
+fn tell(slots: &mut [u8], count: usize, told: Told) -> usize
+    requires { ⌜ 24 * count + 24 ≤ length (now slots) ⌝ }
+    ensures count { λ r. ⌜ r ≡ count + length (reportsOf told) ⌝ }
+    ensures slots { λ _. ⌜ now (slots .exit) ≡ sets (now (slots .entry)) (24 * count) (reportsBytes (reportsOf told)) ⌝ }
+{
+    match told {
+        Told::Silent => count,
+        Told::Report(r) => {
+            r.write(slots, 24 * count);
+            count + 1
+        }
+    }
+}
+
+// The second walk, after the first has found nothing to turn down: works each entry on what those before it left.
+fn work_all(buf: &mut [u8], bases: Bases, rels: &[u8], targets: &[u8], slots: &mut [u8]) -> usize
+    requires { ⌜ checkAll (length (now buf)) bases (now rels) (now targets) ≡ Checked.Fine ⌝ }
+    requires { ⌜ (entries (now rels) ≡ length (now targets) / 48) × (entries (now rels) < 2 ^ 32) × (24 * entries (now rels) ≤ length (now slots)) ⌝ }
+    ensures count { λ r. ⌜ r ≡ length (fixAll bases (now (rels .entry)) (now (targets .entry)) (now (buf .entry)) .reports) ⌝ }
+    ensures section { λ _. ⌜ now (buf .exit) ≡ fixAll bases (now (rels .entry)) (now (targets .entry)) (now (buf .entry)) .section ⌝ }
+    ensures slots { λ _. ⌜ now (slots .exit) ≡ filled (fixAll bases (now (rels .entry)) (now (targets .entry)) (now (buf .entry))) (now (slots .entry)) ⌝ }
+{
+    let n = rels.len() / 24;
+    let mut i = 0;
+    let mut count = 0;
+    while i < n {
+        let e = Reloc::read(rels, 24 * i);
+        let t = Resolved::read(targets, 48 * i);
+        let c = change_at(buf, bases, rels, targets, i, e, t);
+        let w = c.write;
+        let told = c.told;
+        store(buf, e.offset as usize, w);
+        count = tell(slots, count, told);
+        i += taken(e.ty);
+    }
+    count
+}
+
+// Fixes a section's bytes by its entries and their resolved targets, one target an entry, and fills the slots with reports.
+pub fn apply_reloc_alloc(
+    buf: &mut [u8],
+    base: u64,
+    tls_begin: u64,
+    rels: &[u8],
+    targets: &[u8],
+    slots: &mut [u8],
+) -> FixAnswer
+    ensures answer { λ r. ⌜ r ≡ answerTo (now (buf .entry)) base «tls_begin» (now (rels .entry)) (now (targets .entry)) (now (slots .entry)) ⌝ }
+    ensures section { λ _. ⌜ now (buf .exit) ≡ sectionTo (now (buf .entry)) base «tls_begin» (now (rels .entry)) (now (targets .entry)) (now (slots .entry)) ⌝ }
+    ensures reports { λ _. ⌜ now (slots .exit) ≡ slotsTo (now (buf .entry)) base «tls_begin» (now (rels .entry)) (now (targets .entry)) (now (slots .entry)) ⌝ }
+{
+    let bases = Bases { base, tls_begin };
+    match check_lists(rels.len(), targets.len(), slots.len()) {
+        Checked::Refused(r) => FixAnswer::Refused(r),
+        Checked::Fine => match check_all(buf.len(), bases, rels, targets) {
+            Checked::Refused(r) => FixAnswer::Refused(r),
+            Checked::Fine => FixAnswer::Filled(work_all(buf, bases, rels, targets, slots)),
+        },
+    }
+}
