@@ -1,0 +1,129 @@
+-- The machine on closed words: each fact is computed.
+use mathlib.Core.Path.{_≡_, refl}
+use mathlib.Core.List.{[], _∷_}
+use Prim.Native.Nat.{ℕ, _+_, _%_}
+use Rattle.util.specs.Choice.{choose}
+use Rattle.arm64_insn.specs.LoadStoreTable.{rowOf, literalRowOf}
+use Rattle.arm64_insn.specs.Manual.{decode}
+use Rattle.arm64_insn.specs.ManualTargets.{adrTarget, literalTarget, accessAddress}
+use Rattle.arm64_insn.specs.Page.{pageOf, adrpPage}
+use Rattle.arm64_insn.specs.Manual as Manual
+use Rattle.arm64_machine.specs.Premises.{Each, links31, adds31, storesMade, Fair}
+use Rattle.arm64_machine.specs.SameRun.{SameRun}
+use Rattle.arm64_machine.proofs.FairLaws.{load-literal, add-adr, chain}
+use Rattle.arm64_machine.proofs.FairTest.{fair-by}
+use Rattle.arm64_machine.proofs.Rewrites.{folded}
+use Rattle.arm64_machine.proofs.Different.{literal-elsewhere}
+use lib.Dec.{lit<}
+use native.Mathlib.Omega.{arith}
+use Rattle.arm64_machine.specs.Machine.{Kind, load, store, Access, State, Other, placed, other, action}
+use Rattle.arm64_machine.specs.Machine.{read, write, setX, setSP, setV, setMemory, listed, base, moved, run}
+
+-- each register holds 0x10f0 plus its number, the stack pointer 0x2000, each byte the low byte of its address
+abbrev start : State
+start = record { x = λ r. 0x10f0 + r; sp = 0x2000; v = λ r. 0x10f0 + r; memory = λ a. a % 256; log = [] }
+
+abbrev idle : Other
+idle w p x sp v memory = record { x = x; sp = sp; v = v; memory = memory; log = [] }
+
+-- the state after one word at 0x1004
+abbrev after : ℕ → State
+after w = run idle (placed w 0x1004 ∷ []) start
+
+abbrev entry : Kind → ℕ → ℕ → ℕ → Access
+entry k a n u = record { kind = k; address = a; width = n; value = u }
+
+-- what single words do
+pub record Examples : Type 0 where
+  -- adr x1, .-1
+  adr : (after 0x70ffffe1) .x 1 ≡ 0x1003
+  -- adrp x0, one page up; adrp x0, two pages down, which wraps
+  adrp-up : (after 0xb0000000) .x 0 ≡ 0x2000
+  adrp-wraps : (after 0xd0ffffe0) .x 0 ≡ 0xfffffffffffff000
+  -- adrp xzr: nothing is kept
+  adrp-31 : (after 0xb000001f) .sp ≡ 0x2000
+  -- add x2, x0, #16; add x2, sp, #16; add sp, x0, #16
+  add-x : (after 0x91004002) .x 2 ≡ 0x1100
+  add-from-sp : (after 0x910043e2) .x 2 ≡ 0x2010
+  add-to-sp : (after 0x9100401f) .sp ≡ 0x1100
+  -- ldr x1, [x0, #8]; ldr x1, [sp, #8]
+  load-x : ((after 0xf9400401) .x 1 ≡ 0xfffefdfcfbfaf9f8) × ((after 0xf9400401) .log ≡ entry load 0x10f8 8 0xfffefdfcfbfaf9f8 ∷ [])
+  load-from-sp : (after 0xf94007e1) .x 1 ≡ 0x0f0e0d0c0b0a0908
+  -- ldrsw x1, [x0, #4]; ldrsb w1, [x0, #1]; ldrb w1, [x0, #1]
+  load-sw : ((after 0xb9800401) .x 1 ≡ 0xfffffffff7f6f5f4) × ((after 0xb9800401) .log ≡ entry load 0x10f4 4 0xf7f6f5f4 ∷ [])
+  load-sb : (after 0x39c00401) .x 1 ≡ 0xfffffff1
+  load-b : (after 0x39400401) .x 1 ≡ 0xf1
+  -- ldr q1, [x0]; ldr s1, [x0]
+  load-q : ((after 0x3dc00001) .v 1 ≡ 0xfffefdfcfbfaf9f8f7f6f5f4f3f2f1f0) × ((after 0x3dc00001) .x 1 ≡ 0x10f1)
+  load-s : (after 0xbd400001) .v 1 ≡ 0xf3f2f1f0
+  -- ldr x1, .+4
+  load-literal : ((after 0x58000021) .x 1 ≡ 0x0f0e0d0c0b0a0908) × ((after 0x58000021) .log ≡ entry load 0x1008 8 0x0f0e0d0c0b0a0908 ∷ [])
+  -- ldr xzr, [x0, #8]: the access is listed, and nothing is kept
+  load-31 : ((after 0xf940041f) .sp ≡ 0x2000) × ((after 0xf940041f) .log ≡ entry load 0x10f8 8 0xfffefdfcfbfaf9f8 ∷ [])
+  -- str w1, [x0, #8]
+  store-w : ((after 0xb9000801) .memory 0x10f9 ≡ 0x10) × ((after 0xb9000801) .log ≡ entry store 0x10f8 4 0x10f1 ∷ [])
+  -- str xzr, [x0, #8]: zeros
+  store-31 : ((after 0xf900041f) .memory 0x10f9 ≡ 0) × ((after 0xf900041f) .log ≡ entry store 0x10f8 8 0 ∷ [])
+  -- str q31, [x0, #16]
+  store-q31 : (after 0x3d80041f) .log ≡ entry store 0x1100 16 0x110f ∷ []
+  -- nop
+  nop : after 0xd503201f ≡ start
+  -- prfm, add x0, x1, #1, lsl #12, add w0, w1, #1, b, bl, br x16, mov x0, #0, and an unallocated word are other words
+  others : Each (λ w. action w ≡ other) (0xf9800000 ∷ 0x91400420 ∷ 0x11000420 ∷ 0x14000001 ∷ 0x94000001 ∷ 0xd61f0200 ∷ 0xd2800000 ∷ 0xbd800000 ∷ [])
+
+examples : Examples
+unfolding action decode choose rowOf literalRowOf pageOf adrpPage adrTarget literalTarget accessAddress base moved read write setX setSP setV setMemory listed
+examples = record {
+  adr = refl;
+  adrp-up = refl;
+  adrp-wraps = refl;
+  adrp-31 = refl;
+  add-x = refl;
+  add-from-sp = refl;
+  add-to-sp = refl;
+  load-x = (refl, refl);
+  load-from-sp = refl;
+  load-sw = (refl, refl);
+  load-sb = refl;
+  load-b = refl;
+  load-q = (refl, refl);
+  load-s = refl;
+  load-literal = (refl, refl);
+  load-31 = (refl, refl);
+  store-w = (refl, refl);
+  store-31 = (refl, refl);
+  store-q31 = refl;
+  nop = refl;
+  others = (refl, (refl, (refl, (refl, (refl, (refl, (refl, (refl, tt))))))));
+}
+
+-- bench pieces 6 to 8: their words are fair, and run as what becomes of them
+pub fair-6 : Fair (placed 0x90000000 0x1000 ∷ placed 0xf9400401 0x1004 ∷ [])
+unfolding Manual.allocated links31 adds31 storesMade action decode choose rowOf
+fair-6 = fair-by refl refl refl refl refl
+
+pub piece-6 : SameRun (placed 0x90000000 0x1000 ∷ placed 0xf9400401 0x1004 ∷ []) (placed 0xd503201f 0x1000 ∷ placed 0x58000021 0x1004 ∷ [])
+unfolding action decode choose rowOf literalRowOf pageOf adrpPage literalTarget accessAddress
+piece-6 = load-literal fair-6 refl refl refl refl refl
+
+pub fair-7 : Fair (placed 0x90000000 0x1000 ∷ placed 0x91000c00 0x1004 ∷ [])
+unfolding Manual.allocated links31 adds31 storesMade action decode choose
+fair-7 = fair-by refl refl refl refl refl
+
+pub piece-7 : SameRun (placed 0x90000000 0x1000 ∷ placed 0x91000c00 0x1004 ∷ []) (placed 0x70000000 0x1000 ∷ placed 0xd503201f 0x1004 ∷ [])
+unfolding action decode choose pageOf adrpPage adrTarget
+piece-7 = add-adr fair-7 refl refl refl refl refl
+
+pub fair-8 : Fair (placed 0x90001000 0x1000 ∷ placed 0x91004000 0x1004 ∷ placed 0xf9000001 0x1008 ∷ [])
+unfolding Manual.allocated links31 adds31 storesMade action decode choose rowOf
+fair-8 = fair-by refl refl refl refl refl
+
+pub piece-8 : SameRun (placed 0x90001000 0x1000 ∷ placed 0x91004000 0x1004 ∷ placed 0xf9000001 0x1008 ∷ [])
+    (placed 0x90001000 0x1000 ∷ placed 0xd503201f 0x1004 ∷ placed 0xf9000801 0x1008 ∷ [])
+unfolding action decode choose rowOf pageOf adrpPage accessAddress
+piece-8 = folded (chain fair-8 refl refl refl) refl refl refl
+
+-- piece 6 with the literal load 4 bytes off
+pub off-by-4 : SameRun (placed 0x90000000 0x1000 ∷ placed 0xf9400401 0x1004 ∷ []) (placed 0xd503201f 0x1000 ∷ placed 0x58000041 0x1004 ∷ []) → ⊥
+unfolding action decode choose rowOf literalRowOf pageOf adrpPage literalTarget accessAddress
+off-by-4 = literal-elsewhere 0x90000000 0xf9400401 0xd503201f 0x58000041 refl refl refl refl (lit< tt) (λ e. omega arith)

@@ -1,0 +1,10 @@
+-- Laws of the machine's runs.
+pub mod Agree
+pub mod Rewrites
+pub mod Actions
+pub mod FairLaws
+pub mod FairTest
+pub mod Different
+pub mod Examples
+pub mod Accessed
+pub mod Words

@@ -1,0 +1,163 @@
+-- Each rewrite of a hint rule runs as the words that it replaces. Carried by `accesses`: the rewritten words make the same address, and what
+-- they leave unmade is a register that an earlier original word wrote.
+use mathlib.Core.Path.{_≡_, refl, _∙_}
+use mathlib.Core.Bool.{Bool, true, false, not, _&&_, _||_, true≢false}
+use mathlib.Core.List.{List, [], _∷_}
+use Prim.Native.Nat.{ℕ, _<_}
+use native.Mathlib.Omega.{arith}
+use lib.Dec.{eqb}
+use borrow.Author.Tests.{eq-eqb, ne-eqb}
+use Rattle.util.specs.Choice.{choose}
+use Rattle.util.specs.Wrap.{sum}
+use Rattle.util.proofs.Choice.{choose-true, choose-false}
+use Rattle.arm64_insn.specs.LoadStoreTable.{Row, load, Mnemonic, general, Widening}
+use Rattle.arm64_insn.specs.ManualTargets.{adrTarget, literalTarget, accessAddress}
+use Rattle.arm64_insn.specs.Page.{adrpPage}
+use Rattle.arm64_machine.specs.Machine.{adr, adrp, add, access, literal, nop, action}
+use Rattle.arm64_machine.specs.Machine.{State, Placed, placed, Other, setX, base, moved, run}
+use Rattle.arm64_machine.specs.SameRun.{loadsTo, spared, Agree, SameRun}
+use Rattle.arm64_machine.specs.Premises.{storesOf}
+use Rattle.arm64_machine.proofs.Agree.{same, weaken, set-at, left, right, sides, base-same, accesses}
+
+-- words run as themselves
+pub unchanged : (ws : List Placed) → SameRun ws ws
+unchanged ws = record { agree = λ o s. same (spared ws) (run o ws s) }
+
+-- a destination below 31 is no stack pointer
+not-31 : (d : ℕ) → d < 31 → eqb d 31 ≡ false
+not-31 d l = ne-eqb d 31 (λ q. omega arith)
+
+-- the base of an access is a register below 31 that was just set
+pub base-set : (d u : ℕ) (s : State) → d < 31 → base d (setX d u s) ≡ u
+unfolding base
+base-set d u s l = choose-false _ _ _ (not-31 d l) ∙ set-at d u d s l ∙ choose-true _ _ _ (eq-eqb d d refl)
+
+-- a number is equal to itself
+pub one : (d : ℕ) → eqb d d ≡ true
+one d = eq-eqb d d refl
+
+-- by states that agree but for registers that are spared
+by-states : {old new : List Placed} (f : ℕ → Bool) → ((r : ℕ) → spared old r ≡ false → f r ≡ false)
+    → ((o : Other) (s : State) → Agree f (run o old s) (run o new s)) → SameRun old new
+by-states f h a = record { agree = λ o s. weaken h (a o s) }
+
+-- ADRP, ADRP: the second, which makes the same page in the same register, becomes NOP
+pub second-dropped : {a b n p q d k l : ℕ} → action a ≡ adrp d k → action b ≡ adrp d l → action n ≡ nop → adrpPage k p ≡ adrpPage l q
+    → SameRun (placed a p ∷ placed b q ∷ []) (placed a p ∷ placed n q ∷ [])
+second-dropped {d = d} ea eb en h =
+    by-states (λ r. eqb r d && not (eqb r d)) (λ r e. rw (ea, eb) at e)
+    (λ o s. rw (ea, eb, en, ← h) (sides (λ r. eqb r d) d _ (left (λ r. eqb r d) d _ (one d) (same _ s))))
+
+-- ADRP, load: NOP and a literal load
+pub load-literal : {a b n b′ p q d k t i j : ℕ} {row : Row} → action a ≡ adrp d k → action b ≡ access row t d i → action n ≡ nop
+    → action b′ ≡ literal row t j → d < 31 → t < 32 → storesOf row t (λ r. eqb r d) ≡ false → accessAddress row (adrpPage k p) i ≡ literalTarget j q
+    → SameRun (placed a p ∷ placed b q ∷ []) (placed n p ∷ placed b′ q ∷ [])
+load-literal {p = p} {d = d} {k = k} {t = t} {row = row} ea eb en el hd ht kept h =
+    by-states (λ r. eqb r d && not (loadsTo row t r)) (λ r e. rw (ea, eb) at e)
+    (λ o s.
+    rw (ea, eb, en, el, base-set d (adrpPage k p) s hd, h)
+    (accesses (λ r. eqb r d) row t _ ht kept (left (λ r. eqb r d) d _ (one d) (same _ s))))
+
+-- ADRP, ADD: ADR and NOP
+pub add-adr : {a b a′ n p q d k e i j : ℕ} → action a ≡ adrp d k → action b ≡ add e d i → action a′ ≡ adr e j → action n ≡ nop
+    → d < 31 → e < 31 → sum (adrpPage k p) i ≡ adrTarget j p
+    → SameRun (placed a p ∷ placed b q ∷ []) (placed a′ p ∷ placed n q ∷ [])
+unfolding choose
+add-adr {p = p} {d = d} {k = k} {e = e} ea eb er en hd he h =
+    by-states (λ r. eqb r d && not (eqb r e)) (λ r z. rw (ea, eb) at z)
+    (λ o s.
+    rw (ea, eb, er, en, base-set d (adrpPage k p) s hd, h, not-31 e he)
+    (sides (λ r. eqb r d) e _ (left (λ r. eqb r d) d _ (one d) (same _ s))))
+
+or-true : (b c : Bool) → c ≡ true → (b || c) ≡ true
+or-true true c h = refl
+or-true false c h = h
+
+-- the two registers that ADRP and ADD make
+abbrev pub made : ℕ → ℕ → ℕ → Bool
+made d e r = eqb r e || eqb r d
+
+made-d : (d e : ℕ) → made d e d ≡ true
+made-d d e = or-true (eqb d e) _ (one d)
+
+made-e : (d e : ℕ) → made d e e ≡ true
+made-e d e = rw (one e)
+
+-- ADRP, ADD on what it made, and an access through what ADD made, which stores neither
+pub record Chain (a b c d k e i t j : ℕ) (row : Row) : Type 0 where
+  pub adrp-a : action a ≡ adrp d k
+  pub add-b : action b ≡ add e d i
+  pub access-c : action c ≡ access row t e j
+  pub low-d : d < 31
+  pub low-e : e < 31
+  pub low-t : t < 32
+  pub kept : storesOf row t (made d e) ≡ false
+
+module _ {a b c d k e i t j : ℕ} {row : Row} (h : Chain a b c d k e i t j row) where
+  -- by words that make the same access from a state that differs in the two registers only
+  by-access : {p q r : ℕ} {new : List Placed} (z : State → State)
+      → ((o : Other) (s : State) → run o new s ≡ moved row t (accessAddress row (sum (adrpPage k p) i) j) (z s)) → ((s : State) → Agree (made d e) s (z s))
+      → SameRun (placed a p ∷ placed b q ∷ placed c r ∷ []) new
+  unfolding choose
+  by-access {p = p} z g y =
+      by-states (λ j. made d e j && not (loadsTo row t j)) (λ j w. rw (h .adrp-a, h .add-b, h .access-c) at w)
+      (λ o s.
+      rw (
+        h .adrp-a,
+        h .add-b,
+        h .access-c,
+        base-set d (adrpPage k p) s (h .low-d),
+        not-31 e (h .low-e),
+        base-set e (sum (adrpPage k p) i) (setX d (adrpPage k p) s) (h .low-e),
+        g o s,
+      )
+      (accesses (made d e) row t _ (h .low-t) (h .kept) (left (made d e) e _ (made-e d e) (left (made d e) d _ (made-d d e) (y s)))))
+
+  -- NOP, NOP and a literal load
+  pub add-literal : {n c′ p q r l : ℕ} → action n ≡ nop → action c′ ≡ literal row t l → accessAddress row (sum (adrpPage k p) i) j ≡ literalTarget l r
+      → SameRun (placed a p ∷ placed b q ∷ placed c r ∷ []) (placed n p ∷ placed n q ∷ placed c′ r ∷ [])
+  add-literal en el w = by-access (λ s. s) (λ o s. rw (en, el, w)) (λ s. same _ s)
+
+  -- ADR, NOP and the access through ADR's register
+  pub add-adr-access : {a′ n c′ p q r l j′ : ℕ} → action a′ ≡ adr e l → action n ≡ nop → action c′ ≡ access row t e j′
+      → accessAddress row (sum (adrpPage k p) i) j ≡ accessAddress row (adrTarget l p) j′
+      → SameRun (placed a p ∷ placed b q ∷ placed c r ∷ []) (placed a′ p ∷ placed n q ∷ placed c′ r ∷ [])
+  add-adr-access {p = p} {l = l} er en el w =
+      by-access (λ s. setX e (adrTarget l p) s) (λ o s. rw (er, en, el, base-set e (adrTarget l p) s (h .low-e), w))
+      (λ s. right (made d e) e _ (made-e d e) (same _ s))
+
+  -- ADRP, NOP and the access through ADRP's register
+  pub folded : {n c′ p q r j′ : ℕ} → action n ≡ nop → action c′ ≡ access row t d j′
+      → accessAddress row (sum (adrpPage k p) i) j ≡ accessAddress row (adrpPage k p) j′
+      → SameRun (placed a p ∷ placed b q ∷ placed c r ∷ []) (placed a p ∷ placed n q ∷ placed c′ r ∷ [])
+  folded {p = p} en el w =
+      by-access (λ s. setX d (adrpPage k p) s) (λ o s. rw (h .adrp-a, en, el, base-set d (adrpPage k p) s (h .low-d), w))
+      (λ s. right (made d e) d _ (made-d d e) (same _ s))
+
+neither : (a b c : Bool) → (a || b) ≡ false → (b && c) ≡ false
+neither true b c h = absurd (true≢false h)
+neither false b c h = rw h
+
+pub never : (a b : Bool) → b ≡ true → (a && not b) ≡ false
+never true b h = rw h
+never false b h = refl
+
+-- ADRP, a load of a GOT slot, and an access through what it loaded: NOP, a literal load of the slot, and the access as it was
+pub slot-literal : {a b c n b′ p q r d k e i l t j z : ℕ} {m : Mnemonic} {g : Widening} {row : Row} → action a ≡ adrp d k
+    → action b ≡ access (load m general z g) e d i → action c ≡ access row t e j → action n ≡ nop → action b′ ≡ literal (load m general z g) e l
+    → d < 31 → e < 32 → t < 32 → storesOf row t (made d e) ≡ false → accessAddress (load m general z g) (adrpPage k p) i ≡ literalTarget l q
+    → SameRun (placed a p ∷ placed b q ∷ placed c r ∷ []) (placed n p ∷ placed b′ q ∷ placed c r ∷ [])
+slot-literal {p = p} {q = q} {d = d} {k = k} {e = e} {l = l} {t = t} {z = z} {m = m} {g = g} {row = row} ea eb ec en el hd he ht kept h =
+    by-states (λ j. made d e j && not (loadsTo row t j)) (λ j w. rw (ea, eb, ec) at w)
+    (λ o s.
+    rw (ea, eb, ec, en, el, base-set d (adrpPage k p) s hd, h, base-same loaded e he (λ l. never (eqb e d) (eqb e e) (one e)) (ends s))
+    (accesses (made d e) row t _ ht kept (weaken (λ j w. neither (eqb j e) (eqb j d) _ w) (ends s))))
+  where
+    loaded : ℕ → Bool
+    loaded j = eqb j d && not (eqb j e)
+
+    slot : State → State
+    slot s = moved (load m general z g) e (literalTarget l q) s
+
+    ends : (s : State) → Agree loaded (slot (setX d (adrpPage k p) s)) (slot s)
+    ends s = accesses (λ j. eqb j d) (load m general z g) e _ he refl (left (λ j. eqb j d) d _ (one d) (same _ s))

@@ -1,0 +1,54 @@
+-- When new words run as the old ones did (document 01, "The runs of demand 3"; demand 3, its first sentence).
+use Prim.Native.Nat.{ℕ, _<_}
+use mathlib.Core.Path.{_≡_}
+use mathlib.Core.Bool.{Bool, true, false, not, _&&_, _||_}
+use mathlib.Core.List.{List, [], _∷_}
+use lib.Dec.{eqb}
+use Rattle.arm64_insn.specs.LoadStoreTable.{Row, load, store, prefetch, unallocated, general, vector}
+use Rattle.arm64_machine.specs.Machine.{Action, adr, adrp, add, access, literal, nop, other, action, State, Placed, Other, run}
+
+-- whether a load or store of register t has general register r as its destination
+abbrev pub loadsTo : Row → ℕ → ℕ → Bool
+loadsTo (load m general n g) t r = eqb r t
+loadsTo (load m vector n g) t r = false
+loadsTo (store m c n) t r = false
+loadsTo (prefetch m) t r = false
+loadsTo unallocated t r = false
+
+-- whether general number r is an action's destination; what another word writes is not known, and counts as `unknown` says
+abbrev pub writesOr : Bool → Action → ℕ → Bool
+writesOr unknown (adr rd k) r = eqb r rd
+writesOr unknown (adrp rd k) r = eqb r rd
+writesOr unknown (add rd rn k) r = eqb r rd
+writesOr unknown (access row rt rn k) r = loadsTo row rt r
+writesOr unknown (literal row rt k) r = loadsTo row rt r
+writesOr unknown nop r = false
+writesOr unknown other r = unknown
+
+-- whether a word before the last is known to write r
+abbrev pub wroteBefore : List Placed → ℕ → Bool
+wroteBefore [] r = false
+wroteBefore (w ∷ []) r = false
+wroteBefore (w ∷ u ∷ ws) r = wroteBefore (u ∷ ws) r || writesOr false (action (w .word)) r
+
+-- whether the last word writes r, or may write it
+abbrev pub lastWrites : List Placed → ℕ → Bool
+lastWrites [] r = false
+lastWrites (w ∷ []) r = writesOr true (action (w .word)) r
+lastWrites (w ∷ u ∷ ws) r = lastWrites (u ∷ ws) r
+
+-- the general registers that may differ at the end: an earlier word wrote them, and the last does not
+abbrev pub spared : List Placed → ℕ → Bool
+spared ws = λ r. wroteBefore ws r && not (lastWrites ws r)
+
+-- equal states, but for the general registers that `but` names: the accesses in order, kind, address, width and value; data memory; registers
+pub record Agree (but : ℕ → Bool) (a b : State) : Type 0 where
+  pub log : a .log ≡ b .log
+  pub memory : a .memory ≡ b .memory
+  pub sp : a .sp ≡ b .sp
+  pub v : (r : ℕ) → a .v r ≡ b .v r
+  pub x : (r : ℕ) → r < 31 → but r ≡ false → a .x r ≡ b .x r
+
+-- from every state, and whatever other words do, the new words end as the old ones do
+pub record SameRun (old new : List Placed) : Type 0 where
+  pub agree : (o : Other) (s : State) → Agree (spared old) (run o old s) (run o new s)
