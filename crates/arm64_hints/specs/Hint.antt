@@ -1,0 +1,139 @@
+-- A lent hint: its words, what is decided of them, and the tally (document 01, "Records lent by the linker" and "Fix-up and hint rules";
+-- arch/arm64.rs, `Hint` and `apply_hints`).
+use Prim.Native.Nat.{ℕ, _+_, _*_, _≤_}
+use mathlib.Core.Path.{_≡_}
+use mathlib.Core.Bool.{Bool, false, _||_, not}
+use mathlib.Core.List.{List, [], _∷_, map}
+use mathlib.Core.Option.{Option, none, some}
+use lib.Dec.{eqb}
+use lib.ListN.{getD}
+use Rattle.util.specs.Choice.{choose}
+use Rattle.macho.specs.Hint.{hintAt, noEntry, wordCount}
+use Rattle.macho.specs.declared.hint.HintInsn.{HintInsn}
+use Rattle.macho.specs.declared.hint.HintRecord.{HintRecord}
+use Rattle.arm64_rules.specs.Rels.{relAt}
+use Rattle.arm64_rules.specs.Decide.{decide}
+use Rattle.arm64_rules.specs.declared.answer.Insns.{Insns}
+use Rattle.arm64_rules.specs.declared.answer.NewWord.{NewWord}
+use Rattle.arm64_rules.specs.declared.answer.NewWord.the-variants.{Keep, Set}
+use Rattle.arm64_rules.specs.declared.answer.Decision.{Decision}
+use Rattle.arm64_rules.specs.declared.answer.Decision.the-variants.{Declined, Nine, Rewritten}
+use Rattle.arm64_rules.specs.declared.rels.Rels.{Rels}
+use Rattle.order.specs.Plan.{wordsAt, putWords, Plan}
+use Rattle.arm64_hints.specs.declared.outcome.Outcome.{Outcome}
+use Rattle.arm64_hints.specs.declared.outcome.Outcome.the-variants.{Skipped, Worked}
+use Rattle.arm64_hints.specs.declared.outcome.Tally.{Tally}
+
+-- hint k of the lent hints
+abbrev pub hintOf : List ℕ → ℕ → HintRecord
+hintOf hints k = hintAt hints (64 * k)
+
+-- whether a hint is skipped: its kind is none of LLVM's, or its word count is not the kind's
+unfoldable pub isSkipped : HintRecord → Bool
+isSkipped h = eqb (wordCount (h .kind)) 0 || not (eqb (h .n) (wordCount (h .kind)))
+
+-- the places of a hint's words, two or three by its word count; none of a hint that is skipped
+unfoldable pub insnsIn : HintRecord → List HintInsn
+insnsIn h = choose (isSkipped h) [] (choose (eqb (h .n) 3) (h .insn0 ∷ h .insn1 ∷ h .insn2 ∷ []) (h .insn0 ∷ h .insn1 ∷ []))
+
+-- the offsets of its words in its part
+abbrev pub offsOf : HintRecord → List ℕ
+offsOf h = map (λ i. i .off) (insnsIn h)
+
+-- and where they stand in the image
+abbrev pub placesOf : HintRecord → List ℕ
+placesOf h = map (λ at. h .start + at) (offsOf h)
+
+-- the words' own addresses
+abbrev pub addrsOf : HintRecord → List ℕ
+addrsOf h = map (λ i. i .addr) (insnsIn h)
+
+-- words with their addresses, in the order of the places; zeros past the word count
+unfoldable pub insnsOf : HintRecord → List ℕ → Insns
+insnsOf h words =
+    record {
+      w0 = getD words 0 0;
+      w1 = getD words 1 0;
+      w2 = getD words 2 0;
+      p0 = getD (addrsOf h) 0 0;
+      p1 = getD (addrsOf h) 1 0;
+      p2 = getD (addrsOf h) 2 0;
+    }
+
+-- the number of the entry that place i names, none past the word count
+abbrev pub relOf : HintRecord → ℕ → ℕ
+relOf h i = getD (map (λ i. i .rel) (insnsIn h)) i noEntry
+
+-- the entries that the places name
+unfoldable pub relsOf : List ℕ → HintRecord → Rels
+relsOf entries h = record { r0 = relAt entries (relOf h 0); r1 = relAt entries (relOf h 1); r2 = relAt entries (relOf h 2) }
+
+-- what the rule of a kind answers to a hint's words
+abbrev pub ruled : ℕ → HintRecord → Rels → List ℕ → Outcome
+ruled kind h r words = Worked (decide kind (insnsOf h words) r) (insnsOf h words)
+
+-- a hint's outcome, by its own kind and the entries that it names
+unfoldable pub outcomeOf : List ℕ → HintRecord → List ℕ → Outcome
+outcomeOf entries h words = choose (isSkipped h) Skipped (ruled (h .kind) h (relsOf entries h) words)
+
+-- a place's new word
+abbrev pub newOf : NewWord → Option ℕ
+newOf Keep = none
+newOf (Set word) = some word
+
+-- the new words of a decision, place by place
+abbrev pub newsIn : Decision → List (Option ℕ)
+newsIn Declined = []
+newsIn Nine = []
+newsIn (Rewritten p) = newOf (p .w0) ∷ newOf (p .w1) ∷ newOf (p .w2) ∷ []
+
+-- and of an outcome
+abbrev pub newsOf : Outcome → List (Option ℕ)
+newsOf Skipped = []
+newsOf (Worked d s) = newsIn d
+
+-- what the rule of a kind answers in a hint's section
+abbrev pub ruledIn : ℕ → HintRecord → Rels → List ℕ → Outcome
+ruledIn kind h r section = ruled kind h r (wordsAt (offsOf h) section)
+
+-- and the section that it leaves
+abbrev pub sectionAfter : ℕ → HintRecord → Rels → List ℕ → List ℕ
+sectionAfter kind h r section = putWords (offsOf h) (newsOf (ruledIn kind h r section)) section
+
+-- the tally with one decision more
+abbrev pub addDecision : Decision → Tally → Tally
+addDecision Declined t = record { rewritten = t .rewritten; skipped = t .skipped; declined = t .declined + 1; «turned_down» = t .«turned_down» }
+addDecision Nine t = record { rewritten = t .rewritten; skipped = t .skipped; declined = t .declined; «turned_down» = t .«turned_down» + 1 }
+addDecision (Rewritten p) t = record { rewritten = t .rewritten + 1; skipped = t .skipped; declined = t .declined; «turned_down» = t .«turned_down» }
+
+-- and with one outcome more
+abbrev pub addOutcome : Outcome → Tally → Tally
+addOutcome Skipped t = record { rewritten = t .rewritten; skipped = t .skipped + 1; declined = t .declined; «turned_down» = t .«turned_down» }
+addOutcome (Worked d s) t = addDecision d t
+
+-- how many hints a tally counts
+abbrev pub total : Tally → ℕ
+total t = t .rewritten + t .skipped + t .declined + t .«turned_down»
+
+-- the hints of a run as a plan: hint k reads the words at its places, and its outcome says which of them get new words
+abbrev pub planOf : List ℕ → List ℕ → Plan Outcome Tally
+planOf hints entries = record {
+  places = λ k. placesOf (hintOf hints k);
+  answer = λ k words. outcomeOf entries (hintOf hints k) words;
+  news = newsOf;
+  add = addOutcome;
+}
+
+-- a hint that is not skipped, whose words stand inside a part of len bytes
+pub record Inside (h : HintRecord) (len : ℕ) : Type 0 where
+  pub worked : isSkipped h ≡ false
+  pub first : h .insn0 .off + 4 ≤ len
+  pub second : h .insn1 .off + 4 ≤ len
+  pub third : h .n ≡ 3 → h .insn2 .off + 4 ≤ len
+
+-- a hint that is not skipped, whose entries stand inside a list of len bytes
+pub record Named (h : HintRecord) (len : ℕ) : Type 0 where
+  pub worked : isSkipped h ≡ false
+  pub first : (h .insn0 .rel ≡ noEntry → ⊥) → 24 * h .insn0 .rel + 24 ≤ len
+  pub second : (h .insn1 .rel ≡ noEntry → ⊥) → 24 * h .insn1 .rel + 24 ≤ len
+  pub third : h .n ≡ 3 → (h .insn2 .rel ≡ noEntry → ⊥) → 24 * h .insn2 .rel + 24 ≤ len

@@ -1,0 +1,10 @@
+-- Demand 3: each decision of a hint rule keeps what a program does, and so does every list of a run's hint steps.
+pub mod Decisions
+pub mod Image
+pub mod Step
+pub mod Demand3
+pub mod Tests
+pub mod Computing
+pub mod Examples
+pub mod ExampleRuns
+pub mod Needed
