@@ -1,0 +1,78 @@
+// A hint's places, by value, and the bytes that they stand in: what the methods of `Hint` call. A place past the word count is not looked at.
+use arm64_rules::answer::NewWord;
+use arm64_rules::rels::Rel;
+use arm64_rules::rels::Rels;
+use arm64_rules::rels::has_page_pair;
+use arm64_rules::rels::rel_at;
+use macho::hint::HintInsn;
+use util::read32;
+use util::write32;
+ghost use mathlib.Core.Path.{_≡_};
+ghost use Prim.Native.Nat.{_<_};
+ghost use lib.ListN.{length};
+ghost use Rattle.arm64_rules.specs.Rels.{hasPagePair};
+ghost use Rattle.arm64_held.specs.Place.{wordIn, setIn, addrIn, Fits};
+ghost use Rattle.arm64_held.specs.Entry.{relIn, relsIn, Finds, Named};
+
+// The word of place i, 0 past the word count. The bytes are only read; they are lent by `&mut`, since that is how a `&mut` inside a struct is lent on.
+pub fn get_in(buf: &mut [u8], insns: [HintInsn; 3], n: usize, i: usize) -> u32
+    requires { ⌜ Fits (now buf) insns n i ⌝ }
+    ensures { λ r. ⌜ (r ≡ wordIn (now (buf .entry)) insns n i) × (now (buf .exit) ≡ now (buf .entry)) ⌝ }
+{
+    if i < n {
+        let insn = insns[i];
+        return read32(buf, insn.off as usize);
+    }
+    0
+}
+
+// Stores a new word at place i, if there is one and the place has a word.
+pub fn set_in(buf: &mut [u8], insns: [HintInsn; 3], n: usize, i: usize, w: NewWord)
+    requires { ⌜ Fits (now buf) insns n i ⌝ }
+    ensures { λ _. ⌜ now (buf .exit) ≡ setIn (now (buf .entry)) insns n i w ⌝ }
+{
+    match w {
+        NewWord::Keep => {}
+        NewWord::Set(word) => {
+            if i < n {
+                let insn = insns[i];
+                write32(buf, insn.off as usize, word);
+            }
+        }
+    }
+}
+
+// The address of the word of place i, 0 past the word count.
+pub fn addr_in(insns: [HintInsn; 3], n: usize, i: usize) -> u64
+    requires { ⌜ i < 3 ⌝ }
+    ensures { λ r. ⌜ r ≡ addrIn insns n i ⌝ }
+{
+    if i < n {
+        let insn = insns[i];
+        return insn.addr;
+    }
+    0
+}
+
+// The entry that place i names, none past the word count.
+fn rel_in(entries: &[u8], insns: [HintInsn; 3], n: usize, i: usize) -> Rel
+    requires { ⌜ Finds (length (now entries)) insns n i ⌝ }
+    ensures { λ r. ⌜ r ≡ relIn (now (entries .entry)) insns n i ⌝ }
+{
+    if i < n {
+        let insn = insns[i];
+        return rel_at(entries, insn.rel);
+    }
+    Rel::Absent
+}
+
+// Whether the first two words carry the halves of one reference, and a third carries no entry.
+pub fn page_pair_in(entries: &[u8], insns: [HintInsn; 3], n: usize, got: bool) -> bool
+    requires { ⌜ Named (length (now entries)) insns n ⌝ }
+    ensures { λ b. ⌜ b ≡ hasPagePair (relsIn (now (entries .entry)) insns n) n got ⌝ }
+{
+    let r0 = rel_in(entries, insns, n, 0);
+    let r1 = rel_in(entries, insns, n, 1);
+    let r2 = rel_in(entries, insns, n, 2);
+    has_page_pair(Rels { r0, r1, r2 }, 3, got)
+}
