@@ -1,0 +1,2 @@
+-- The twelve bench pieces.
+pub mod Table

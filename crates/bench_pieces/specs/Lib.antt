@@ -1,0 +1,1 @@
+-- No definitions: the pieces are about those of the crates below.

@@ -1,0 +1,1 @@
+// Document 01's twelve bench pieces together: theorems only, no code.
