@@ -1,0 +1,2 @@
+-- The law on lent numbers that every call cites.
+pub mod Lent

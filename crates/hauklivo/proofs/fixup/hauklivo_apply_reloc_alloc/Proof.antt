@@ -1,0 +1,60 @@
+-- The answer of apply_reloc_alloc by its two cases.
+use mathlib.Core.Path.{ap, sym, _∙_}
+use Rattle.arm64_fixup.specs.declared.walk.FixAnswer.{FixAnswer}
+use Rattle.arm64_fixup.specs.Answer.{numberOf, filledOf}
+use Rattle.hauklivo.proofs.Lent.{lent-kept, lent-new}
+use borrow.Author.Needs.{needs}
+use Rattle.hauklivo.proofs.fixup.hauklivo_apply_reloc_alloc.Statement.{statement}
+use Rattle.hauklivo.proofs.fixup.hauklivo_apply_reloc_alloc.Tie as tie
+
+apply-reloc-alloc-requires : tie.Need-apply-reloc-alloc-requires
+apply-reloc-alloc-requires c κs = search needs
+
+enum-known-refusal : tie.Need-enum-known-refusal
+enum-known-refusal c = search needs
+
+number-requires : tie.Need-number-requires
+number-requires c κs = search needs
+
+enum-known-n : tie.Need-enum-known-n
+enum-known-n c = search needs
+
+same-length : tie.Need-same-length
+same-length c = search needs
+
+same-length-2 : tie.Need-same-length-2
+same-length-2 c = search needs
+
+returns : tie.Need-returns
+returns c =
+    let k = c .before .before .before .before .before .before .before .before .apply-reloc-alloc .ensures in
+    let e = sym (c .before .before .refusal .given .1) ∙ k .0 in
+    let x = c .before .before .refusal .given .0 .0 in
+    (c .number .ensures ∙ ap (λ (a : FixAnswer). numberOf a) e, (lent-kept x _ _ _ (c .number .ensures), k .1))
+
+same-length-3 : tie.Need-same-length-3
+same-length-3 c = search needs
+
+same-length-4 : tie.Need-same-length-4
+same-length-4 c = search needs
+
+returns-2 : tie.Need-returns-2
+returns-2 c =
+    let k = c .before .before .before .before .before .before .before .apply-reloc-alloc .ensures in
+    let e = sym (c .before .n .given .1) ∙ k .0 in
+    (ap (λ (a : FixAnswer). numberOf a) e, (lent-new _ _ _ (ap (λ (a : FixAnswer). filledOf a) e), k .1))
+
+pub hauklivo-apply-reloc-alloc-spec : {M : Type 1} → statement M
+hauklivo-apply-reloc-alloc-spec =
+    tie.close
+    (tie.spec
+    apply-reloc-alloc-requires
+    enum-known-refusal
+    number-requires
+    enum-known-n
+    same-length
+    same-length-2
+    returns
+    same-length-3
+    same-length-4
+    returns-2)

@@ -1,0 +1,8 @@
+-- What a call leaves in a number that it is lent (document 01, "Turned-down input": a refusal changes nothing lent).
+use Prim.Native.Nat.{ℕ}
+use lib.Dec.{eqb}
+use Rattle.util.specs.Choice.{choose}
+
+-- the new value where the call returns 0, else the old one
+unfoldable pub lentNumber : ℕ → ℕ → ℕ → ℕ
+lentNumber number new old = choose (eqb number 0) new old

@@ -1,0 +1,39 @@
+// Fix-up of a section.
+use arm64_fixup::walk::FixAnswer;
+use arm64_fixup::walk::apply_reloc_alloc;
+ghost use mathlib.Core.Path.{_≡_};
+ghost use Rattle.arm64_fixup.specs.Answer.{basesOf, outcomeOf, answerOf, sectionAfter, slotsAfter, numberOf, filledOf};
+ghost use Rattle.hauklivo.specs.Lent.{lentNumber};
+
+// Fixes a section's bytes by its entries and their resolved targets; `count` gets the number of reports.
+#[no_mangle]
+pub extern "C" fn hauklivo_apply_reloc_alloc(
+    buf: &mut [u8],
+    base: u64,
+    tls_begin: u64,
+    rels: &[u8],
+    targets: &[u8],
+    slots: &mut [u8],
+    count: &mut usize,
+) -> u8
+    ensures number { λ r. ⌜ r
+        ≡ numberOf (answerOf (outcomeOf (now (buf .entry)) (basesOf base «tls_begin») (now (rels .entry)) (now (targets .entry)) (now (slots .entry)))) ⌝ }
+    ensures count { λ r. ⌜ now (count .exit)
+        ≡ lentNumber r
+        (filledOf (answerOf (outcomeOf (now (buf .entry)) (basesOf base «tls_begin») (now (rels .entry)) (now (targets .entry)) (now (slots .entry)))))
+        (now (count .entry)) ⌝ }
+    ensures section { λ _. ⌜ now (buf .exit)
+        ≡ sectionAfter (outcomeOf (now (buf .entry)) (basesOf base «tls_begin») (now (rels .entry)) (now (targets .entry)) (now (slots .entry)))
+        (now (buf .entry)) ⌝ }
+    ensures reports { λ _. ⌜ now (slots .exit)
+        ≡ slotsAfter (outcomeOf (now (buf .entry)) (basesOf base «tls_begin») (now (rels .entry)) (now (targets .entry)) (now (slots .entry)))
+        (now (slots .entry)) ⌝ }
+{
+    match apply_reloc_alloc(buf, base, tls_begin, rels, targets, slots) {
+        FixAnswer::Refused(refusal) => refusal.number(),
+        FixAnswer::Filled(n) => {
+            *count = n;
+            0
+        }
+    }
+}

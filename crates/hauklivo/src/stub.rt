@@ -1,0 +1,41 @@
+// One stub entry and one thunk entry of 12 bytes.
+use arm64_fixup::stub::StubAnswer;
+use arm64_fixup::stub::ThunkAnswer;
+use arm64_fixup::stub::write_stub;
+use arm64_fixup::stub::write_thunk;
+ghost use mathlib.Core.Path.{_≡_};
+ghost use Rattle.arm64_insn.specs.Stub.{stubWords, thunkWords};
+ghost use Rattle.arm64_fixup.specs.Stub.{wordsIn, stubAnswer, stubNumber, reachesOf, thunkAnswer, thunkNumber};
+ghost use Rattle.hauklivo.specs.Lent.{lentNumber};
+
+// Writes the stub entry at `addr` whose pointer is at `ptr`; `reaches` gets 1 where ADRP reaches the pointer's page, else 0.
+#[no_mangle]
+pub extern "C" fn hauklivo_write_stub(buf: &mut [u8], addr: u64, ptr: u64, reaches: &mut u8) -> u8
+    ensures number { λ r. ⌜ r ≡ stubNumber (stubAnswer (now (buf .entry)) addr ptr) ⌝ }
+    ensures reaches { λ r. ⌜ now (reaches .exit) ≡ lentNumber r (reachesOf (stubAnswer (now (buf .entry)) addr ptr)) (now (reaches .entry)) ⌝ }
+    ensures bytes { λ _. ⌜ now (buf .exit) ≡ wordsIn (now (buf .entry)) (stubWords addr ptr) ⌝ }
+{
+    match write_stub(buf, addr, ptr) {
+        StubAnswer::Refused(refusal) => refusal.number(),
+        StubAnswer::OutOfReach => {
+            *reaches = 0;
+            0
+        }
+        StubAnswer::Reaches => {
+            *reaches = 1;
+            0
+        }
+    }
+}
+
+// Writes the thunk entry at `addr` that jumps to `target`.
+#[no_mangle]
+pub extern "C" fn hauklivo_write_thunk(buf: &mut [u8], addr: u64, target: u64) -> u8
+    ensures number { λ r. ⌜ r ≡ thunkNumber (thunkAnswer (now (buf .entry))) ⌝ }
+    ensures bytes { λ _. ⌜ now (buf .exit) ≡ wordsIn (now (buf .entry)) (thunkWords addr target) ⌝ }
+{
+    match write_thunk(buf, addr, target) {
+        ThunkAnswer::Refused(refusal) => refusal.number(),
+        ThunkAnswer::Written => 0,
+    }
+}

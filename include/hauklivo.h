@@ -1,0 +1,222 @@
+/*
+ * Hauklivo: the calls that a Mach-O linker makes for arm64.
+ *
+ * Each call returns 0, or the number of a refusal (enum hauklivo_number). A refused call changes
+ * nothing that it was lent: no byte, no slot, no count.
+ *
+ * Lists are lent as bytes: a pointer and a length in bytes. Each list holds records of one fixed
+ * size with no header, in the layouts of the structs below, little-endian. No pointer may be null,
+ * not even one of an empty list. What a call may write (a section, slots, a count) may not overlap
+ * anything else that is lent to it. Lists of records need no alignment; `sections` needs that of
+ * uint64_t.
+ */
+#ifndef HAUKLIVO_H
+#define HAUKLIVO_H
+
+#include <stddef.h>
+#include <stdint.h>
+
+#ifdef __cplusplus
+extern "C" {
+#define HAUKLIVO_ASSERT static_assert
+#else
+#define HAUKLIVO_ASSERT _Static_assert
+#endif
+
+/* What a call returns. */
+enum hauklivo_number {
+    /* The call did its work. */
+    HAUKLIVO_DONE = 0,
+    /* A list's length is not whole records, a list has more than 2^32 - 1 records, or two lists
+     * disagree (targets are not one for each entry). */
+    HAUKLIVO_LENGTHS = 1,
+    /* The slots have fewer than 24 bytes for each input record. */
+    HAUKLIVO_SLOTS = 2,
+    /* A place is past the bytes that it reads or writes. */
+    HAUKLIVO_BOUNDS = 3,
+    /* An ADDEND record is the last record. */
+    HAUKLIVO_LONE_ADDEND = 4,
+    /* A type, or a record's form, is not supported. */
+    HAUKLIVO_UNSUPPORTED = 5,
+    /* A word is unfit for its record. */
+    HAUKLIVO_UNFIT = 6,
+    /* A record names a section that is not there. */
+    HAUKLIVO_NO_SECTION = 7,
+    /* A SUBTRACTOR entry is the last entry. */
+    HAUKLIVO_LONE_SUBTRACTOR = 8,
+    /* Base plus offset passes 2^64 - 1. */
+    HAUKLIVO_OVERFLOW = 9,
+    /* A section stands where a symbol is needed. */
+    HAUKLIVO_NEEDS_SYMBOL = 10,
+    /* A target has a flag of bit 9 or above, is both probe and is-enabled, or its last four bytes
+     * are not zero. */
+    HAUKLIVO_FLAGS = 11,
+    /* A hint names an entry that is not there. */
+    HAUKLIVO_NO_ENTRY = 12
+};
+
+/* Relocation types, those of Apple's <mach-o/arm64/reloc.h>. */
+enum hauklivo_type {
+    HAUKLIVO_UNSIGNED = 0,
+    HAUKLIVO_SUBTRACTOR = 1,
+    HAUKLIVO_BRANCH26 = 2,
+    HAUKLIVO_PAGE21 = 3,
+    HAUKLIVO_PAGEOFF12 = 4,
+    HAUKLIVO_GOT_LOAD_PAGE21 = 5,
+    HAUKLIVO_GOT_LOAD_PAGEOFF12 = 6,
+    HAUKLIVO_POINTER_TO_GOT = 7,
+    HAUKLIVO_TLVP_LOAD_PAGE21 = 8,
+    HAUKLIVO_TLVP_LOAD_PAGEOFF12 = 9,
+    HAUKLIVO_ADDEND = 10
+};
+
+/* A relocation record of an object file: Apple's relocation_info. */
+struct hauklivo_record {
+    /* Offset of the place in the section. */
+    uint32_t offset;
+    /* From bit 0: index (24 bits), pc-relative (1), log2 of the size (2), extern (1), type (4).
+     * The index is a symbol's number; where extern is 0, a section's ordinal, counted from 1. */
+    uint32_t bits;
+};
+HAUKLIVO_ASSERT(sizeof(struct hauklivo_record) == 8, "a record has 8 bytes");
+
+/* In an entry's target: the rest is a section's number, not a symbol's. */
+#define HAUKLIVO_SECTION_TARGET UINT32_C(0x80000000)
+
+/* An entry: what a record, with the ADDEND record before it, comes to. */
+struct hauklivo_entry {
+    /* Offset of the place in the section; after an ADDEND record that record's. */
+    uint32_t offset;
+    /* enum hauklivo_type. */
+    uint8_t type;
+    /* 1, 2, 4 or 8 bytes. */
+    uint8_t size;
+    /* 1 where the record is pc-relative, else 0. */
+    uint8_t is_pcrel;
+    /* 1 where the record directly before it is SUBTRACTOR, else 0. */
+    uint8_t is_subtracted;
+    /* A symbol's number, or HAUKLIVO_SECTION_TARGET plus a section's number, counted from 0. */
+    uint32_t target;
+    /* Zero from the reader; ignored elsewhere. */
+    uint32_t spare;
+    int64_t addend;
+};
+HAUKLIVO_ASSERT(sizeof(struct hauklivo_entry) == 24, "an entry has 24 bytes");
+
+/* Flags of a resolved target. */
+enum hauklivo_flag {
+    /* A library's symbol that dyld binds. Looked at for symbols only. */
+    HAUKLIVO_IMPORTED = 1 << 0,
+    HAUKLIVO_THREAD_LOCAL = 1 << 1,
+    /* Set for every section, and for each symbol that has an address in the image. */
+    HAUKLIVO_HAS_ADDRESS = 1 << 2,
+    /* A load of its GOT slot can be relaxed to its address. */
+    HAUKLIVO_RELAXES_GOT = 1 << 3,
+    HAUKLIVO_HAS_THUNK = 1 << 4,
+    /* A GOT load of it calls a helper. */
+    HAUKLIVO_HAS_HELPER = 1 << 5,
+    /* The helper is the site's own: reached by B, not BL. */
+    HAUKLIVO_HELPER_OWN = 1 << 6,
+    /* A DTrace probe site: the branch becomes NOP. */
+    HAUKLIVO_PROBE = 1 << 7,
+    /* A DTrace is-enabled site: the branch becomes MOVZ X0, #0. */
+    HAUKLIVO_IS_ENABLED = 1 << 8
+};
+
+/* What the linker knows of an entry's target; one for each entry. */
+struct hauklivo_target {
+    uint64_t address;
+    /* Address of its GOT slot. */
+    uint64_t got;
+    /* Where a branch to it goes: its address or its stub's. */
+    uint64_t branch;
+    /* Address of a thunk entry in reach of the place. */
+    uint64_t thunk;
+    /* Address of its load helper. */
+    uint64_t helper;
+    /* enum hauklivo_flag. */
+    uint32_t flags;
+    uint32_t zero;
+};
+HAUKLIVO_ASSERT(sizeof(struct hauklivo_target) == 48, "a resolved target has 48 bytes");
+
+/* What a report is about. */
+enum hauklivo_report_kind {
+    /* ADRP does not reach the target's page. The word is written all the same. */
+    HAUKLIVO_REPORT_ADRP_REACH = 1,
+    /* B or BL does not reach the target. The word is written all the same. */
+    HAUKLIVO_REPORT_BRANCH_REACH = 2,
+    /* The access size of a load or store does not divide its target. The word is left. */
+    HAUKLIVO_REPORT_ALIGNMENT = 3,
+    /* A relaxed page offset stands on a word other than LDR (for GOT also ADD). It is left. */
+    HAUKLIVO_REPORT_NON_LDR = 4
+};
+
+/* A report of a fix-up. */
+struct hauklivo_report {
+    /* Number of the entry, counted from 0. */
+    uint32_t entry;
+    /* enum hauklivo_report_kind. */
+    uint8_t kind;
+    /* The access size (kind 3), else 0. */
+    uint8_t size;
+    uint16_t zero;
+    /* Address of the place, and the target (kinds 1 and 2), else 0. */
+    uint64_t place;
+    uint64_t target;
+};
+HAUKLIVO_ASSERT(sizeof(struct hauklivo_report) == 24, "a report has 24 bytes");
+
+/*
+ * Reads the relocation records of a section into entries.
+ *
+ *   contents  the section's bytes
+ *   records   struct hauklivo_record
+ *   sections  the address of each section of the object; `sections_len` counts addresses
+ *   slots     at least 24 bytes for each record; gets struct hauklivo_entry
+ *   count     gets how many entries were filled; slots after them keep their bytes
+ *
+ * Numbers: 1, 2, then by record 3, 4, 5, 6, 7.
+ */
+uint8_t hauklivo_read_relocs(const uint8_t *contents, size_t contents_len, const void *records,
+                             size_t records_len, const uint64_t *sections, size_t sections_len,
+                             void *slots, size_t slots_len, size_t *count);
+
+/*
+ * Fixes up a section's bytes by its entries.
+ *
+ *   section    the section's bytes
+ *   base       the address of its first byte
+ *   tls_begin  the start of thread-local storage
+ *   entries    struct hauklivo_entry
+ *   targets    struct hauklivo_target, one for each entry
+ *   slots      at least 24 bytes for each entry; gets struct hauklivo_report
+ *   count      gets how many reports were filled; slots after them keep their bytes
+ *
+ * Numbers: 1, 2, then by entry 3, 11, 9, 5, 8, 10.
+ */
+uint8_t hauklivo_apply_reloc_alloc(uint8_t *section, size_t section_len, uint64_t base,
+                                   uint64_t tls_begin, const void *entries, size_t entries_len,
+                                   const void *targets, size_t targets_len, void *slots,
+                                   size_t slots_len, size_t *count);
+
+/*
+ * Writes the 12 bytes of the stub at `address` that jumps through the pointer at `pointer`.
+ * `reaches` gets 1 where its ADRP reaches the pointer's page, else 0; the stub is written in either
+ * case. Number: 3 for fewer than 12 bytes.
+ */
+uint8_t hauklivo_write_stub(uint8_t *bytes, size_t bytes_len, uint64_t address, uint64_t pointer,
+                            uint8_t *reaches);
+
+/*
+ * Writes the 12 bytes of the thunk entry at `address` that jumps to `target`.
+ * Number: 3 for fewer than 12 bytes.
+ */
+uint8_t hauklivo_write_thunk(uint8_t *bytes, size_t bytes_len, uint64_t address, uint64_t target);
+
+#undef HAUKLIVO_ASSERT
+#ifdef __cplusplus
+}
+#endif
+
+#endif

@@ -1,0 +1,170 @@
+//! The calls of libhauklivo.a, as safe functions.
+
+use crate::Refusal;
+use crate::raw::{
+    hauklivo_apply_reloc_alloc, hauklivo_read_relocs, hauklivo_write_stub, hauklivo_write_thunk,
+};
+
+/// `answer` where the number is 0, else the refusal.
+fn settled<T>(number: u8, answer: T) -> Result<T, Refusal> {
+    match number {
+        0 => Ok(answer),
+        n => Err(Refusal::try_from(n).expect("a number of the library")),
+    }
+}
+
+/// Reads the relocation records of a section into entries, and says how many it filled; slots
+/// after those keep their bytes.
+///
+/// `records` holds [`MachRel`](crate::MachRel)s, `sections` the address of each section of the
+/// object, `slots` at least 24 bytes for each record: there the [`Reloc`](crate::Reloc)s go.
+///
+/// ```
+/// use hauklivo::{MachRel, Record, Refusal, Reloc, read_relocs};
+///
+/// // ADDEND -1, then the PAGE21 of symbol 5: one entry.
+/// let records = [MachRel { offset: 0, bits: 0xa4ffffff }, MachRel { offset: 0, bits: 0x3d000005 }];
+/// let mut slots = [Reloc::default(); 2];
+/// assert_eq!(read_relocs(&[0; 4], MachRel::bytes(&records), &[], Reloc::bytes_mut(&mut slots)), Ok(1));
+/// assert_eq!((slots[0].target, slots[0].addend), (5, -1));
+///
+/// // An ADDEND record alone.
+/// let lone = MachRel::bytes(&records[..1]);
+/// assert_eq!(read_relocs(&[0; 4], lone, &[], Reloc::bytes_mut(&mut slots)), Err(Refusal::LoneAddend));
+/// ```
+///
+/// # Errors
+///
+/// [`Lengths`](Refusal::Lengths), [`Slots`](Refusal::Slots), then the first of a record:
+/// [`Bounds`](Refusal::Bounds), [`LoneAddend`](Refusal::LoneAddend),
+/// [`Unsupported`](Refusal::Unsupported), [`Unfit`](Refusal::Unfit),
+/// [`NoSection`](Refusal::NoSection).
+pub fn read_relocs(
+    contents: &[u8],
+    records: &[u8],
+    sections: &[u64],
+    slots: &mut [u8],
+) -> Result<usize, Refusal> {
+    let mut count = 0;
+    // SAFETY: every pointer comes with its slice's own length, and what is written is borrowed
+    // mutably here.
+    let number = unsafe {
+        hauklivo_read_relocs(
+            contents.as_ptr(),
+            contents.len(),
+            records.as_ptr(),
+            records.len(),
+            sections.as_ptr(),
+            sections.len(),
+            slots.as_mut_ptr(),
+            slots.len(),
+            &mut count,
+        )
+    };
+    settled(number, count)
+}
+
+/// Fixes up a section's bytes by its entries and their resolved targets, and says how many reports
+/// it filled; slots after those keep their bytes.
+///
+/// `base` is the address of the section's first byte, `tls_begin` the start of thread-local
+/// storage. `entries` holds [`Reloc`](crate::Reloc)s, `targets` a
+/// [`Resolved`](crate::Resolved) for each of them, `slots` at least 24 bytes for each: there the
+/// [`Report`](crate::Report)s go.
+///
+/// ```
+/// use hauklivo::{Record, Reloc, Report, ReportKind, Resolved, apply_reloc_alloc, flag, ty};
+///
+/// // ldr x0, [x0, #pageoff] of an address that 8 does not divide: reported, and left.
+/// let mut section = 0xf9400000_u32.to_le_bytes();
+/// let entries = [Reloc { ty: ty::PAGEOFF12, size: 4, ..Reloc::default() }];
+/// let targets = [Resolved { address: 0x1234, flags: flag::HAS_ADDRESS, ..Resolved::default() }];
+/// let mut slots = [Report::default(); 1];
+/// let n = apply_reloc_alloc(
+///     &mut section,
+///     0x1000,
+///     0,
+///     Reloc::bytes(&entries),
+///     Resolved::bytes(&targets),
+///     Report::bytes_mut(&mut slots),
+/// )?;
+/// assert_eq!(n, 1);
+/// assert_eq!(slots[0].kind(), Some(ReportKind::Alignment(8)));
+/// assert_eq!(section, 0xf9400000_u32.to_le_bytes());
+/// # Ok::<(), hauklivo::Refusal>(())
+/// ```
+///
+/// # Errors
+///
+/// [`Lengths`](Refusal::Lengths), [`Slots`](Refusal::Slots), then the first of an entry:
+/// [`Bounds`](Refusal::Bounds), [`Flags`](Refusal::Flags), [`Overflow`](Refusal::Overflow),
+/// [`Unsupported`](Refusal::Unsupported), [`LoneSubtractor`](Refusal::LoneSubtractor),
+/// [`NeedsSymbol`](Refusal::NeedsSymbol).
+pub fn apply_reloc_alloc(
+    section: &mut [u8],
+    base: u64,
+    tls_begin: u64,
+    entries: &[u8],
+    targets: &[u8],
+    slots: &mut [u8],
+) -> Result<usize, Refusal> {
+    let mut count = 0;
+    // SAFETY: as in read_relocs.
+    let number = unsafe {
+        hauklivo_apply_reloc_alloc(
+            section.as_mut_ptr(),
+            section.len(),
+            base,
+            tls_begin,
+            entries.as_ptr(),
+            entries.len(),
+            targets.as_ptr(),
+            targets.len(),
+            slots.as_mut_ptr(),
+            slots.len(),
+            &mut count,
+        )
+    };
+    settled(number, count)
+}
+
+/// Writes the stub at `address` that jumps through the pointer at `pointer` into the first 12
+/// bytes, and says whether its ADRP reaches the pointer's page. It is written in either case.
+///
+/// ```
+/// let mut bytes = [0; 12];
+/// assert_eq!(hauklivo::write_stub(&mut bytes, 0x1000, 0x2010), Ok(true));
+/// let words = [0xb0000010_u32, 0xf9400a10, 0xd61f0200]; // adrp x16, ldr x16, br x16
+/// assert_eq!(bytes[..], words.map(u32::to_le_bytes).concat());
+/// assert_eq!(hauklivo::write_stub(&mut bytes, 0, 1 << 32), Ok(false));
+/// ```
+///
+/// # Errors
+///
+/// [`Bounds`](Refusal::Bounds) for fewer than 12 bytes.
+pub fn write_stub(bytes: &mut [u8], address: u64, pointer: u64) -> Result<bool, Refusal> {
+    let mut reaches = 0;
+    // SAFETY: as in read_relocs.
+    let number = unsafe {
+        hauklivo_write_stub(bytes.as_mut_ptr(), bytes.len(), address, pointer, &mut reaches)
+    };
+    settled(number, reaches == 1)
+}
+
+/// Writes the thunk entry at `address` that jumps to `target` into the first 12 bytes.
+///
+/// ```
+/// let mut bytes = [0; 12];
+/// assert_eq!(hauklivo::write_thunk(&mut bytes, 0x1000, 0x2014), Ok(()));
+/// let words = [0xb0000010_u32, 0x91005210, 0xd61f0200]; // adrp x16, add x16, br x16
+/// assert_eq!(bytes[..], words.map(u32::to_le_bytes).concat());
+/// ```
+///
+/// # Errors
+///
+/// [`Bounds`](Refusal::Bounds) for fewer than 12 bytes.
+pub fn write_thunk(bytes: &mut [u8], address: u64, target: u64) -> Result<(), Refusal> {
+    // SAFETY: as in read_relocs.
+    let number = unsafe { hauklivo_write_thunk(bytes.as_mut_ptr(), bytes.len(), address, target) };
+    settled(number, ())
+}

@@ -1,0 +1,52 @@
+//! The last step of a Mach-O linker for arm64: relocation records into entries, entries into a
+//! section's bytes, single stub and thunk entries. Each function calls one function of the static
+//! library `libhauklivo.a`, which is proved to do what the project's definitions say, to touch
+//! nothing outside what it is lent, and to return.
+//!
+//! Lists are lent as bytes, in records of one fixed size ([`records`]). [`Record::bytes`] and
+//! [`Record::bytes_mut`] see a slice of records as such bytes without copying.
+//!
+//! A [`Refusal`] is an error with a number. A refused call has changed nothing that it was lent.
+//!
+//! ```
+//! use hauklivo::{MachRel, Record, Reloc, Report, Resolved, Target, flag, ty};
+//!
+//! // A call of symbol 5, at offset 4 of a section of two words.
+//! let mut section = [0xd503201f_u32, 0x94000000].map(u32::to_le_bytes).concat();
+//! let records = [MachRel::new(4, 5, true, 2, true, ty::BRANCH26)];
+//!
+//! // Records into entries.
+//! let mut entries = [Reloc::default(); 1];
+//! let n = hauklivo::read_relocs(&section, MachRel::bytes(&records), &[], Reloc::bytes_mut(&mut entries))?;
+//! assert_eq!(n, 1);
+//! assert_eq!(entries[0].target(), Target::Symbol(5));
+//!
+//! // The linker says where symbol 5 is; the section itself goes to 0x1000.
+//! let targets = [Resolved { address: 0x2000, branch: 0x2000, flags: flag::HAS_ADDRESS, ..Resolved::default() }];
+//! let mut reports = [Report::default(); 1];
+//! let n = hauklivo::apply_reloc_alloc(
+//!     &mut section,
+//!     0x1000,
+//!     0,
+//!     Reloc::bytes(&entries),
+//!     Resolved::bytes(&targets),
+//!     Report::bytes_mut(&mut reports),
+//! )?;
+//! assert_eq!(n, 0);
+//! assert_eq!(section[4..], 0x940003ff_u32.to_le_bytes()); // bl 0x2000
+//! # Ok::<(), hauklivo::Refusal>(())
+//! ```
+
+#![warn(missing_docs)]
+
+#[cfg(not(all(target_arch = "x86_64", target_endian = "little")))]
+compile_error!("libhauklivo.a is made for x86-64");
+
+mod calls;
+pub mod raw;
+pub mod records;
+mod refusal;
+
+pub use calls::{apply_reloc_alloc, read_relocs, write_stub, write_thunk};
+pub use records::{MachRel, Record, Reloc, Report, ReportKind, Resolved, Target, flag, ty};
+pub use refusal::Refusal;

@@ -1,0 +1,48 @@
+//! The functions of libhauklivo.a as they stand: a slice is lent as a pointer and a length. Each
+//! returns 0 or a [`Refusal`](crate::Refusal)'s number.
+//!
+//! A pointer must be one that a slice of the length may have, and what is written may not overlap
+//! anything else that is lent.
+
+unsafe extern "C" {
+    /// See [`read_relocs`](crate::read_relocs); `count` is written only where 0 comes back.
+    pub fn hauklivo_read_relocs(
+        contents: *const u8,
+        contents_len: usize,
+        records: *const u8,
+        records_len: usize,
+        sections: *const u64,
+        sections_len: usize,
+        slots: *mut u8,
+        slots_len: usize,
+        count: *mut usize,
+    ) -> u8;
+
+    /// See [`apply_reloc_alloc`](crate::apply_reloc_alloc); `count` is written only where 0 comes
+    /// back.
+    pub fn hauklivo_apply_reloc_alloc(
+        section: *mut u8,
+        section_len: usize,
+        base: u64,
+        tls_begin: u64,
+        entries: *const u8,
+        entries_len: usize,
+        targets: *const u8,
+        targets_len: usize,
+        slots: *mut u8,
+        slots_len: usize,
+        count: *mut usize,
+    ) -> u8;
+
+    /// See [`write_stub`](crate::write_stub); `reaches` gets 1 or 0, only where 0 comes back.
+    pub fn hauklivo_write_stub(
+        bytes: *mut u8,
+        bytes_len: usize,
+        address: u64,
+        pointer: u64,
+        reaches: *mut u8,
+    ) -> u8;
+
+    /// See [`write_thunk`](crate::write_thunk).
+    pub fn hauklivo_write_thunk(bytes: *mut u8, bytes_len: usize, address: u64, target: u64) -> u8;
+}

@@ -1,0 +1,203 @@
+/* Calls every function of hauklivo.h and checks numbers, counts and bytes. */
+#include "hauklivo.h"
+
+#include <stdio.h>
+#include <string.h>
+
+static int failures;
+
+#define CHECK(test)                                                          \
+    do {                                                                     \
+        if (!(test)) {                                                       \
+            printf("%s:%d: %s does not hold\n", __FILE__, __LINE__, #test); \
+            failures++;                                                      \
+        }                                                                    \
+    } while (0)
+
+enum { FILL = 0xa5, UNTOUCHED = 77 };
+
+static uint32_t word_at(const uint8_t *bytes, size_t at)
+{
+    return bytes[at] | bytes[at + 1] << 8 | bytes[at + 2] << 16 | (uint32_t)bytes[at + 3] << 24;
+}
+
+static void put_word(uint8_t *bytes, size_t at, uint32_t word)
+{
+    for (int i = 0; i < 4; i++)
+        bytes[at + i] = (uint8_t)(word >> 8 * i);
+}
+
+static int filled(const void *bytes, size_t len)
+{
+    const uint8_t *b = bytes;
+    for (size_t i = 0; i < len; i++)
+        if (b[i] != FILL)
+            return 0;
+    return 1;
+}
+
+/* A call of the reader that must answer `number` and leave slots and count. */
+static void refused_reading(uint8_t number, const uint8_t *contents, size_t contents_len,
+                            const struct hauklivo_record *records, size_t records_len, size_t slots_len)
+{
+    const uint64_t sections[1] = {0x4000};
+    struct hauklivo_entry slots[4];
+    size_t count = UNTOUCHED;
+    memset(slots, FILL, sizeof slots);
+    CHECK(hauklivo_read_relocs(contents, contents_len, records, records_len, sections, 1, slots, slots_len,
+                               &count) == number);
+    CHECK(filled(slots, sizeof slots));
+    CHECK(count == UNTOUCHED);
+}
+
+static void reader(void)
+{
+    uint8_t contents[16] = {0};
+    const uint64_t sections[1] = {0x4000};
+    struct hauklivo_entry slots[4];
+    size_t count = UNTOUCHED;
+
+    /* ADDEND -1 with the PAGE21 of symbol 5: one entry, at the ADDEND record's offset. */
+    const struct hauklivo_record pair[2] = {{4, 0xa4ffffff}, {8, 0x3d000005}};
+    memset(slots, FILL, sizeof slots);
+    CHECK(hauklivo_read_relocs(contents, sizeof contents, pair, sizeof pair, sections, 1, slots, sizeof slots,
+                               &count) == HAUKLIVO_DONE);
+    CHECK(count == 1);
+    CHECK(slots[0].offset == 4 && slots[0].type == HAUKLIVO_PAGE21 && slots[0].size == 4);
+    CHECK(slots[0].is_pcrel == 1 && slots[0].is_subtracted == 0 && slots[0].target == 5);
+    CHECK(slots[0].spare == 0 && slots[0].addend == -1);
+    CHECK(filled(slots + 1, sizeof slots - sizeof slots[0]));
+
+    /* A pointer into section 1, whose address is taken off. */
+    const struct hauklivo_record pointer[1] = {{0, 0x06000001}};
+    put_word(contents, 0, 0x4010);
+    CHECK(hauklivo_read_relocs(contents, sizeof contents, pointer, sizeof pointer, sections, 1, slots,
+                               sizeof slots, &count) == HAUKLIVO_DONE);
+    CHECK(count == 1 && slots[0].target == HAUKLIVO_SECTION_TARGET && slots[0].addend == 0x10);
+
+    /* Empty lists succeed. */
+    count = UNTOUCHED;
+    CHECK(hauklivo_read_relocs(contents, 0, pair, 0, sections, 0, slots, 0, &count) == HAUKLIVO_DONE);
+    CHECK(count == 0);
+
+    put_word(contents, 12, 0xd503201f);
+    refused_reading(HAUKLIVO_LENGTHS, contents, 16, pair, 7, sizeof slots);
+    refused_reading(HAUKLIVO_SLOTS, contents, 16, pair, 16, 47);
+    const struct hauklivo_record past[1] = {{17, 0x3d000005}};
+    refused_reading(HAUKLIVO_BOUNDS, contents, 16, past, 8, sizeof slots);
+    const struct hauklivo_record lone[1] = {{0, 0xa4000000}};
+    refused_reading(HAUKLIVO_LONE_ADDEND, contents, 16, lone, 8, sizeof slots);
+    const struct hauklivo_record pointer32[1] = {{0, 0x0c000000}};
+    refused_reading(HAUKLIVO_UNSUPPORTED, contents, 16, pointer32, 8, sizeof slots);
+    const struct hauklivo_record nop[1] = {{12, 0x9c000000}};
+    refused_reading(HAUKLIVO_UNFIT, contents, 16, nop, 8, sizeof slots);
+    const struct hauklivo_record ordinal0[1] = {{0, 0x06000000}};
+    refused_reading(HAUKLIVO_NO_SECTION, contents, 16, ordinal0, 8, sizeof slots);
+}
+
+/* A fix-up of one or two entries that must answer `number` and leave section, slots and count. */
+static void refused_fixing(uint8_t number, uint64_t base, const struct hauklivo_entry *entries,
+                           size_t entries_len, const struct hauklivo_target *targets, size_t targets_len,
+                           size_t slots_len)
+{
+    uint8_t section[8];
+    struct hauklivo_report slots[2];
+    size_t count = UNTOUCHED;
+    memset(section, FILL, sizeof section);
+    memset(slots, FILL, sizeof slots);
+    CHECK(hauklivo_apply_reloc_alloc(section, sizeof section, base, 0, entries, entries_len, targets,
+                                     targets_len, slots, slots_len, &count) == number);
+    CHECK(filled(section, sizeof section));
+    CHECK(filled(slots, sizeof slots));
+    CHECK(count == UNTOUCHED);
+}
+
+static void fixup(void)
+{
+    uint8_t section[12];
+    struct hauklivo_report slots[3];
+    size_t count = UNTOUCHED;
+    const struct hauklivo_entry entries[3] = {
+        {.offset = 0, .type = HAUKLIVO_BRANCH26, .size = 4, .is_pcrel = 1},
+        {.offset = 4, .type = HAUKLIVO_PAGEOFF12, .size = 4},
+        {.offset = 8, .type = HAUKLIVO_GOT_LOAD_PAGEOFF12, .size = 4},
+    };
+    const struct hauklivo_target targets[3] = {
+        {.branch = 0xffc},
+        {.address = 0x1234, .flags = HAUKLIVO_HAS_ADDRESS},
+        {.address = 0x1234, .flags = HAUKLIVO_HAS_ADDRESS | HAUKLIVO_RELAXES_GOT},
+    };
+    put_word(section, 0, 0x94000000);
+    put_word(section, 4, 0xf9400000);
+    put_word(section, 8, 0xf9400000);
+    memset(slots, FILL, sizeof slots);
+
+    /* BL back by one word; LDR X of an address that 8 does not divide; a relaxed GOT load. */
+    CHECK(hauklivo_apply_reloc_alloc(section, sizeof section, 0x1000, 0, entries, sizeof entries, targets,
+                                     sizeof targets, slots, sizeof slots, &count) == HAUKLIVO_DONE);
+    CHECK(word_at(section, 0) == 0x97ffffff);
+    CHECK(word_at(section, 4) == 0xf9400000);
+    CHECK(word_at(section, 8) == 0x9108d000);
+    CHECK(count == 1);
+    CHECK(slots[0].entry == 1 && slots[0].kind == HAUKLIVO_REPORT_ALIGNMENT && slots[0].size == 8);
+    CHECK(slots[0].zero == 0 && slots[0].place == 0 && slots[0].target == 0);
+    CHECK(filled(slots + 1, sizeof slots - sizeof slots[0]));
+
+    /* Empty lists succeed. */
+    count = UNTOUCHED;
+    CHECK(hauklivo_apply_reloc_alloc(section, 0, 0, 0, entries, 0, targets, 0, slots, 0, &count) == HAUKLIVO_DONE);
+    CHECK(count == 0);
+
+    const struct hauklivo_entry pointer = {.type = HAUKLIVO_UNSIGNED, .size = 8};
+    const struct hauklivo_entry at4 = {.offset = 4, .type = HAUKLIVO_UNSIGNED, .size = 8};
+    const struct hauklivo_entry type10 = {.type = HAUKLIVO_ADDEND, .size = 4};
+    const struct hauklivo_entry lone = {.type = HAUKLIVO_SUBTRACTOR, .size = 8};
+    const struct hauklivo_entry got = {.type = HAUKLIVO_POINTER_TO_GOT, .size = 4, .target = HAUKLIVO_SECTION_TARGET};
+    const struct hauklivo_target plain = {.flags = HAUKLIVO_HAS_ADDRESS};
+    const struct hauklivo_target odd = {.flags = 0x200};
+    refused_fixing(HAUKLIVO_LENGTHS, 0, &pointer, 23, &plain, 48, 24);
+    refused_fixing(HAUKLIVO_LENGTHS, 0, &pointer, 24, &plain, 0, 24);
+    refused_fixing(HAUKLIVO_SLOTS, 0, &pointer, 24, &plain, 48, 23);
+    refused_fixing(HAUKLIVO_BOUNDS, 0, &at4, 24, &plain, 48, 24);
+    refused_fixing(HAUKLIVO_UNSUPPORTED, 0, &type10, 24, &plain, 48, 24);
+    refused_fixing(HAUKLIVO_LONE_SUBTRACTOR, 0, &lone, 24, &plain, 48, 24);
+    refused_fixing(HAUKLIVO_OVERFLOW, UINT64_MAX, &at4, 24, &plain, 48, 24);
+    refused_fixing(HAUKLIVO_NEEDS_SYMBOL, 0, &got, 24, &plain, 48, 24);
+    refused_fixing(HAUKLIVO_FLAGS, 0, &pointer, 24, &odd, 48, 24);
+}
+
+static void stub_and_thunk(void)
+{
+    uint8_t bytes[13];
+    uint8_t reaches = UNTOUCHED;
+
+    memset(bytes, FILL, sizeof bytes);
+    CHECK(hauklivo_write_stub(bytes, 11, 0x1000, 0x2010, &reaches) == HAUKLIVO_BOUNDS);
+    CHECK(hauklivo_write_thunk(bytes, 11, 0x1000, 0x2014) == HAUKLIVO_BOUNDS);
+    CHECK(filled(bytes, sizeof bytes) && reaches == UNTOUCHED);
+
+    CHECK(hauklivo_write_stub(bytes, sizeof bytes, 0x1000, 0x2010, &reaches) == HAUKLIVO_DONE);
+    CHECK(reaches == 1);
+    CHECK(word_at(bytes, 0) == 0xb0000010); /* adrp x16, 1 page */
+    CHECK(word_at(bytes, 4) == 0xf9400a10); /* ldr x16, [x16, #16] */
+    CHECK(word_at(bytes, 8) == 0xd61f0200); /* br x16 */
+    CHECK(bytes[12] == FILL);
+    CHECK(hauklivo_write_stub(bytes, 12, 0, UINT64_C(1) << 32, &reaches) == HAUKLIVO_DONE);
+    CHECK(reaches == 0);
+
+    CHECK(hauklivo_write_thunk(bytes, sizeof bytes, 0x1000, 0x2014) == HAUKLIVO_DONE);
+    CHECK(word_at(bytes, 0) == 0xb0000010);
+    CHECK(word_at(bytes, 4) == 0x91005210); /* add x16, x16, #20 */
+    CHECK(word_at(bytes, 8) == 0xd61f0200);
+    CHECK(bytes[12] == FILL);
+}
+
+int main(void)
+{
+    reader();
+    fixup();
+    stub_and_thunk();
+    if (failures == 0)
+        puts("the C calls answer as they should");
+    return failures != 0;
+}

@@ -1,0 +1,54 @@
+//! The differential run: the port and the unchanged Rust on the same inputs.
+//!
+//! A group is a numbered family of cases; a case is one call of the port, held against the answer
+//! of the Rust on the same input. Numbers 1, 2 and 11 are about lent lists, which the Rust does not
+//! have: there each module's own model says what is expected. `main.rs` binds the Rust.
+
+mod differences;
+mod fixup;
+mod fixup_groups;
+mod lent;
+mod reader;
+mod reader_groups;
+mod rng;
+mod rows;
+mod run;
+mod stub;
+mod table;
+
+pub use run::main;
+
+/// A stop of the Rust: document 01's number for it, if it has one, and the Rust's words.
+pub struct Stop {
+    pub number: Option<u8>,
+    pub text: String,
+}
+
+/// What the Rust's fix-up leaves beside the section's bytes: reports, and the entries whose target
+/// it says has no address.
+pub struct FixedUp {
+    pub reports: Vec<u8>,
+    pub without_address: Vec<u32>,
+}
+
+/// The calls of the Rust. Lists are whole.
+pub struct Oracle {
+    pub read_relocs: fn(contents: &[u8], records: &[u8], sections: &[u64]) -> Result<Vec<u8>, Stop>,
+    pub apply_reloc_alloc:
+        fn(section: &mut [u8], base: u64, tls_begin: u64, entries: &[u8], targets: &[u8]) -> Result<FixedUp, Stop>,
+    pub stub: fn(address: u64, pointer: u64) -> ([u8; 12], bool),
+    pub thunk: fn(address: u64, target: u64) -> [u8; 12],
+}
+
+/// What a case is judged with: the Rust, and the rows of expected differences.
+struct World<'a> {
+    oracle: &'a Oracle,
+    differences: &'a differences::Differences,
+}
+
+/// A case on which the port does not answer as expected.
+struct Difference {
+    input: String,
+    port: String,
+    expected: String,
+}

@@ -1,0 +1,142 @@
+//! The reader: one case, and what the Rust makes of it.
+
+use hauklivo::{MachRel, Record, raw};
+
+use crate::lent::{Lent, filled, hex, pattern};
+use crate::rows::Rows;
+use crate::table::Table;
+use crate::{Difference, World};
+
+#[derive(Clone)]
+pub struct Case {
+    pub contents: Vec<u8>,
+    pub records: Vec<u8>,
+    pub sections: Vec<u64>,
+    /// Bytes of slots.
+    pub slots: usize,
+}
+
+impl Case {
+    /// A case with just the slots that its records need.
+    pub fn new(contents: Vec<u8>, records: &[MachRel], sections: &[u64]) -> Self {
+        let slots = 24 * records.len();
+        let (records, sections) = (MachRel::bytes(records).to_vec(), sections.to_vec());
+        Self { contents, records, sections, slots }
+    }
+
+    fn show(&self) -> String {
+        let Self { contents, records, sections, slots } = self;
+        format!(
+            "read_relocs: contents {}\n    records {}\n    sections {sections:x?}\n    {slots} bytes of slots",
+            hex(contents),
+            hex(records)
+        )
+    }
+}
+
+/// The entries' bytes, or a number.
+pub type Answer = Result<Vec<u8>, u8>;
+
+/// Numbers 1 and 2, of the lengths of lists.
+pub fn of_lengths(records: usize, sections: usize, slots: usize) -> Option<u8> {
+    let most = u32::MAX as usize;
+    if records % 8 != 0 || records / 8 > most || sections > most {
+        return Some(1);
+    }
+    (slots < 24 * (records / 8)).then_some(2)
+}
+
+fn expected(case: &Case, world: &World) -> Result<Answer, Difference> {
+    if let Some(number) = of_lengths(case.records.len(), case.sections.len(), case.slots) {
+        return Ok(Err(number));
+    }
+    match (world.oracle.read_relocs)(&case.contents, &case.records, &case.sections) {
+        Ok(entries) => Ok(Ok(entries)),
+        Err(stop) => stop.number.map(Err).ok_or_else(|| Difference {
+            input: case.show(),
+            port: "not asked".into(),
+            expected: format!("a stop with a number; the Rust: {}", stop.text),
+        }),
+    }
+}
+
+/// The count before a call.
+const COUNT: usize = 0x5eed;
+
+/// Holds the port to the expected answer on a case.
+pub fn check(case: &Case, world: &World, table: &mut Table) -> Result<Answer, Difference> {
+    let answer = expected(case, world)?;
+    let lent = case.clone();
+    let mut slots = Lent::slots(case.slots);
+    let mut count = COUNT;
+    // SAFETY: slices of this function, none lent twice.
+    let number = unsafe {
+        raw::hauklivo_read_relocs(
+            lent.contents.as_ptr(),
+            lent.contents.len(),
+            lent.records.as_ptr(),
+            lent.records.len(),
+            lent.sections.as_ptr(),
+            lent.sections.len(),
+            slots.bytes().as_mut_ptr(),
+            case.slots,
+            &mut count,
+        )
+    };
+    let (number_due, count_due, slots_due) = match &answer {
+        Ok(entries) => (0, entries.len() / 24, filled(entries, case.slots)),
+        Err(number) => (*number, COUNT, pattern(case.slots)),
+    };
+    let same = number == number_due && count == count_due && slots.bytes() == slots_due;
+    let kept = lent.contents == case.contents
+        && lent.records == case.records
+        && lent.sections == case.sections
+        && slots.is_guarded();
+    if !same || !kept {
+        return Err(Difference {
+            input: case.show(),
+            port: format!("{number}, count {count}, slots {}, the rest kept: {kept}", hex(slots.bytes())),
+            expected: format!("{number_due}, count {count_due}, slots {}", hex(&slots_due)),
+        });
+    }
+    record_answer(case, &answer, table);
+    Ok(answer)
+}
+
+fn record_answer(case: &Case, answer: &Answer, table: &mut Table) {
+    table.hit(Rows::ReaderNumber as usize, answer.as_ref().map_or_else(|&n| n as usize, |_| 0));
+    if answer.is_err() {
+        return;
+    }
+    let records = MachRel::list(&case.records).expect("whole records");
+    let kind = |table: &mut Table, i| table.hit(Rows::ReaderKind as usize, i);
+    if records.is_empty() {
+        kind(table, 7);
+    }
+    let mut i = 0;
+    while i < records.len() {
+        let offset = records[i].offset as usize;
+        let after_addend = records[i].ty() == 10;
+        if after_addend {
+            if records[i].idx() >> 23 == 1 {
+                kind(table, 6);
+            }
+            i += 1;
+        }
+        let r = records[i];
+        let ty = r.ty() as usize;
+        table.hit_cell(Rows::ReaderRead as usize, ty, (r.bits >> 24 & 15) as usize);
+        if after_addend {
+            table.hit(Rows::ReaderAfterAddend as usize, ty);
+        }
+        kind(table, usize::from(!r.is_extern()));
+        if i > 0 && records[i - 1].ty() == 1 {
+            kind(table, 2);
+        }
+        if ty == 0 {
+            let negative = r.p2size() == 2 && case.contents[offset + 3] >> 7 == 1;
+            kind(table, if r.p2size() == 3 { 5 } else { 3 + usize::from(negative) });
+        }
+        i += 1;
+    }
+}

@@ -1,0 +1,230 @@
+//! The blocks of the table, and what each row is.
+
+use crate::table::Block;
+
+/// The blocks, in the order in which they are shown.
+#[derive(Clone, Copy)]
+pub enum Rows {
+    ReaderNumber,
+    ReaderRead,
+    ReaderUnsupported,
+    ReaderAfterAddend,
+    ReaderKind,
+    ReaderWord,
+    ReaderClass,
+    ReaderBounds,
+    FixupNumber,
+    FixupType,
+    FixupWay,
+    FixupReport,
+    FixupConsumed,
+    FixupClass,
+    FixupAlignment,
+    FixupBranchLimit,
+    FixupAdrpLimit,
+    FixupFlags,
+    StubAndThunk,
+    Count,
+}
+
+pub const TYPES: [&str; 16] = [
+    "UNSIGNED",
+    "SUBTRACTOR",
+    "BRANCH26",
+    "PAGE21",
+    "PAGEOFF12",
+    "GOT_LOAD_PAGE21",
+    "GOT_LOAD_PAGEOFF12",
+    "POINTER_TO_GOT",
+    "TLVP_LOAD_PAGE21",
+    "TLVP_LOAD_PAGEOFF12",
+    "ADDEND",
+    "type 11",
+    "type 12",
+    "type 13",
+    "type 14",
+    "type 15",
+];
+
+/// Whether the reader takes a form (pc-relative + 2 * log2 of the size + 8 * extern) of a type.
+pub fn takes(ty: usize, form: usize) -> bool {
+    match ty {
+        0 => [4, 6, 12, 14].contains(&form),
+        1 => [12, 14].contains(&form),
+        2 | 3 | 5 | 7 | 8 => form == 13,
+        4 | 6 | 9 => form == 12,
+        10 => form == 4,
+        _ => false,
+    }
+}
+
+pub fn supported() -> impl Iterator<Item = (usize, usize)> {
+    (0..256).map(|i| (i / 16, i % 16)).filter(|&(ty, form)| takes(ty, form))
+}
+
+/// An entry of 4 bytes that is no term of a difference is unsupported, too.
+fn can_be_unsupported(ty: usize, form: usize) -> bool {
+    !takes(ty, form) || ty == 0 && form & 6 == 4
+}
+
+pub const READER_KINDS: [&str; 8] = [
+    "target a symbol",
+    "target a section",
+    "directly after SUBTRACTOR",
+    "stored addend of 4 bytes, positive",
+    "stored addend of 4 bytes, negative",
+    "stored addend of 8 bytes",
+    "ADDEND record of a negative addend",
+    "empty list",
+];
+
+pub const READER_WORDS: [&str; 4] =
+    ["GOT page offset, fit", "GOT page offset, unfit", "TLVP page offset, fit", "TLVP page offset, unfit"];
+
+pub const READER_BOUNDS: [&str; 7] = [
+    "offset 1 above the length: 3",
+    "offset equal to the length, nothing read: fine",
+    "word 1 byte short: 3",
+    "word that just fits: fine",
+    "pointer 1 byte short: 3",
+    "pointer that just fits: fine",
+    "4 bytes of a difference 1 byte short: 3",
+];
+
+pub const FIXUP_NUMBERS: [u8; 9] = [0, 1, 2, 3, 5, 8, 9, 10, 11];
+pub const FIXUP_TYPE_NUMBERS: [u8; 7] = [0, 3, 5, 8, 9, 10, 11];
+
+/// Which numbers an entry of a type can get; row 10 stands for all types from 10 on.
+fn fixup_type_number(ty: usize, column: usize) -> bool {
+    match FIXUP_TYPE_NUMBERS[column] {
+        0 => ty < 10,
+        5 => ty == 10,
+        8 => ty == 1,
+        10 => (5..10).contains(&ty),
+        _ => true,
+    }
+}
+
+/// How a single entry ends.
+#[derive(Clone, Copy)]
+#[rustfmt::skip]
+pub enum Way {
+    UnsignedImported, UnsignedTls, UnsignedAddress, UnsignedImportedSection,
+    Subtractor4, Subtractor8,
+    BranchProbe, BranchEnabled, BranchSymbol, BranchSection, BranchTracedSection, BranchThunk,
+    BranchThunkAddend, BranchThunkFar, BranchNoThunk, BranchSectionFar,
+    PageSymbol, PageSection, PageFar, PageNoAddress,
+    OffsetUnscaled, Offset1, Offset2, Offset4, Offset8, Offset16, OffsetMisaligned, OffsetNoAddress,
+    GotHelper, GotHelperOwn, GotHelperSection, GotPageRelaxed, GotPageSlot, GotPageRelaxedFar, GotPageSlotFar,
+    GotLdrW, GotLdrX, GotAdd, GotNonLdr, GotSlot, GotSlotMisaligned,
+    PointerToGot,
+    TlvpPageRelaxed, TlvpPageSlot, TlvpPageRelaxedFar, TlvpPageSlotFar,
+    TlvpLdrW, TlvpLdrX, TlvpAddNonLdr, TlvpNonLdr, TlvpSlot, TlvpSlotMisaligned,
+}
+
+pub const WAYS: [&str; 52] = [
+    "UNSIGNED of an imported symbol: left",
+    "UNSIGNED of a thread-local: less the start",
+    "UNSIGNED of an address",
+    "UNSIGNED of a section, imported flag set: written",
+    "SUBTRACTOR, 4 bytes",
+    "SUBTRACTOR, 8 bytes",
+    "BRANCH26 of a probe: NOP",
+    "BRANCH26 of an is-enabled test: MOVZ",
+    "BRANCH26 of a symbol in reach",
+    "BRANCH26 of a section in reach",
+    "BRANCH26 of a section, probe flag set: a branch",
+    "BRANCH26 by a thunk",
+    "BRANCH26, thunk but an addend: report 2",
+    "BRANCH26, thunk that does not reach: report 2",
+    "BRANCH26 out of reach, no thunk: report 2",
+    "BRANCH26 of a section out of reach: report 2",
+    "PAGE21 of a symbol",
+    "PAGE21 of a section",
+    "PAGE21 out of reach: report 1, written",
+    "PAGE21 without an address: left",
+    "PAGEOFF12 on a word without a scale",
+    "PAGEOFF12, 1-byte access",
+    "PAGEOFF12, 2-byte access",
+    "PAGEOFF12, 4-byte access",
+    "PAGEOFF12, 8-byte access",
+    "PAGEOFF12, 16-byte access",
+    "PAGEOFF12, misaligned: report 3, left",
+    "PAGEOFF12 without an address: left",
+    "GOT_LOAD_PAGE21, helper: BL",
+    "GOT_LOAD_PAGE21, own helper: B",
+    "GOT_LOAD_PAGE21 of a section, helper",
+    "GOT_LOAD_PAGE21 relaxed",
+    "GOT_LOAD_PAGE21 of the slot",
+    "GOT_LOAD_PAGE21 relaxed, out of reach: report 1",
+    "GOT_LOAD_PAGE21 of the slot, out of reach: report 1",
+    "GOT_LOAD_PAGEOFF12 relaxed, LDR W",
+    "GOT_LOAD_PAGEOFF12 relaxed, LDR X",
+    "GOT_LOAD_PAGEOFF12 relaxed, ADD",
+    "GOT_LOAD_PAGEOFF12 relaxed, other word: report 4",
+    "GOT_LOAD_PAGEOFF12 of the slot",
+    "GOT_LOAD_PAGEOFF12 of the slot, misaligned: report 3",
+    "POINTER_TO_GOT",
+    "TLVP_LOAD_PAGE21 relaxed",
+    "TLVP_LOAD_PAGE21 of the slot",
+    "TLVP_LOAD_PAGE21 relaxed, out of reach: report 1",
+    "TLVP_LOAD_PAGE21 of the slot, out of reach: report 1",
+    "TLVP_LOAD_PAGEOFF12 relaxed, LDR W",
+    "TLVP_LOAD_PAGEOFF12 relaxed, LDR X",
+    "TLVP_LOAD_PAGEOFF12 relaxed, ADD: report 4",
+    "TLVP_LOAD_PAGEOFF12 relaxed, other word: report 4",
+    "TLVP_LOAD_PAGEOFF12 of the slot",
+    "TLVP_LOAD_PAGEOFF12 of the slot, misaligned: report 3",
+];
+
+/// Kinds of report: 1, 2, 3 by size, 4.
+pub const REPORTS: [&str; 7] =
+    ["1 ADRP reach", "2 branch reach", "3 size 2", "3 size 4", "3 size 8", "3 size 16", "4 non-LDR"];
+
+fn report_of_type(kind: usize, ty: usize) -> bool {
+    match kind {
+        0 => [3, 5, 8].contains(&ty),
+        1 => ty == 2,
+        2..=5 => [4, 6, 9].contains(&ty),
+        _ => [6, 9].contains(&ty),
+    }
+}
+
+pub const STUB_AND_THUNK: [&str; 8] = [
+    "stub, ADRP reaches",
+    "stub, ADRP does not reach",
+    "stub refused by 3",
+    "stub at a limit of reach",
+    "stub across the end of the address space",
+    "thunk",
+    "thunk refused by 3",
+    "thunk across the end of the address space",
+];
+
+pub fn blocks() -> Vec<Block> {
+    let with_rest = || TYPES[..10].iter().copied().chain(["types from 10 on"]);
+    let all = |_, _| true;
+    let blocks = vec![
+        Block::list("Reader, calls by number", 0..8),
+        Block::grid("Reader, entries read by type and form", TYPES, 0..16, takes),
+        Block::grid("Reader, refused by 5, by type and form", TYPES, 0..16, can_be_unsupported),
+        Block::list("Reader, entries after an ADDEND record", &TYPES[..11]),
+        Block::list("Reader, entries", READER_KINDS),
+        Block::list("Reader, words", READER_WORDS),
+        Block::condensed("Reader, classes of bits 31..22 under GOT and TLVP page offsets", 2 * 1024),
+        Block::list("Reader, bounds", READER_BOUNDS),
+        Block::list("Fix-up, calls by number", FIXUP_NUMBERS),
+        Block::grid("Fix-up, single entries by type and number", with_rest(), FIXUP_TYPE_NUMBERS, fixup_type_number),
+        Block::list("Fix-up, single entries", WAYS),
+        Block::grid("Fix-up, reports by kind and type", REPORTS, 0..10, report_of_type),
+        Block::grid("Fix-up, entries that SUBTRACTOR takes, by type", with_rest(), [""], all),
+        Block::condensed("Fix-up, classes of bits 31..22 under five kinds of page offset", 5 * 1024),
+        Block::condensed("Fix-up, page offsets under an access of 1, 2, 4, 8, 16 bytes and ADD", 6 * 4096),
+        Block::condensed("Fix-up, branch displacements around -2^27, 0 and 2^27", 57),
+        Block::condensed("Fix-up, page differences around -2^32, 0 and 2^32, five kinds of page", 5 * 15),
+        Block::condensed("Fix-up, flags by type, of symbols and sections", 2 * 10 * 512),
+        Block::list("Stub and thunk entries", STUB_AND_THUNK),
+    ];
+    assert!(blocks.len() == Rows::Count as usize);
+    blocks
+}

@@ -1,0 +1,107 @@
+//! Stub and thunk entries.
+
+use hauklivo::raw;
+
+use crate::lent::{Lent, hex, pattern};
+use crate::rng::{Digits, Rng};
+use crate::rows::Rows;
+use crate::run::{Group, Verdict};
+use crate::table::Table;
+use crate::{Difference, World};
+
+pub fn groups() -> Vec<Group> {
+    vec![
+        Group::new("stub/limits", 16 * 15 * 4 * 4 * 2, 7_680, limits),
+        Group::new("stub/random", 500_000, 20_000, random),
+    ]
+}
+
+#[derive(Clone, Copy, PartialEq, Debug)]
+enum Kind {
+    Stub,
+    Thunk,
+}
+
+/// An entry of `len` bytes at `address` that goes through, or to, `target`.
+fn check(kind: Kind, len: usize, address: u64, target: u64, world: &World, table: &mut Table) -> Verdict {
+    let (words, reaches) = match kind {
+        Kind::Stub => (world.oracle.stub)(address, target),
+        Kind::Thunk => ((world.oracle.thunk)(address, target), true),
+    };
+    const BEFORE: u8 = 77;
+    let (mut bytes_due, mut number_due, mut reaches_due) = (pattern(len), 3, BEFORE);
+    if let Some(place) = bytes_due.get_mut(..12) {
+        place.copy_from_slice(&words);
+        number_due = 0;
+        if kind == Kind::Stub {
+            reaches_due = u8::from(reaches);
+        }
+    }
+    let mut lent = Lent::slots(len);
+    let mut told = BEFORE;
+    let bytes = lent.bytes().as_mut_ptr();
+    // SAFETY: slices of this function, none lent twice.
+    let number = unsafe {
+        match kind {
+            Kind::Stub => raw::hauklivo_write_stub(bytes, len, address, target, &mut told),
+            Kind::Thunk => raw::hauklivo_write_thunk(bytes, len, address, target),
+        }
+    };
+    let kept = lent.is_guarded();
+    if number != number_due || told != reaches_due || lent.bytes() != bytes_due || !kept {
+        return Err(Difference {
+            input: format!("{kind:?} of {len} bytes at {address:#x}, target {target:#x}"),
+            port: format!("{number}, reaches {told}, bytes {}, the rest kept: {kept}", hex(lent.bytes())),
+            expected: format!("{number_due}, reaches {reaches_due}, bytes {}", hex(&bytes_due)),
+        });
+    }
+    record_answer(kind, number, reaches, address, target, table);
+    Ok(())
+}
+
+fn record_answer(kind: Kind, number: u8, reaches: bool, address: u64, target: u64, table: &mut Table) {
+    let mut hit = |row| table.hit(Rows::StubAndThunk as usize, row);
+    let pages = (target >> 12) as i64 - (address >> 12) as i64;
+    let wrapped = pages.unsigned_abs() > 1 << 51;
+    match (kind, number) {
+        (Kind::Stub, 3) => hit(2),
+        (Kind::Thunk, 3) => hit(6),
+        (Kind::Stub, _) => {
+            hit(usize::from(!reaches));
+            if [1 << 20, (1 << 20) - 1, -(1 << 20), -(1 << 20) - 1].contains(&pages) {
+                hit(3);
+            }
+            if wrapped {
+                hit(4);
+            }
+        }
+        (Kind::Thunk, _) => {
+            hit(5);
+            if wrapped {
+                hit(7);
+            }
+        }
+    }
+}
+
+/// Lengths around 12 bytes, pages around the limits of reach.
+fn limits(index: u64, world: &World, table: &mut Table) -> Verdict {
+    let mut d = Digits(index);
+    let (len, i) = (d.next(16), d.next(15));
+    let pages = [-(1i64 << 20), 0, 1 << 20][i / 5] + (i % 5) as i64 - 2;
+    let address = d.pick(&[0, 0x1_0000_0ffc, 1 << 63, u64::MAX - 11]);
+    let low = d.pick(&[0, 8, 0xff8, 0xfff]);
+    let target = (address & !0xfff).wrapping_add_signed(pages << 12) | low;
+    let kind = d.pick(&[Kind::Stub, Kind::Thunk]);
+    check(kind, len, address, target, world, table)
+}
+
+fn random(index: u64, world: &World, table: &mut Table) -> Verdict {
+    let mut rng = Rng::new("stub/random", index);
+    let kind = rng.pick(&[Kind::Stub, Kind::Thunk]);
+    let len = if rng.one_in(8) { rng.below(12) } else { 12 + rng.below(8) } as usize;
+    let address = rng.next() >> rng.below(64);
+    let delta = rng.next() >> rng.below(64);
+    let target = if rng.one_in(2) { address.wrapping_add(delta) } else { address.wrapping_sub(delta) };
+    check(kind, len, address, target, world, table)
+}
