@@ -73,14 +73,18 @@ pub le-byte : (n : ℕ) (xs : List ℕ) (at k : ℕ) → ((i : ℕ) → getD xs 
 unfolding le
 le-byte zero xs at k b h = absurd (not-suc-le-zero h)
 le-byte (suc n) xs at k b h =
-    rw (add-comm (le n xs at) (2 ^ (8 * n) * getD xs (at + n) 0), mul-comm (2 ^ (8 * n)) (getD xs (at + n) 0))
+    rw (
+      mod-eq-of-lt (b (at + n)),
+      add-comm (le n xs at) (2 ^ (8 * n) * getD xs (at + n) 0),
+      mul-comm (2 ^ (8 * n)) (getD xs (at + n) 0),
+    )
     (⊎-elim
     (λ (e : k ≡ n).
-    rw (e, high (getD xs (at + n) 0) (8 * n) (le-lt n xs at b))
+    rw (e, high (getD xs (at + n) 0) (8 * n) (le-lt n xs at))
     (mod-eq-of-lt (b (at + n))))
     (λ (w : k < n).
     sym (low-byte n (getD xs (at + n) 0 * 2 ^ (8 * n) + le n xs at) k w)
-    ∙ ap (λ (y : ℕ). y / 2 ^ (8 * k) % 256) (low (getD xs (at + n) 0) (8 * n) (le-lt n xs at b))
+    ∙ ap (λ (y : ℕ). y / 2 ^ (8 * k) % 256) (low (getD xs (at + n) 0) (8 * n) (le-lt n xs at))
     ∙ le-byte n xs at k b w)
     (eq-or-lt-of-le (le-of-suc-le-suc h)))
 

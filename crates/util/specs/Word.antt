@@ -3,10 +3,11 @@ use Prim.Native.Nat.{ℕ, zero, suc, _+_, _*_, _/_, _%_, _^_}
 use mathlib.Core.List.{List, [], _∷_, _++_}
 use lib.ListN.{getD, set}
 
--- the number that the n bytes from `at` on hold, the lowest first
+-- the number that the n bytes from `at` on hold, the lowest first; of an element of the list only the low 8 bits count, so that n bytes
+-- hold a number below 2^(8 n) whatever the list
 unfoldable pub le : ℕ → List ℕ → ℕ → ℕ
 le zero s at = 0
-le (suc n) s at = le n s at + 2 ^ (8 * n) * getD s (at + n) 0
+le (suc n) s at = le n s at + 2 ^ (8 * n) * (getD s (at + n) 0 % 256)
 
 -- the list with the n low bytes of v from `at` on
 unfoldable pub put : ℕ → List ℕ → ℕ → ℕ → List ℕ

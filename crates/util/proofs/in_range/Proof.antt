@@ -8,15 +8,12 @@ use Rattle.util.proofs.in_range.Reads as reads
 use Rattle.util.proofs.in_range.Lts as lts
 use Rattle.util.proofs.wrapping_add.Reads as wrapping-add-reads
 
--- src/lib.rt:90:5
 wrapping-add-requires : tie.Need-wrapping-add-requires
 wrapping-add-requires c κs = search needs
 
--- src/lib.rt:90:44
 add-result : tie.Need-add-result
 add-result c = search needs
 
--- src/lib.rt:86:1
 returns : tie.Need-returns
 returns c =
     let a = c .before .args in

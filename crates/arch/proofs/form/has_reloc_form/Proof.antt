@@ -6,19 +6,15 @@ use Rattle.arch.proofs.form.has_reloc_form.Reads as reads
 use Rattle.arch.proofs.form.has_reloc_form.Lts as lts
 use Rattle.macho.proofs.rel.MachRel.form.Reads as form-reads
 
--- src/form.rt:28:15
 form-requires : tie.Need-form-requires
 form-requires c κs = search needs
 
--- src/form.rt:28:15
 cast-result : tie.Need-cast-result
 cast-result c = search needs
 
--- src/form.rt:28:6
 shr-result : tie.Need-shr-result
 shr-result c = search needs
 
--- src/form.rt:25:1
 returns : tie.Need-returns
 returns c = cc
 

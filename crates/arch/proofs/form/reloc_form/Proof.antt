@@ -11,39 +11,30 @@ use Rattle.arch.proofs.form.reloc_form.Reads as reads
 use Rattle.arch.proofs.form.reloc_form.Lts as lts
 use Rattle.arch.proofs.form.bit.Reads as bit-reads
 
--- src/form.rt:21:11
 bit-requires : tie.Need-bit-requires
 bit-requires c κs = search needs
 
--- src/form.rt:21:24
 mul-result : tie.Need-mul-result
 mul-result c = search needs
 
--- src/form.rt:21:11
 add-result : tie.Need-add-result
 add-result c = search needs
 
--- src/form.rt:21:41
 bit-requires-2 : tie.Need-bit-requires-2
 bit-requires-2 c κs = search needs
 
--- src/form.rt:21:37
 mul-result-2 : tie.Need-mul-result-2
 mul-result-2 c = search needs
 
--- src/form.rt:21:11
 add-result-2 : tie.Need-add-result-2
 add-result-2 c = search needs
 
--- src/form.rt:21:11
 cast-result : tie.Need-cast-result
 cast-result c = search needs
 
--- src/form.rt:21:5
 shl-result : tie.Need-shl-result
 shl-result c = search needs
 
--- src/form.rt:17:1
 returns : tie.Need-returns
 returns c =
     let k = c .before .bit .result + 2 * c .before .before .args .p2size + 8 * c .bit2 .result in

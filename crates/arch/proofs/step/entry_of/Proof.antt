@@ -15,35 +15,27 @@ use Rattle.macho.proofs.rel.MachRel.is_pcrel.Reads as is-pcrel-reads
 use Rattle.macho.proofs.rel.MachRel.p2size.Reads as p2size-reads
 use Rattle.macho.proofs.rel.MachRel.ty.Reads as ty-reads
 
--- src/step.rt:34:13
 ty-requires : tie.Need-ty-requires
 ty-requires c κs = search needs
 
--- src/step.rt:35:20
 p2size-requires : tie.Need-p2size-requires
 p2size-requires c κs = search needs
 
--- src/step.rt:35:20
 cast-t8 : tie.Need-cast-t8
 cast-t8 c = search needs
 
--- src/step.rt:35:15
 shl-t9 : tie.Need-shl-t9
 shl-t9 c = search needs
 
--- src/step.rt:36:19
 is-pcrel-requires : tie.Need-is-pcrel-requires
 is-pcrel-requires c κs = search needs
 
--- src/step.rt:36:19
 cast-t11 : tie.Need-cast-t11
 cast-t11 c = search needs
 
--- src/step.rt:37:24
 cast-t12 : tie.Need-cast-t12
 cast-t12 c = search needs
 
--- src/step.rt:29:1
 returns : tie.Need-returns
 returns c =
     let a = c .before .before .before .args in

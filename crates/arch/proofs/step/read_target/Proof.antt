@@ -8,28 +8,22 @@ use Rattle.arch.proofs.step.read_target.Lts as lts
 use Rattle.arch.proofs.step.entry_of.Reads as entry-of-reads
 use Rattle.arch.proofs.target.target_of.Reads as target-of-reads
 
--- src/step.rt:55:11
 target-of-requires : tie.Need-target-of-requires
 target-of-requires c κs = search needs
 
--- src/step.rt:56:25
 enum-known-refusal : tie.Need-enum-known-refusal
 enum-known-refusal c = search needs
 
--- src/step.rt:57:23
 enum-known-target : tie.Need-enum-known-target
 enum-known-target c = search needs
 
--- src/step.rt:58:24
 entry-of-requires : tie.Need-entry-of-requires
 entry-of-requires c κs = search needs
 
--- src/step.rt:45:1
 returns : tie.Need-returns
 unfolding targeted
 returns c = rw (sym (c .before .before .before .target-of .ensures) ∙ c .before .refusal .given .1)
 
--- src/step.rt:45:1
 returns-2 : tie.Need-returns-2
 unfolding targeted
 returns-2 c = rw (c .entry-of .ensures, sym (c .before .before .before .before .target-of .ensures) ∙ c .before .before .target .given .1)

@@ -9,22 +9,18 @@ use Rattle.arch.proofs.table.check_lengths.Tie as tie
 use Rattle.arch.proofs.table.check_lengths.Reads as reads
 use Rattle.arch.proofs.table.check_lengths.Lts as lts
 
--- src/table.rt:35:9
 returns : tie.Need-returns
 unfolding lengthsOf choose
 returns c = simp (ne-eqb _ _ (c .if1 .taken))
 
--- src/table.rt:38:9
 returns-2 : tie.Need-returns-2
 unfolding lengthsOf choose
 returns-2 c = simp (eq-eqb _ _ (c .before .if1 .left), lt-ltb _ _ (c .if2 .taken))
 
--- src/table.rt:41:9
 returns-3 : tie.Need-returns-3
 unfolding lengthsOf choose
 returns-3 c = simp (eq-eqb _ _ (c .before .before .if1 .left), le-ltb _ _ (c .before .if2 .left), lt-ltb _ _ (c .if3 .taken))
 
--- src/table.rt:44:9
 returns-4 : tie.Need-returns-4
 unfolding lengthsOf choose
 returns-4 c =
@@ -32,7 +28,6 @@ returns-4 c =
     let less : a .slots < 24 * (a .rels / 8) = omega arith in
     simp (eq-eqb _ _ (c .before .before .before .if1 .left), le-ltb _ _ (c .before .before .if2 .left), le-ltb _ _ (c .before .if3 .left), lt-ltb _ _ less)
 
--- src/table.rt:31:1
 returns-5 : tie.Need-returns-5
 unfolding lengthsOf choose
 returns-5 c =

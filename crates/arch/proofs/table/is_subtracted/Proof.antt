@@ -9,24 +9,19 @@ use Rattle.arch.proofs.table.is_subtracted.Lts as lts
 use Rattle.arch.proofs.table.record_at.Reads as record-at-reads
 use Rattle.macho.proofs.rel.MachRel.ty.Reads as ty-reads
 
--- src/table.rt:25:9
 returns : tie.Need-returns
 unfolding subtractedAt choose
 returns c = simp (eq-eqb _ _ (c .if1 .taken))
 
--- src/table.rt:27:21
 sub-record-at : tie.Need-sub-record-at
 sub-record-at c = search needs
 
--- src/table.rt:27:5
 record-at-requires : tie.Need-record-at-requires
 record-at-requires c κs = search needs
 
--- src/table.rt:27:5
 ty-requires : tie.Need-ty-requires
 ty-requires c κs = search needs
 
--- src/table.rt:20:1
 returns-2 : tie.Need-returns-2
 unfolding subtractedAt choose
 returns-2 c = simp (ne-eqb _ _ (c .before .before .if1 .left), c .ty .ensures, c .before .record-at .ensures)

@@ -8,15 +8,12 @@ use Rattle.arch.proofs.table.record_at.Reads as reads
 use Rattle.arch.proofs.table.record_at.Lts as lts
 use Rattle.macho.proofs.rel.MachRel.read.Reads as read-reads
 
--- src/table.rt:16:25
 mul-read : tie.Need-mul-read
 mul-read c = search needs
 
--- src/table.rt:16:5
 read-requires : tie.Need-read-requires
 read-requires c κs = search needs
 
--- src/table.rt:12:1
 returns : tie.Need-returns
 returns c = c .read .ensures ∙ sym (record-is (now (c .before .before .args .rels)) (c .before .before .args .i) (c .before .before .pre))
 

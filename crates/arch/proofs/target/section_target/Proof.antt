@@ -12,51 +12,40 @@ use Rattle.arch.proofs.target.section_target.Lts as lts
 use Rattle.macho.proofs.rel.MachRel.idx.Reads as idx-reads
 use Rattle.util.proofs.wrapping_sub.Reads as wrapping-sub-reads
 
--- src/target.rt:19:9
 idx-requires : tie.Need-idx-requires
 idx-requires c κs = search needs
 
--- src/target.rt:21:9
 returns : tie.Need-returns
 unfolding sectionTarget
 returns c = rw (sym (c .before .idx .ensures) ∙ c .if1 .taken)
 
--- src/target.rt:23:14
 sub-i : tie.Need-sub-i
 sub-i c = search needs
 
--- src/target.rt:23:13
 cast-i : tie.Need-cast-i
 cast-i c = search needs
 
--- src/target.rt:25:45
 sub-t10 : tie.Need-sub-t10
 sub-t10 c = search needs
 
--- src/target.rt:25:30
 add-t11 : tie.Need-add-t11
 add-t11 c = search needs
 
--- src/target.rt:25:80
 mul-wrapping-sub : tie.Need-mul-wrapping-sub
 mul-wrapping-sub c = search needs
 
--- src/target.rt:25:80
 shared-slice-read-wrapping-sub : tie.Need-shared-slice-read-wrapping-sub
 shared-slice-read-wrapping-sub c = search needs
 
--- src/target.rt:25:59
 wrapping-sub-requires : tie.Need-wrapping-sub-requires
 wrapping-sub-requires c κs = search needs
 
--- src/target.rt:25:9
 returns-2 : tie.Need-returns-2
 unfolding choose
 returns-2 c =
     let k = c .before .before .before in
     rw (← k .before .idx .ensures, section-of _ (k .before .idx .result) _ (k .if1 .left)) (simp (lt-ltb _ _ (c .before .before .if2 .taken), c .wrapping-sub .ensures))
 
--- src/target.rt:16:1
 returns-3 : tie.Need-returns-3
 unfolding choose
 returns-3 c = rw (← c .before .before .idx .ensures, section-of _ (c .before .before .idx .result) _ (c .before .if1 .left)) (simp (le-ltb _ _ (c .if2 .left)))

@@ -9,24 +9,19 @@ use Rattle.arch.proofs.target.section_target.Reads as section-target-re
 use Rattle.macho.proofs.rel.MachRel.idx.Reads as idx-reads
 use Rattle.macho.proofs.rel.MachRel.is_extern.Reads as is-extern-reads
 
--- src/target.rt:34:8
 is-extern-requires : tie.Need-is-extern-requires
 is-extern-requires c κs = search needs
 
--- src/target.rt:35:30
 idx-requires : tie.Need-idx-requires
 idx-requires c κs = search needs
 
--- src/target.rt:35:9
 returns : tie.Need-returns
 unfolding targetOf choose
 returns c = simp (c .idx .ensures, ← c .before .before .is-extern .ensures, c .before .if1 .taken)
 
--- src/target.rt:37:5
 section-target-requires : tie.Need-section-target-requires
 section-target-requires c κs = search needs
 
--- src/target.rt:31:1
 returns-2 : tie.Need-returns-2
 unfolding targetOf choose
 returns-2 c = simp (c .section-target .ensures, ← c .before .before .is-extern .ensures, c .before .if1 .left)

@@ -25,7 +25,7 @@ read64-requires c κs = search needs
 
 returns : tie.Need-returns
 unfolding insnAt
-returns c = cc
+returns c = simp (c .read64 .ensures, c .before .read322 .ensures, c .before .before .read32 .ensures)
 
 pub read-spec : {M : Type 1} → statement M
 read-spec =

@@ -56,7 +56,17 @@ read-requires-3 c κs = search needs
 
 returns : tie.Need-returns
 unfolding hintAt
-returns c = cc
+returns c =
+    simp (
+      c .read3 .ensures,
+      c .before .read2 .ensures,
+      c .before .before .read .ensures,
+      c .before .before .before .read323 .ensures,
+      c .before .before .before .before .read322 .ensures,
+      c .before .before .before .before .before .read32 .ensures,
+      c .before .before .before .before .before .before .read82 .ensures,
+      c .before .before .before .before .before .before .before .read8 .ensures,
+    )
 
 pub read-spec : {M : Type 1} → statement M
 read-spec =

@@ -18,7 +18,7 @@ read32-requires-2 c κs = search needs
 
 returns : tie.Need-returns
 unfolding machRelAt
-returns c = cc
+returns c = simp (c .read322 .ensures, c .before .read32 .ensures)
 
 pub read-spec : {M : Type 1} → statement M
 read-spec = tie.close (tie.spec read32-requires add-read32 read32-requires-2 returns)

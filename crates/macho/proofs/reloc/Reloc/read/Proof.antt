@@ -56,7 +56,17 @@ read64-requires c κs = search needs
 
 returns : tie.Need-returns
 unfolding relocAt
-returns c = cc
+returns c =
+    simp (
+      c .read64 .ensures,
+      c .before .read323 .ensures,
+      c .before .before .read322 .ensures,
+      c .before .before .before .read84 .ensures,
+      c .before .before .before .before .read83 .ensures,
+      c .before .before .before .before .before .read82 .ensures,
+      c .before .before .before .before .before .before .read8 .ensures,
+      c .before .before .before .before .before .before .before .read32 .ensures,
+    )
 
 pub read-spec : {M : Type 1} → statement M
 read-spec =

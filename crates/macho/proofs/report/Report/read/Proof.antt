@@ -38,7 +38,14 @@ read64-requires-2 c κs = search needs
 
 returns : tie.Need-returns
 unfolding reportAt
-returns c = cc
+returns c =
+    simp (
+      c .read642 .ensures,
+      c .before .read64 .ensures,
+      c .before .before .read82 .ensures,
+      c .before .before .before .read8 .ensures,
+      c .before .before .before .before .read32 .ensures,
+    )
 
 pub read-spec : {M : Type 1} → statement M
 read-spec =

@@ -49,7 +49,16 @@ read32-requires-2 c κs = search needs
 
 returns : tie.Need-returns
 unfolding resolvedAt
-returns c = cc
+returns c =
+    simp (
+      c .read322 .ensures,
+      c .before .read32 .ensures,
+      c .before .before .read645 .ensures,
+      c .before .before .before .read644 .ensures,
+      c .before .before .before .before .read643 .ensures,
+      c .before .before .before .before .before .read642 .ensures,
+      c .before .before .before .before .before .before .read64 .ensures,
+    )
 
 pub read-spec : {M : Type 1} → statement M
 read-spec =
