@@ -16,12 +16,12 @@ use Rattle.util.proofs.Choice.{choose-true, choose-false, choose-first, both}
 use Rattle.util.proofs.Below.{every}
 use Rattle.util.proofs.Diagram.{finer, fixed-field, matches-fill, matches-fields}
 use Rattle.arm64_insn.specs.Encoding.{adrp, add, addUnshifted, addImmediate, loadStore, ldrImmediate}
-use Rattle.arm64_insn.specs.LoadStoreTable.{Row, load, store, prefetch, unallocated, zeros, sign32, sign64, rowOf, movedBy, moves, isStore, isAllocated}
+use Rattle.arm64_insn.specs.LoadStoreTable.{Row, load, store, prefetch, unallocated, rowOf, movedBy, moves, isAllocated}
 use Rattle.arm64_insn.specs.Manual.{ADRP, ADD, LDST, form, none, loadStoreForm, decode, allocated}
 use Rattle.arm64_insn.specs.Manual.{rdIn, rnIn, imm12In, sfIn, shIn, sizeIn, vIn, opcIn, rowIn}
 use Rattle.arm64_insn.specs.Adrp.{adrpOf}
 use Rattle.arm64_insn.specs.Add.{addOf}
-use Rattle.arm64_insn.specs.LoadStore.{accessIn, takenAsLoad, accessOf, loadStoreWith, loadStoreOf}
+use Rattle.arm64_insn.specs.LoadStore.{accessIn, takenAsLoad, accessOf, loadStoreWith, loadStoreOf, isLdrsw, loadStoreFrom, takenWord, takenIn}
 use Rattle.arm64_insn.specs.Fix.{scaleOf, quad}
 use Rattle.arm64_insn.specs.declared.adrp.Adrp as A
 use Rattle.arm64_insn.specs.declared.adrp.AdrpWord.{AdrpWord}
@@ -34,7 +34,7 @@ use Rattle.arm64_insn.specs.declared.ldst.LoadStore as L
 use Rattle.arm64_insn.specs.declared.ldst.LoadStoreWord.{LoadStoreWord}
 use Rattle.arm64_insn.specs.declared.ldst.LoadStoreWord.the-variants as LoadStoreWord
 use Rattle.arm64_insn.proofs.Cells.{each-cell}
-use Rattle.arm64_insn.proofs.Manual.{decode-has, has-decode, encode-decode, decode-in-range}
+use Rattle.arm64_insn.proofs.Manual.{decode-has, has-decode, encode-decode, decode-in-range, moves-allocated}
 use Rattle.arm64_insn.proofs.ManualClasses.{by-class}
 
 -- `Adrp::decode` answers the manual's ADRP, and nothing else
@@ -68,46 +68,6 @@ decodes-add w rd rn imm l e =
     let m : matches add w ≡ true =
     ap (matches add) (sym (encode-decode w (ADD 1 0 rd rn imm) l e)) ∙ matches-fill add (rd ∷ rn ∷ imm ∷ []) refl (r .2, (r .3, (r .4, tt))) in
     choose-true (matches add w) _ _ m ∙ cc (by-class w 2 (lit< tt) (h .matched), e)
-
--- a load of 4 bytes that copies its sign up to bit 63: LDRSW
-abbrev pub isLdrsw : Row → Bool
-isLdrsw (load m r n zeros) = false
-isLdrsw (load m r n sign32) = false
-isLdrsw (load m r n sign64) = eqb n 4
-isLdrsw (store m r n) = false
-isLdrsw (prefetch m) = false
-isLdrsw unallocated = false
-
--- what the fields of a load or store say, with its row
-abbrev pub loadStoreFrom : ℕ → ℕ → ℕ → ℕ → ℕ → Row → L.LoadStore
-loadStoreFrom w v rt rn imm12 row =
-    record {
-      insn = w;
-      reg = rt;
-      base = rn;
-      offset = imm12 * movedBy row;
-      size = movedBy row;
-      «is_store» = isStore row;
-      «is_float» = eqb v 1;
-      «is_ldrsw» = isLdrsw row;
-    }
-
--- the unallocated words that document 01 takes as loads of 2^size bytes
-abbrev pub takenWord : ℕ → Bool
-takenWord w = matches loadStore w && takenAsLoad (sizeIn w) (vIn w) (opcIn w)
-
-abbrev pub takenIn : ℕ → L.LoadStore
-takenIn w =
-    record {
-      insn = w;
-      reg = rdIn w;
-      base = rnIn w;
-      offset = imm12In w * 2 ^ sizeIn w;
-      size = 2 ^ sizeIn w;
-      «is_store» = false;
-      «is_float» = true;
-      «is_ldrsw» = false;
-    }
 
 -- two tests that agree
 abbrev agree : Bool → Bool → Bool
@@ -146,13 +106,6 @@ unallocated-is (load m g n x) e = absurd (false≢true (sym e))
 unallocated-is (store m g n) e = absurd (false≢true (sym e))
 unallocated-is (prefetch m) e = absurd (false≢true (sym e))
 unallocated-is unallocated e = refl
-
--- a row that moves is allocated
-moves-allocated : (r : Row) → moves r ≡ true → isAllocated r ≡ true
-moves-allocated (load m g n x) e = refl
-moves-allocated (store m g n) e = refl
-moves-allocated (prefetch m) e = refl
-moves-allocated unallocated e = e
 
 module _ (w : ℕ) where
   in-class : matches loadStore w ≡ true → loadStoreOf w ≡ loadStoreWith w (accessOf (sizeIn w) (vIn w) (opcIn w))

@@ -18,11 +18,11 @@ use Rattle.util.proofs.Below.{every}
 use Rattle.util.proofs.Diagram.{fixed-field, field-add}
 use Rattle.arm64_insn.specs.Encoding.{adrp, addImmediate, loadStore, branch}
 use Rattle.arm64_insn.specs.LoadStoreTable.{unallocated, unsignedImmediate, literal, rowOf, literalRowOf, movedBy, moves, isStore}
-use Rattle.arm64_insn.specs.Manual.{ADR, ADRP, ADD, LDST, LDR-literal, B, BL, BR, NOP, MOVZ, encode, form, decode}
-use Rattle.arm64_insn.specs.Manual.{rdIn, rnIn, shIn, sfIn, sizeIn, vIn, opcIn}
+use Rattle.arm64_insn.specs.Manual.{ADR, ADRP, ADD, LDST, PRFM, LDR-literal, B, BL, BR, NOP, MOVZ, encode, form, decode}
+use Rattle.arm64_insn.specs.Manual.{rdIn, rnIn, shIn, sfIn, sizeIn, vIn, opcIn, rowIn}
 use Rattle.arm64_insn.specs.Reach.{pageImm, pageOffset}
 use Rattle.arm64_insn.specs.Adrp.{adrWord}
-use Rattle.arm64_insn.specs.LoadStore.{loadStoreOf}
+use Rattle.arm64_insn.specs.LoadStore.{loadStoreOf, isLdrsw, loadStoreFrom}
 use Rattle.arm64_insn.specs.Literal.{hasLiteralForm, literalOpc, literalV, literalWord, Rebased, baseWord}
 use Rattle.arm64_insn.specs.Branch.{branchWord, helperWord}
 use Rattle.arm64_insn.specs.Stub.{stubWords, thunkWords}
@@ -34,9 +34,10 @@ use Rattle.arm64_insn.proofs.Manual.{decode-has, decode-encode, decode-
 use Rattle.arm64_insn.proofs.ManualClasses.{one-class}
 use Rattle.arm64_insn.proofs.Cells.{each-cell}
 use Rattle.arm64_insn.proofs.Decoded.{decoded-load-store, literal-opc-lt, literal-v-lt}
-use Rattle.arm64_insn.proofs.Decodes.{isLdrsw, loadStoreFrom, decodes-load-store, load-store-scale, other-scale}
+use Rattle.arm64_insn.proofs.Decodes.{decodes-load-store, load-store-scale, unmoved-scale, other-scale}
 
-page-imm-lt : (hi lo : ℕ) → pageImm hi lo < 2 ^ 21
+-- the immediate of an ADRP has 21 bits
+pub page-imm-lt : (hi lo : ℕ) → pageImm hi lo < 2 ^ 21
 unfolding pageImm
 page-imm-lt hi lo = omega arith
 
@@ -117,6 +118,24 @@ load-store-patched w size v opc rt rn imm12 val e =
     let g : field w 22 10 * 2 ^ 22 + x * 2 ^ 10 + field w 0 10 ≡ encode (LDST size v opc rt rn x) =
     rw (registers w, top-load-store w (h .matched), s, t, u, d, n) (omega arith) in
     rw (load-store-scale w size v opc rt rn imm12 e, g)
+
+-- a prefetch with the page offset is that prefetch with another immediate, which counts eights, where 8 divides the target
+pub prefetch-patched : (w rt rn imm12 val : ℕ) → decode w ≡ form (PRFM rt rn imm12)
+    → offsetWith w val ≡ choose (eqb (val % 8) 0) (Word (encode (PRFM rt rn (val % 2 ^ 12 / 8)))) (Misaligned 8)
+unfolding offsetWith rowOf
+prefetch-patched w rt rn imm12 val e =
+    let h = decode-has w (PRFM rt rn imm12) e in
+    let s : sizeIn w ≡ 0b11 = cc (h .fields) in
+    let t : vIn w ≡ 0 = cc (h .fields) in
+    let u : opcIn w ≡ 0b10 = cc (h .fields) in
+    let d : rdIn w ≡ rt = cc (h .fields) in
+    let n : rnIn w ≡ rn = cc (h .fields) in
+    let r : rowIn w ≡ rowOf 0b11 0 0b10 = cc in
+    let k : scaleOf w ≡ 3 = unmoved-scale w (h .matched) (ap moves r) ∙ s in
+    let x : ℕ = val % 2 ^ 12 / 8 in
+    let g : field w 22 10 * 2 ^ 22 + x * 2 ^ 10 + field w 0 10 ≡ encode (PRFM rt rn x) =
+    rw (registers w, top-load-store w (h .matched), s, t, u, d, n) (omega arith) in
+    rw (k, g)
 
 -- a patched B is a B with another immediate, a patched BL a BL
 top-branch : (w op : ℕ) → matches branch w ≡ true → sfIn w ≡ op → field w 26 6 ≡ op * 2 ^ 5 + 0b00101

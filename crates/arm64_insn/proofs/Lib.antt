@@ -3,8 +3,9 @@ pub mod ManualClasses
 pub mod Manual
 pub mod ManualTargets
 pub mod ManualMasks
-pub mod ManualExamples
+pub mod ManualAssembled
 pub mod ManualLines
+pub mod ManualGaps
 pub mod Cells
 pub mod Decoded
 pub mod Scale

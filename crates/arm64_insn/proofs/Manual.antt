@@ -1,11 +1,12 @@
 -- Encoding and decoding undo each other: by the laws of filled diagrams, and since no word matches two diagrams.
+use mathlib.Core.Logic.{_≢_}
 use mathlib.Core.Path.{_≡_, refl, sym, ap, _∙_, subst}
 use mathlib.Core.Bool.{Bool, true, false, _||_, not, false≢true}
 use mathlib.Core.List.{List, [], _∷_}
 use Prim.Native.Nat.{ℕ, zero, suc, _+_, _*_, _/_, _%_, _^_, _<_}
 use native.Mathlib.Nat.{mod-lt, div-one}
 use native.Mathlib.Omega.{arith}
-use borrow.Author.Tests.{eqb-true}
+use borrow.Author.Tests.{eqb-true, ne-eqb, not-true}
 use lib.Dec.{eqb, lit<}
 use lib.ListN.{getD}
 use lib.Pow.{pow-pos}
@@ -13,11 +14,11 @@ use lib.Pow as Pow
 use Rattle.util.specs.Choice.{choose}
 use Rattle.util.specs.Bits.{field}
 use Rattle.util.specs.Diagram.{matches, sound, fill}
-use Rattle.util.proofs.Choice.{split, choose-true}
+use Rattle.util.proofs.Choice.{split, choose-true, choose-false}
 use Rattle.util.proofs.Below.{every, every-at}
 use Rattle.util.proofs.Diagram.{Room, freeAt, width, matches-fill, free-fill, fill-free, fill-lt}
 use Rattle.arm64_insn.specs.Encoding.{adr, adrp, addImmediate, loadStore, loadLiteral, branch, br, nop, movz}
-use Rattle.arm64_insn.specs.LoadStoreTable.{Mnemonic, Row, load, store, prefetch, unallocated, unsignedImmediate}
+use Rattle.arm64_insn.specs.LoadStoreTable.{Mnemonic, Row, load, store, prefetch, unallocated, unsignedImmediate, literal}
 use Rattle.arm64_insn.specs.LoadStoreTable.{rowOf, literalRowOf, moves, isAllocated}
 use Rattle.arm64_insn.specs.Manual.{Insn, ADR, ADRP, ADD, LDST, PRFM, LDR-literal, B, BL, BR, NOP, MOVZ, Decoded, form, none}
 use Rattle.arm64_insn.specs.Manual.{diagramOf, fieldsOf, encode, hasHalf, InRange, loadStoreForm, branchForm, classes, decode, allocated}
@@ -198,14 +199,74 @@ encode-decode w i l e = has-encode w i l (decode-has w i e)
 pub decode-in-range : (w : ℕ) (i : Insn) → decode w ≡ form i → InRange i
 decode-in-range w i e = decode-has w i e .in-range
 
+-- a row that moves is allocated
+pub moves-allocated : (r : Row) → moves r ≡ true → isAllocated r ≡ true
+moves-allocated (load m g n x) e = refl
+moves-allocated (store m g n) e = refl
+moves-allocated (prefetch m) e = refl
+moves-allocated unallocated e = e
+
+-- a choice between a form and none that is a form
+chose-form : (t : Bool) (x : Decoded) (i : Insn) → choose t x none ≡ form i → t ≡ true
+unfolding choose
+chose-form true x i e = refl
+chose-form false x i e = let z : _≡_ {A = ℕ} 0 1 = cc in absurd (omega arith)
+
 -- the manual has each word with a form in scope
 pub decode-allocated : (w : ℕ) (i : Insn) → decode w ≡ form i → allocated w ≡ true
 unfolding allocated
 decode-allocated w i e =
-    split (λ t. t ≡ true) (matches loadStore w) _ _ (λ m. go (rowIn w) (sym (by-class w 3 (lit< tt) m) ∙ e)) (λ m. refl)
+    split (λ t. t ≡ true) (matches loadStore w) _ _ (λ m. go (rowIn w) (sym (by-class w 3 (lit< tt) m) ∙ e))
+    (λ _. split (λ t. t ≡ true) (matches loadLiteral w) _ _
+    (λ m. moves-allocated (literalRowOf (sizeIn w) (vIn w)) (chose-form _ _ i (sym (by-class w 4 (lit< tt) m) ∙ e)))
+    (λ _. split (λ t. t ≡ true) (matches movz w) _ _ (λ m. chose-form _ _ i (sym (by-class w 8 (lit< tt) m) ∙ e)) (λ _. refl)))
   where
     go : (r : Row) → loadStoreForm r w ≡ form i → isAllocated r ≡ true
     go (load m g n x) q = refl
     go (store m g n) q = refl
     go (prefetch m) q = refl
     go unallocated q = let z : _≡_ {A = ℕ} 0 1 = cc in absurd (omega arith)
+
+-- a choice between a form and none that is none
+chose-none : (t : Bool) (i : Insn) → choose t (form i) none ≡ none → t ≡ false
+unfolding choose
+chose-none true i e = let z : _≡_ {A = ℕ} 0 1 = cc in absurd (omega arith)
+chose-none false i e = refl
+
+-- of the literal rows that move nothing, that of V 0 and opc 11 alone is allocated: PRFM (literal)
+abbrev movesOrGap : ℕ → Bool
+movesOrGap k = moves (getD literal k unallocated) || (eqb k 3 || not (isAllocated (getD literal k unallocated)))
+
+literal-gaps : every movesOrGap 8 ≡ true
+unfolding every choose
+literal-gaps = refl
+
+-- a word of these classes without a form is unallocated, but for PRFM (literal)
+module _ (w : ℕ) (e : decode w ≡ none) where
+  pub load-store-unallocated : matches loadStore w ≡ true → allocated w ≡ false
+  unfolding allocated
+  load-store-unallocated m = choose-true (matches loadStore w) _ _ m ∙ go (rowIn w) (sym (by-class w 3 (lit< tt) m) ∙ e)
+    where
+      go : (r : Row) → loadStoreForm r w ≡ none → isAllocated r ≡ false
+      go (load m g n x) q = let z : _≡_ {A = ℕ} 0 1 = cc in absurd (omega arith)
+      go (store m g n) q = let z : _≡_ {A = ℕ} 0 1 = cc in absurd (omega arith)
+      go (prefetch m) q = let z : _≡_ {A = ℕ} 0 1 = cc in absurd (omega arith)
+      go unallocated q = refl
+
+  pub literal-unallocated : matches loadLiteral w ≡ true → vIn w * 4 + sizeIn w ≢ 3 → allocated w ≡ false
+  unfolding allocated literalRowOf
+  literal-unallocated m n =
+      let k : ℕ = vIn w * 4 + sizeIn w in
+      let g = chose-none (moves (getD literal k unallocated)) _ (sym (by-class w 4 (lit< tt) m) ∙ e) in
+      let u = every-at movesOrGap 8 literal-gaps k (omega arith) in
+      choose-false (matches loadStore w) _ _ (one-class 4 3 w (lit< tt) (lit< tt) (λ q. omega arith) m)
+      ∙ choose-true (matches loadLiteral w) _ _ m
+      ∙ not-true (isAllocated (getD literal k unallocated)) (rw (g, ne-eqb k 3 n) at u)
+
+  pub movz-unallocated : matches movz w ≡ true → allocated w ≡ false
+  unfolding allocated
+  movz-unallocated m =
+      choose-false (matches loadStore w) _ _ (one-class 8 3 w (lit< tt) (lit< tt) (λ q. omega arith) m)
+      ∙ choose-false (matches loadLiteral w) _ _ (one-class 8 4 w (lit< tt) (lit< tt) (λ q. omega arith) m)
+      ∙ choose-true (matches movz w) _ _ m
+      ∙ chose-none (hasHalf (sfIn w) (hwIn w)) _ (sym (by-class w 8 (lit< tt) m) ∙ e)

@@ -1,5 +1,6 @@
 -- The tables of loads and stores are what a disassembler prints of the words of their classes, with imm12 1, Rn 1 and Rt 2; by computing.
 use mathlib.Core.Path.{_≡_, refl}
+use mathlib.Core.Bool.{Bool, true, false}
 use mathlib.Core.List.{List, [], _∷_, map}
 use Prim.Native.Nat.{ℕ}
 use Prim.Native.String.{String}
@@ -82,3 +83,43 @@ unsigned-printed = refl
 pub literal-printed : map literalLineOf Table.literal ≡ literalLines
 unfolding choose
 literal-printed = refl
+
+-- the mnemonics of loads that copy the sign upwards
+abbrev pub namesSign : Mnemonic → Bool
+namesSign LDRSB = true
+namesSign LDRSH = true
+namesSign LDRSW = true
+namesSign STRB = false
+namesSign LDRB = false
+namesSign STRH = false
+namesSign LDRH = false
+namesSign STR = false
+namesSign LDR = false
+namesSign PRFM = false
+
+-- whether a widening copies the sign upwards
+abbrev pub copiesSign : Widening → Bool
+copiesSign zeros = false
+copiesSign sign32 = true
+copiesSign sign64 = true
+
+-- whether a row is a load with such a mnemonic
+abbrev pub namedSigned : Row → Bool
+namedSigned (load m r n g) = namesSign m
+namedSigned (store m r n) = false
+namedSigned (prefetch m) = false
+namedSigned unallocated = false
+
+-- whether a row is a load with such a widening
+abbrev pub widenedSigned : Row → Bool
+widenedSigned (load m r n g) = copiesSign g
+widenedSigned (store m r n) = false
+widenedSigned (prefetch m) = false
+widenedSigned unallocated = false
+
+-- the loads that copy the sign are LDRSB, LDRSH and LDRSW; how far they copy it is the letter of the printed register
+pub unsigned-signs : map widenedSigned Table.unsignedImmediate ≡ map namedSigned Table.unsignedImmediate
+unsigned-signs = refl
+
+pub literal-signs : map widenedSigned Table.literal ≡ map namedSigned Table.literal
+literal-signs = refl

@@ -1,6 +1,6 @@
 -- Demand 2, "what the fields then mean": in reach, the immediates that the words have lead to the targets meant. By the laws of
 -- sign-extended displacements (ManualTargets); `Encodes` says which words have these immediates.
-use mathlib.Core.Path.{_≡_, sym, ap, _∙_}
+use mathlib.Core.Path.{_≡_, refl, sym, ap, _∙_}
 use mathlib.Core.Bool.{true}
 use Prim.Native.Nat.{ℕ, _+_, _-_, _*_, _/_, _%_, _^_, _<_, _≤_}
 use native.Mathlib.Omega.{arith}
@@ -11,18 +11,19 @@ use lib.Pow.{mod-mod-pow}
 use lib.Pow as Pow
 use Rattle.util.specs.Choice.{choose}
 use Rattle.util.specs.Bits.{field}
-use Rattle.util.specs.Wrap.{diff, inRange}
+use Rattle.util.specs.Wrap.{sum, diff, inRange}
 use Rattle.util.proofs.Range.{range-pos}
 use Rattle.arm64_insn.specs.LoadStoreTable.{rowOf, movedBy}
-use Rattle.arm64_insn.specs.Manual.{LDST, form, decode}
-use Rattle.arm64_insn.specs.ManualTargets.{adrTarget, literalTarget, branchTarget, accessAddress, addValue}
+use Rattle.arm64_insn.specs.Manual.{LDST, MOVZ, form, decode}
+use Rattle.arm64_insn.specs.ManualTargets.{adrTarget, literalTarget, branchTarget, accessAddress, addValue, movzValue}
 use Rattle.arm64_insn.specs.Page.{pageOf, adrpPage}
 use Rattle.arm64_insn.specs.Reach.{pageImm, adrpReaches, within1mb}
 use Rattle.arm64_insn.specs.Branch.{branchReaches}
-use Rattle.arm64_insn.specs.Fix.{scaleOf}
+use Rattle.arm64_insn.specs.Fix.{isEnabledWord, scaleOf}
 use Rattle.arm64_insn.proofs.ManualTargets.{adr-reaches, literal-reaches, branch-reaches, adrp-reaches}
 use Rattle.arm64_insn.proofs.Scale.{scale-le}
 use Rattle.arm64_insn.proofs.Decodes.{load-store-scale}
+use Rattle.arm64_insn.proofs.Encodes.{is-enabled-made}
 
 -- one displacement fewer is asked for than an ADR has
 wider : (d : ℕ) → d < 2 ^ 64 → inRange d (2 ^ 20 - 1) (2 ^ 20) ≡ true → inRange d (2 ^ 20) (2 ^ 20) ≡ true
@@ -76,3 +77,13 @@ module _ (target pc : ℕ) (ht : target < 2 ^ 64) (hp : pc < 2 ^ 64) where
       → accessAddress (rowOf 0b11 0 0b01) (adrpPage (pageImm target pc) pc) (field target 3 9) ≡ target
   unfolding accessAddress pageOf rowOf
   stub-means near h = rw (adrp-means near) (omega arith)
+
+-- an ADD of 64 bits, unshifted, is a sum
+pub add-value : (source imm12 : ℕ) → addValue 1 0 source imm12 ≡ sum source imm12
+unfolding addValue choose
+add-value source imm12 = omega arith
+
+-- the word of an is-enabled probe makes 0 in x0
+pub is-enabled-means : (decode isEnabledWord ≡ form (MOVZ 1 0 0 0)) × (movzValue 0 0 ≡ 0)
+unfolding movzValue
+is-enabled-means = (is-enabled-made, refl)

@@ -5,10 +5,11 @@ use lib.Dec.{eqb, leb}
 use Rattle.util.specs.Choice.{choose}
 use Rattle.util.specs.Diagram.{matches}
 use Rattle.arm64_insn.specs.Encoding.{loadStore}
-use Rattle.arm64_insn.specs.LoadStoreTable.{Row, load, store, prefetch, unallocated, rowOf}
+use Rattle.arm64_insn.specs.LoadStoreTable.{Row, load, store, prefetch, unallocated, zeros, sign32, sign64, rowOf, movedBy, isStore}
 use Rattle.arm64_insn.specs.Manual.{rdIn, rnIn, imm12In, sizeIn, vIn, opcIn}
 use Rattle.arm64_insn.specs.declared.ldst.Access.{Access}
 use Rattle.arm64_insn.specs.declared.ldst.Access.the-variants.{Of, Neither}
+use Rattle.arm64_insn.specs.declared.ldst.LoadStore as L
 use Rattle.arm64_insn.specs.declared.ldst.LoadStoreWord.{LoadStoreWord}
 use Rattle.arm64_insn.specs.declared.ldst.LoadStoreWord.the-variants.{LoadStore, Other}
 
@@ -46,3 +47,44 @@ loadStoreWith x (Of bytes stores) =
 -- a word as a load or store
 unfoldable pub loadStoreOf : ℕ → LoadStoreWord
 loadStoreOf x = choose (matches loadStore x) (loadStoreWith x (accessOf (sizeIn x) (vIn x) (opcIn x))) Other
+
+-- a load of 4 bytes that copies its sign up to bit 63: LDRSW
+abbrev pub isLdrsw : Row → Bool
+isLdrsw (load m r n zeros) = false
+isLdrsw (load m r n sign32) = false
+isLdrsw (load m r n sign64) = eqb n 4
+isLdrsw (store m r n) = false
+isLdrsw (prefetch m) = false
+isLdrsw unallocated = false
+
+-- what the fields of a load or store say, with its row
+abbrev pub loadStoreFrom : ℕ → ℕ → ℕ → ℕ → ℕ → Row → L.LoadStore
+loadStoreFrom w v rt rn imm12 row =
+    record {
+      insn = w;
+      reg = rt;
+      base = rn;
+      offset = imm12 * movedBy row;
+      size = movedBy row;
+      «is_store» = isStore row;
+      «is_float» = eqb v 1;
+      «is_ldrsw» = isLdrsw row;
+    }
+
+-- the unallocated words that document 01 takes as loads of 2^size bytes
+abbrev pub takenWord : ℕ → Bool
+takenWord w = matches loadStore w && takenAsLoad (sizeIn w) (vIn w) (opcIn w)
+
+-- what their fields say
+abbrev pub takenIn : ℕ → L.LoadStore
+takenIn w =
+    record {
+      insn = w;
+      reg = rdIn w;
+      base = rnIn w;
+      offset = imm12In w * 2 ^ sizeIn w;
+      size = 2 ^ sizeIn w;
+      «is_store» = false;
+      «is_float» = true;
+      «is_ldrsw» = false;
+    }

@@ -1,5 +1,5 @@
 -- The A64 instructions in scope: their forms, how a form is encoded, and which form a word has (Arm Architecture Reference Manual, C4.1 and C6.2).
--- A word with no form here may be any other instruction; of those nothing is said, but for the unallocated loads and stores.
+-- A word with no form here may be any other instruction; of those nothing is said, but for the unallocated words of the classes in scope.
 use Prim.Native.Nat.{ℕ, zero, suc, _+_, _*_, _/_, _%_, _^_, _<_}
 use mathlib.Core.Path.{_≡_}
 use mathlib.Core.Bool.{Bool, true, false, _||_}
@@ -183,6 +183,10 @@ formBy (c ∷ cs) w = choose (matches (c .diagram) w) (c .formOf w) (formBy cs w
 unfoldable pub decode : ℕ → Decoded
 decode w = formBy classes w
 
--- false for the words of the load/store class that the manual leaves unallocated; true for every other word, of which nothing is claimed
+-- false for the words of the load/store, literal load and MOVZ classes that the manual leaves unallocated; true for every other word, of which
+-- nothing is claimed
 unfoldable pub allocated : ℕ → Bool
-allocated w = choose (matches loadStore w) (isAllocated (rowIn w)) true
+allocated w =
+    choose (matches loadStore w) (isAllocated (rowIn w))
+    (choose (matches loadLiteral w) (isAllocated (literalRowOf (sizeIn w) (vIn w)))
+    (choose (matches movz w) (hasHalf (sfIn w) (hwIn w)) true))
