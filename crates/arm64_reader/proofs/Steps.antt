@@ -1,33 +1,39 @@
 -- The step at a record in each of its cases: past the contents, an ADDEND record with and without a record after it, any other record.
-use mathlib.Core.Path.{_≡_, refl, sym, ap, _∙_}
+use mathlib.Core.Path.{_≡_, refl, sym, ap, subst, _∙_}
 use mathlib.Core.Bool.{Bool, true, false}
 use mathlib.Core.List.{List}
 use Prim.Native.Nat.{ℕ, _+_, _-_, _/_, _<_, _≤_}
 use native.Mathlib.Omega.{arith}
-use borrow.Author.Tests.{eq-eqb, ne-eqb, lt-ltb, le-ltb, ltb-true}
+use borrow.Author.Tests.{eq-eqb, ne-eqb, lt-ltb, le-ltb, ltb-true, eqb-false}
 use lib.ListN.{length, drop}
 use lib.Dec.{eqb, ltb}
 use Rattle.util.specs.Bits.{extend}
 use Rattle.util.specs.Choice.{choose}
 use Rattle.util.proofs.Choice.{split, chosen, choose-true}
-use Rattle.macho.specs.MachRel.{idxOf, typeOf}
-use Rattle.macho.specs.Types.{ARM64-RELOC-SUBTRACTOR, ARM64-RELOC-ADDEND}
+use Rattle.macho.specs.MachRel.{idxOf, pcrelOf, p2sizeOf, externOf, typeOf}
+use Rattle.macho.specs.Types.{ARM64-RELOC-UNSIGNED, ARM64-RELOC-SUBTRACTOR, ARM64-RELOC-GOT-LOAD-PAGEOFF12, ARM64-RELOC-TLVP-LOAD-PAGEOFF12}
+use Rattle.macho.specs.Types.{ARM64-RELOC-ADDEND}
 use Rattle.macho.specs.declared.rel.MachRel.{MachRel}
 use Rattle.macho.specs.declared.reloc.Reloc.{Reloc}
 use Rattle.macho.specs.declared.refusal.Refusal.{Refusal}
 use Rattle.macho.specs.declared.refusal.Refusal.the-variants.{Bounds, LoneAddend}
+use Rattle.arch.specs.Entry.{entryOf, targeted}
+use Rattle.arch.specs.Form.{form, member}
+use Rattle.arch.specs.Target.{targetOf}
 use Rattle.arch.specs.Table.{recordsOf, recordAt, subtractedAt, lengthsOf}
-use Rattle.arch.specs.Walk.{refused, readAll}
+use Rattle.arch.specs.Walk.{refused, readAll, Fills}
 use Rattle.arch.specs.declared.step.Check.{Check}
 use Rattle.arch.specs.declared.step.Check.the-variants as C
 use Rattle.arch.specs.declared.step.Step.{Step}
 use Rattle.arch.specs.declared.step.Step.the-variants as S
 use Rattle.arch.proofs.Records.{length-records}
-use Rattle.arch.proofs.Walk.{Later, Within, Ends, Onward, refused-later, refused-within, ends-later, ends-within, targeted-ends, onward}
+use Rattle.arch.proofs.Walk.{Later, Within, Ends, Onward, refused-later, refused-within, ends-later, ends-within, targeted-ends, onward, Rest, fill-refused}
 use Rattle.arm64_reader.specs.declared.record.Addend.{Addend}
 use Rattle.arm64_reader.specs.declared.record.Addend.the-variants.{Held, Refused}
-use Rattle.arm64_reader.specs.Check.{checkReloc}
-use Rattle.arm64_reader.specs.Record.{addendOf, passing, adding, recordOf, ownAt, stepAt}
+use Rattle.arm64_reader.specs.Support.{formsOf, supportedOf}
+use Rattle.arm64_reader.specs.Check.{pointer32, checkReloc}
+use Rattle.arm64_reader.specs.Record.{addendOf, passing, adding, recordOf, ownAt, stepAt, Reads, Plain}
+use Rattle.arm64_reader.specs.Fields.{isAddend, ownOf, givenOf}
 use Rattle.arm64_reader.specs.Read.{readRecords, readTable, readRelocs}
 
 -- the record after one that is no SUBTRACTOR is not subtracted
@@ -63,6 +69,72 @@ module _ (contents sections : List ℕ) (before : Bool) (rs : List MachRel) (i :
       → stepAt contents sections before rs i ≡ ownAt contents sections before rs i off 0
   unfolding stepAt choose
   other-is h t = simp (le-ltb _ _ h, ne-eqb _ _ t)
+
+  -- an entry that has its own record, with an ADDEND record before that or without
+  pub own-is : off ≤ length contents → ownOf rs i < length rs
+      → stepAt contents sections before rs i ≡ ownAt contents sections before rs (ownOf rs i) off (givenOf rs i)
+  unfolding stepAt choose
+  own-is h l = go (isAddend (recordAt rs i)) refl
+    where
+      go : (b : Bool) → isAddend (recordAt rs i) ≡ b
+          → stepAt contents sections before rs i ≡ ownAt contents sections before rs (ownOf rs i) off (givenOf rs i)
+      go true e =
+          let m : i + 1 < length rs = rw e at l in
+          simp (le-ltb _ _ h, e, lt-ltb _ _ m)
+      go false e = simp (le-ltb _ _ h, e)
+
+  -- and one that has none
+  pub none-is : off ≤ length contents → i < length rs → length rs ≤ ownOf rs i → stepAt contents sections before rs i ≡ S.Refused LoneAddend
+  unfolding stepAt choose
+  none-is h k l = go (isAddend (recordAt rs i)) refl
+    where
+      go : (b : Bool) → isAddend (recordAt rs i) ≡ b → stepAt contents sections before rs i ≡ S.Refused LoneAddend
+      go true e =
+          let m : length rs ≤ i + 1 = rw e at l in
+          simp (le-ltb _ _ h, e, le-ltb _ _ m)
+      go false e =
+          let m : length rs ≤ i = rw e at l in
+          absurd (omega arith)
+
+  -- a record that reads whatever stands at its place
+  pub plain-is : off ≤ length contents → Plain (recordAt rs i)
+      → stepAt contents sections before rs i
+      ≡ S.Read (entryOf (recordAt rs i) (subtractedAt ARM64-RELOC-SUBTRACTOR before rs i) off (idxOf (recordAt rs i .bits)) 0) (i + 1)
+  plain-is h p =
+      other-is h (p .0) ∙ p .1 (drop off contents) sections (subtractedAt ARM64-RELOC-SUBTRACTOR before rs i) off (i + 1)
+
+-- a record of a symbol, of a supported form, with no addend in its place and no word to be checked, by the number of its type and form
+module _ (r : MachRel) where
+  plain-by : supportedOf r ≡ true → eqb (externOf (r .bits)) 1 ≡ true → eqb (typeOf (r .bits)) ARM64-RELOC-UNSIGNED ≡ false
+      → eqb (typeOf (r .bits)) ARM64-RELOC-GOT-LOAD-PAGEOFF12 ≡ false → eqb (typeOf (r .bits)) ARM64-RELOC-TLVP-LOAD-PAGEOFF12 ≡ false
+      → eqb (typeOf (r .bits)) ARM64-RELOC-ADDEND ≡ false → Plain r
+  unfolding recordOf checkReloc pointer32 addendOf targeted targetOf choose
+  plain-by s x u g t a = (eqb-false _ _ a, λ loc sections subtracted offset next. simp (s, x, u, g, t))
+
+  pub plain-form : (ty pcrel : ℕ) → typeOf (r .bits) ≡ ty → pcrelOf (r .bits) ≡ pcrel → p2sizeOf (r .bits) ≡ 2 → externOf (r .bits) ≡ 1
+      → member (form pcrel 2 1) (formsOf ty) ≡ true → eqb ty ARM64-RELOC-UNSIGNED ≡ false → eqb ty ARM64-RELOC-GOT-LOAD-PAGEOFF12 ≡ false
+      → eqb ty ARM64-RELOC-TLVP-LOAD-PAGEOFF12 ≡ false → eqb ty ARM64-RELOC-ADDEND ≡ false → Plain r
+  unfolding supportedOf
+  plain-form ty pcrel e p z x m u g t a = plain-by (rw (e, p, z, x) m) (rw x refl) (rw e u) (rw e g) (rw e t) (rw e a)
+
+-- what a check lets through is what it was given
+passing-reads : (c : Check) (s : Step) → Reads (passing c s) → s ≡ passing c s
+passing-reads C.Fit s h = refl
+passing-reads (C.Refused x) s h = absurd h
+
+-- a step that reads does so without the check
+pub entered-is : (contents sections : List ℕ) (before : Bool) (rs : List MachRel) (i : ℕ)
+    → recordAt rs i .offset ≤ length contents → ownOf rs i < length rs
+    → Reads (stepAt contents sections before rs i)
+    → adding sections (recordAt rs (ownOf rs i)) (subtractedAt ARM64-RELOC-SUBTRACTOR before rs (ownOf rs i)) (recordAt rs i .offset) (ownOf rs i + 1)
+    (addendOf (recordAt rs (ownOf rs i)) (drop (recordAt rs i .offset) contents) (givenOf rs i))
+    ≡ stepAt contents sections before rs i
+unfolding recordOf
+entered-is contents sections before rs i h l r =
+    let e = own-is contents sections before rs i h l in
+    passing-reads (checkReloc (recordAt rs (ownOf rs i)) (subtractedAt ARM64-RELOC-SUBTRACTOR before rs (ownOf rs i)) (drop (recordAt rs i .offset) contents)) _
+    (subst Reads e r)
+    ∙ sym e
 
 -- ---- where a step ends
 
@@ -124,6 +196,14 @@ module _ (contents rels sections : List ℕ) where
 
   pub table-onward : (i : ℕ) {s : Step} {e : Reloc} {next : ℕ} → s ≡ S.Read e next → s ≡ tableStep i → i < next
   table-onward i p q = onward tableStep (step-onward contents sections false (recordsOf rels)) i p q
+
+  -- in a table that fills, each step from which a walk goes on reads
+  pub table-reads : (count i : ℕ) → count ≤ i → i < length rels / 8 → Fills (Rest tableStep (length rels / 8) count i) → Reads (tableStep i)
+  table-reads count i c l f = go (tableStep i) refl
+    where
+      go : (s : Step) → s ≡ tableStep i → Reads s
+      go (S.Refused x) e = fill-refused tableStep (length rels / 8) count i c l refl e f
+      go (S.Read r next) e = tt
 
 -- ---- the whole call, by the lengths that it is lent
 

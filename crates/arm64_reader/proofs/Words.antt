@@ -10,13 +10,13 @@ use Rattle.util.specs.Diagram.{matches}
 use Rattle.util.proofs.Below.{every}
 use Rattle.util.proofs.Choice.{both}
 use Rattle.arm64_insn.specs.Encoding.{addUnshifted, loadStore}
-use Rattle.arm64_insn.specs.LoadStore.{takenAsLoad, loadStoreOf}
+use Rattle.arm64_insn.specs.LoadStore.{takenAsLoad, loadStoreOf, takenWord}
 use Rattle.arm64_insn.specs.LoadStoreTable.{rowOf}
 use Rattle.arm64_insn.specs.Manual as M
 use Rattle.arm64_insn.specs.declared.ldst.LoadStoreWord.{LoadStoreWord}
 use Rattle.arm64_insn.specs.declared.ldst.LoadStoreWord.the-variants.{LoadStore, Other}
 use Rattle.arm64_insn.proofs.Cells.{each-cell}
-use Rattle.arm64_insn.proofs.Decodes.{takenWord, takenIn, decodes-load-store, load-store-decodes, taken-decodes, add-either-decodes, decodes-add-either}
+use Rattle.arm64_insn.proofs.Decodes.{decodes-load-store, load-store-decodes, taken-decodes, add-either-decodes, decodes-add-either}
 use Rattle.arm64_reader.specs.Check.{loadedIn, loadedBytes, gotFits, tlvpFits}
 use Rattle.arm64_reader.specs.Words.{isUnshiftedAdd, loadedBy}
 

@@ -37,6 +37,10 @@ pairs false (r ∷ rs) = pairs (isAddend r) rs
 abbrev pub ownOf : List MachRel → ℕ → ℕ
 ownOf rs i = choose (isAddend (recordAt rs i)) (i + 1) i
 
+-- what the ADDEND record at which an entry starts gives it, else 0
+abbrev pub givenOf : List MachRel → ℕ → ℕ
+givenOf rs i = choose (isAddend (recordAt rs i)) (extend (idxOf (recordAt rs i .bits)) 24) 0
+
 -- how many bytes of the contents, from the entry's offset on, an own record is read against: the pointer of an UNSIGNED, the word under a GOT or
 -- TLVP page offset
 unfoldable pub lookedAt : MachRel → ℕ
@@ -62,6 +66,5 @@ unfoldable pub entryAt : List ℕ → List ℕ → Bool → List MachRel → ℕ
 entryAt contents sections before rs i =
     let offset = recordAt rs i .offset in
     let own = recordAt rs (ownOf rs i) in
-    let given = choose (isAddend (recordAt rs i)) (extend (idxOf (recordAt rs i .bits)) 24) 0 in
     entryOf own (subtractedAt ARM64-RELOC-SUBTRACTOR before rs (ownOf rs i)) offset (targetIn own)
-    (addendIn sections own (heldIn own (le 4 contents offset) (le 8 contents offset) given))
+    (addendIn sections own (heldIn own (le 4 contents offset) (le 8 contents offset) (givenOf rs i)))

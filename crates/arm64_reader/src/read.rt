@@ -1,4 +1,5 @@
 // Relocation records into entries (arch/arm64.rs, `read_relocs`): one walk that checks and writes nothing, then one that fills.
+use crate::record::enter_one;
 use crate::record::read_one;
 use arch::step::Check;
 use arch::step::ReadAnswer;
@@ -40,7 +41,7 @@ fn fill_walk(contents: &[u8], rels: &[u8], sections: &[u64], slots: &mut [u8])
     let mut i = 0;
     let mut count = 0;
     while i < n {
-        match read_one(contents, rels, sections, i) {
+        match enter_one(contents, rels, sections, i) {
             Step::Refused(_) => {
                 return;
             }

@@ -2,6 +2,7 @@
 use crate::check::check_reloc;
 use arch::step::Check;
 use arch::step::Step;
+use arch::step::entry_of;
 use arch::step::read_target;
 use arch::table::is_subtracted;
 use arch::table::record_at;
@@ -14,11 +15,12 @@ use util::read32;
 use util::read64;
 use util::sign_extend;
 ghost use mathlib.Core.Path.{_≡_};
-ghost use mathlib.Core.Bool.{false};
+ghost use mathlib.Core.Bool.{true, false};
 ghost use Prim.Native.Nat.{_/_, _<_, _≤_};
 ghost use lib.ListN.{length, drop};
 ghost use Rattle.arch.specs.Table.{recordsOf};
-ghost use Rattle.arm64_reader.specs.Record.{addendOf, recordOf, stepAt};
+ghost use Rattle.arm64_reader.specs.Record.{addendOf, adding, recordOf, stepAt, Reads, Plain};
+ghost use Rattle.arm64_reader.specs.Fields.{ownOf, givenOf};
 
 // The addend of a record.
 pub enum Addend {
@@ -45,7 +47,25 @@ fn addend_of(r: MachRel, loc: &[u8], addend: u64) -> Addend
     Addend::Held(read64(loc, 0))
 }
 
-// An entry's own record; `loc` are the contents from the entry's offset on.
+// The entry of an own record; `loc` are the contents from the entry's offset on.
+fn enter_record(
+    loc: &[u8],
+    sections: &[u64],
+    r: MachRel,
+    subtracted: bool,
+    offset: u32,
+    addend: u64,
+    next: usize,
+) -> Step
+    ensures { λ s. ⌜ s ≡ adding (now (sections .entry)) r subtracted offset next (addendOf r (now (loc .entry)) addend) ⌝ }
+{
+    match addend_of(r, loc, addend) {
+        Addend::Refused(refusal) => Step::Refused(refusal),
+        Addend::Held(own) => read_target(sections, r, subtracted, offset, own, next),
+    }
+}
+
+// An entry's own record with its checks; `loc` are the contents from the entry's offset on.
 fn read_record(
     loc: &[u8],
     sections: &[u64],
@@ -59,10 +79,7 @@ fn read_record(
 {
     match check_reloc(r, subtracted, loc) {
         Check::Refused(refusal) => Step::Refused(refusal),
-        Check::Fit => match addend_of(r, loc, addend) {
-            Addend::Refused(refusal) => Step::Refused(refusal),
-            Addend::Held(own) => read_target(sections, r, subtracted, offset, own, next),
-        },
+        Check::Fit => enter_record(loc, sections, r, subtracted, offset, addend, next),
     }
 }
 
@@ -75,33 +92,101 @@ fn contents_from(contents: &[u8], offset: u32) -> &[u8]
     &contents[at..]
 }
 
+// The number of an entry's own record, where the entry starts at record i: the next one where that is ADDEND.
+fn own_number(rels: &[u8], i: usize) -> usize
+    requires { ⌜ i < length (now rels) / 8 ⌝ }
+    ensures { λ j. ⌜ j ≡ ownOf (recordsOf (now (rels .entry))) i ⌝ }
+{
+    if record_at(rels, i).ty() == ARM64_RELOC_ADDEND {
+        return i + 1;
+    }
+    i
+}
+
+// The addend that an entry's ADDEND record gives it, else 0.
+fn given_addend(rels: &[u8], i: usize) -> u64
+    requires { ⌜ i < length (now rels) / 8 ⌝ }
+    ensures { λ a. ⌜ a ≡ givenOf (recordsOf (now (rels .entry))) i ⌝ }
+{
+    let r = record_at(rels, i);
+    if r.ty() == ARM64_RELOC_ADDEND {
+        return sign_extend(r.idx() as u64, 24);
+    }
+    0
+}
+
+// Whether a record is known by its type and form alone to read: one of a symbol with no addend in its place and no word to be checked.
+fn is_plain(r: MachRel) -> bool
+    ensures { λ b. ⌜ (b ≡ true → Plain r) ⌝ }
+{
+    let form = r.bits / 0x100_0000;
+    if form == 0x2d {
+        return true;
+    }
+    if form == 0x3d {
+        return true;
+    }
+    if form == 0x4c {
+        return true;
+    }
+    if form == 0x5d {
+        return true;
+    }
+    false
+}
+
 // What stands at record i. An ADDEND record gives its offset and its addend to the record after it.
 pub fn read_one(contents: &[u8], rels: &[u8], sections: &[u64], i: usize) -> Step
     requires { ⌜ i < length (now rels) / 8 ⌝ }
     ensures { λ s. ⌜ s ≡ stepAt (now (contents .entry)) (now (sections .entry)) false (recordsOf (now (rels .entry))) i ⌝ }
 {
-    let r = record_at(rels, i);
-    let offset = r.offset;
+    let first = record_at(rels, i);
+    let offset = first.offset;
     if contents.len() < offset as usize {
         return Step::Refused(Refusal::Bounds);
     }
-    let loc = contents_from(contents, offset);
-    if r.ty() == ARM64_RELOC_ADDEND {
-        let j = i + 1;
-        if j < rels.len() / 8 {
-            let own = record_at(rels, j);
-            return read_record(
-                loc,
-                sections,
-                own,
-                false,
-                offset,
-                sign_extend(r.idx() as u64, 24),
-                j + 1,
-            );
-        }
-        return Step::Refused(Refusal::LoneAddend);
+    if is_plain(first) {
+        let subtracted = is_subtracted(rels, i, ARM64_RELOC_SUBTRACTOR);
+        return Step::Read(entry_of(first, subtracted, offset, first.idx(), 0), i + 1);
     }
-    let subtracted = is_subtracted(rels, i, ARM64_RELOC_SUBTRACTOR);
-    read_record(loc, sections, r, subtracted, offset, 0, i + 1)
+    let j = own_number(rels, i);
+    if j < rels.len() / 8 {
+        let loc = contents_from(contents, offset);
+        let own = record_at(rels, j);
+        let subtracted = is_subtracted(rels, j, ARM64_RELOC_SUBTRACTOR);
+        return read_record(
+            loc,
+            sections,
+            own,
+            subtracted,
+            offset,
+            given_addend(rels, i),
+            j + 1,
+        );
+    }
+    Step::Refused(Refusal::LoneAddend)
+}
+
+// The same of a record that is known to read, without the checks of its form and its word.
+pub fn enter_one(contents: &[u8], rels: &[u8], sections: &[u64], i: usize) -> Step
+    requires { ⌜ (i < length (now rels) / 8) × Reads (stepAt (now contents) (now sections) false (recordsOf (now rels)) i) ⌝ }
+    ensures { λ s. ⌜ s ≡ stepAt (now (contents .entry)) (now (sections .entry)) false (recordsOf (now (rels .entry))) i ⌝ }
+{
+    let first = record_at(rels, i);
+    if contents.len() < first.offset as usize {
+        return Step::Refused(Refusal::Bounds);
+    }
+    let j = own_number(rels, i);
+    if j < rels.len() / 8 {
+        return enter_record(
+            contents_from(contents, first.offset),
+            sections,
+            record_at(rels, j),
+            is_subtracted(rels, j, ARM64_RELOC_SUBTRACTOR),
+            first.offset,
+            given_addend(rels, i),
+            j + 1,
+        );
+    }
+    Step::Refused(Refusal::LoneAddend)
 }

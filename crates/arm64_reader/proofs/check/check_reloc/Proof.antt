@@ -11,11 +11,9 @@ use Rattle.arm64_reader.proofs.check.is_pointer32.Reads as is-pointer32
 use Rattle.arm64_reader.proofs.support.is_supported.Reads as is-supported-reads
 use Rattle.macho.proofs.rel.MachRel.ty.Reads as ty-reads
 
--- src/check.rt:76:9
 is-supported-requires : tie.Need-is-supported-requires
 is-supported-requires c κs = search needs
 
--- src/check.rt:77:9
 returns : tie.Need-returns
 unfolding checkReloc choose
 returns c =
@@ -24,11 +22,9 @@ returns c =
       ← c .before .is-supported .ensures,
     )
 
--- src/check.rt:79:8
 is-pointer32-requires : tie.Need-is-pointer32-requires
 is-pointer32-requires c κs = search needs
 
--- src/check.rt:80:9
 returns-2 : tie.Need-returns-2
 unfolding checkReloc choose
 returns-2 c =
@@ -39,15 +35,12 @@ returns-2 c =
       ← c .before .before .before .is-supported .ensures,
     )
 
--- src/check.rt:82:9
 ty-requires : tie.Need-ty-requires
 ty-requires c κs = search needs
 
--- src/check.rt:84:9
 check-word-requires : tie.Need-check-word-requires
 check-word-requires c κs = search needs
 
--- src/check.rt:84:9
 returns-3 : tie.Need-returns-3
 unfolding checkReloc choose
 returns-3 c =
@@ -61,11 +54,9 @@ returns-3 c =
       ← c .before .before .before .before .before .before .is-supported .ensures,
     )
 
--- src/check.rt:87:9
 check-word-requires-2 : tie.Need-check-word-requires-2
 check-word-requires-2 c κs = search needs
 
--- src/check.rt:87:9
 returns-4 : tie.Need-returns-4
 unfolding checkReloc choose
 returns-4 c =
@@ -80,7 +71,6 @@ returns-4 c =
       ← c .before .before .before .before .before .before .before .is-supported .ensures,
     )
 
--- src/check.rt:73:1
 returns-5 : tie.Need-returns-5
 unfolding checkReloc choose
 returns-5 c =

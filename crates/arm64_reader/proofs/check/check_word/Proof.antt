@@ -10,22 +10,18 @@ use Rattle.arm64_reader.proofs.check.got_fits.Reads as got-fits-reads
 use Rattle.arm64_reader.proofs.check.tlvp_fits.Reads as tlvp-fits-reads
 use Rattle.util.proofs.read32.Reads as read32-reads
 
--- src/check.rt:57:9
 returns : tie.Need-returns
 unfolding wordCheck choose
 returns c =
     simp
     (lt-ltb _ _ (c .if1 .taken))
 
--- src/check.rt:59:9
 read32-requires : tie.Need-read32-requires
 read32-requires c κs = search needs
 
--- src/check.rt:61:12
 got-fits-requires : tie.Need-got-fits-requires
 got-fits-requires c κs = search needs
 
--- src/check.rt:62:13
 returns-2 : tie.Need-returns-2
 unfolding wordCheck choose
 returns-2 c =
@@ -37,7 +33,6 @@ returns-2 c =
       le-ltb _ _ (c .before .before .before .before .if1 .left),
     )
 
--- src/check.rt:64:9
 returns-3 : tie.Need-returns-3
 unfolding wordCheck choose
 returns-3 c =
@@ -49,11 +44,9 @@ returns-3 c =
       le-ltb _ _ (c .before .before .before .before .if1 .left),
     )
 
--- src/check.rt:66:8
 tlvp-fits-requires : tie.Need-tlvp-fits-requires
 tlvp-fits-requires c κs = search needs
 
--- src/check.rt:67:9
 returns-4 : tie.Need-returns-4
 unfolding wordCheck choose
 returns-4 c =
@@ -65,7 +58,6 @@ returns-4 c =
       le-ltb _ _ (c .before .before .before .before .if1 .left),
     )
 
--- src/check.rt:53:1
 returns-5 : tie.Need-returns-5
 unfolding wordCheck choose
 returns-5 c =

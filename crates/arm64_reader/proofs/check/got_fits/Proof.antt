@@ -7,20 +7,16 @@ use Rattle.arm64_reader.proofs.check.got_fits.Lts as lts
 use Rattle.arm64_insn.proofs.add.is_add_either.Reads as is-add-either-reads
 use Rattle.arm64_reader.proofs.check.loaded_bytes.Reads as loaded-bytes-reads
 
--- src/check.rt:35:5
 is-add-either-requires : tie.Need-is-add-either-requires
 is-add-either-requires c κs = search needs
 
--- src/check.rt:35:28
 loaded-bytes-requires : tie.Need-loaded-bytes-requires
 loaded-bytes-requires c κs = search needs
 
--- src/check.rt:32:1
 returns : tie.Need-returns
 unfolding gotFits
 returns c = simp (← c .before .is-add-either .ensures, c .if1 .taken)
 
--- src/check.rt:32:1
 returns-2 : tie.Need-returns-2
 unfolding gotFits
 returns-2 c = simp (c .loaded-bytes .ensures, ← c .before .before .is-add-either .ensures, c .before .if1 .left)

@@ -8,11 +8,9 @@ use Rattle.arm64_reader.proofs.check.is_pointer32.Lts as lts
 use Rattle.macho.proofs.rel.MachRel.p2size.Reads as p2size-reads
 use Rattle.macho.proofs.rel.MachRel.ty.Reads as ty-reads
 
--- src/check.rt:49:8
 ty-requires : tie.Need-ty-requires
 ty-requires c κs = search needs
 
--- src/check.rt:50:9
 returns : tie.Need-returns
 unfolding pointer32
 returns c =
@@ -21,11 +19,9 @@ returns c =
       ← c .before .ty .ensures,
     )
 
--- src/check.rt:52:8
 p2size-requires : tie.Need-p2size-requires
 p2size-requires c κs = search needs
 
--- src/check.rt:53:9
 returns-2 : tie.Need-returns-2
 unfolding pointer32
 returns-2 c =
@@ -36,7 +32,6 @@ returns-2 c =
       ← c .before .before .before .ty .ensures,
     )
 
--- src/check.rt:46:1
 returns-3 : tie.Need-returns-3
 unfolding pointer32
 returns-3 c =

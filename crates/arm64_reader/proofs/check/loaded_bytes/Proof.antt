@@ -8,31 +8,25 @@ use Rattle.arm64_reader.proofs.check.loaded_bytes.Reads as reads
 use Rattle.arm64_reader.proofs.check.loaded_bytes.Lts as lts
 use Rattle.arm64_insn.proofs.ldst.LoadStore.decode.Reads as decode-reads
 
--- src/check.rt:20:11
 decode-requires : tie.Need-decode-requires
 decode-requires c κs = search needs
 
--- src/check.rt:21:33
 enum-told : tie.Need-enum-told
 enum-told c = search needs
 
--- src/check.rt:22:34
 enum-known-ls : tie.Need-enum-known-ls
 enum-known-ls c = search needs
 
--- src/check.rt:24:17
 returns : tie.Need-returns
 unfolding loadedBytes choose
 returns c =
     let e = sym (c .before .before .before .before .decode .ensures) ∙ c .before .before .ls .given .1 in
     rw (e, c .if1 .taken)
 
--- src/check.rt:17:1
 returns-2 : tie.Need-returns-2
 unfolding loadedBytes
 returns-2 c = rw (sym (c .before .before .decode .ensures) ∙ c .enum-told .given .1)
 
--- src/check.rt:17:1
 returns-3 : tie.Need-returns-3
 unfolding loadedBytes choose
 returns-3 c =

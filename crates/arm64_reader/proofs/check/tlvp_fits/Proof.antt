@@ -6,11 +6,9 @@ use Rattle.arm64_reader.proofs.check.tlvp_fits.Reads as reads
 use Rattle.arm64_reader.proofs.check.tlvp_fits.Lts as lts
 use Rattle.arm64_reader.proofs.check.loaded_bytes.Reads as loaded-bytes-reads
 
--- src/check.rt:42:5
 loaded-bytes-requires : tie.Need-loaded-bytes-requires
 loaded-bytes-requires c κs = search needs
 
--- src/check.rt:39:1
 returns : tie.Need-returns
 unfolding tlvpFits
 returns c = simp (c .loaded-bytes .ensures)

@@ -21,19 +21,15 @@ Inv-loop contents rels sections n i₀ count₀ i count =
 abbrev μ-loop : tie.MeasureT-loop
 μ-loop contents rels sections n i₀ count₀ i count = length rels / 8 - i
 
--- src/read.rt:22:5
 loop-holds : tie.Need-loop-holds Inv-loop μ-loop
 loop-holds c = (search needs, check-start _ _ ∙ ap outcomeOf (sym (table-is _ _ _)))
 
--- src/read.rt:23:15
 read-one-requires : tie.Need-read-one-requires Inv-loop μ-loop
 read-one-requires c κs = search needs
 
--- src/read.rt:24:27
 enum-known-refusal : tie.Need-enum-known-refusal Inv-loop μ-loop
 enum-known-refusal c = search needs
 
--- src/read.rt:25:17
 returns : tie.Need-returns Inv-loop μ-loop
 returns c =
     let l = c .before .before .before .before in
@@ -41,21 +37,17 @@ returns c =
     check-refused _ _ (p .count) (p .i) (p .inv .0) (l .loop-test .taken) (c .before .refusal .given .1) (c .before .before .before .read-one .ensures)
     ∙ p .inv .1
 
--- src/read.rt:27:27
 enum-known-next : tie.Need-enum-known-next Inv-loop μ-loop
 enum-known-next c = search needs
 
--- src/read.rt:31:9
 add-count : tie.Need-add-count Inv-loop μ-loop
 add-count c = search needs
 
--- src/read.rt:22:5
 loop-less : tie.Need-loop-less Inv-loop μ-loop
 loop-less c =
     let r = c .before .before .before in
     omega (arith, table-onward _ _ _ (r .before .before .loop .i) (c .before .next .given .1) (r .read-one .ensures))
 
--- src/read.rt:22:5
 loop-again : tie.Need-loop-again Inv-loop μ-loop
 loop-again c =
     let r = c .before .before .before in
@@ -64,7 +56,6 @@ loop-again c =
       check-read _ _ (p .count) (p .i) (p .inv .0) (r .before .loop-test .taken) (c .before .next .given .1) (r .read-one .ensures) ∙ p .inv .1,
     )
 
--- src/read.rt:16:1
 returns-2 : tie.Need-returns-2 Inv-loop μ-loop
 returns-2 c = check-done _ _ (c .before .loop .count) (c .before .loop .i) (c .loop-test .left) ∙ c .before .loop .inv .1
 

@@ -8,12 +8,12 @@ use denote.Ref.{now}
 use Rattle.arch.specs.Walk.{Answer, Fills, slotsAfter}
 use Rattle.arch.proofs.Walk.{Rest, stored, fill-start, fill-fills, fill-read, fill-stored, fill-refused, fill-done}
 use Rattle.arm64_reader.specs.Read.{readTable}
-use Rattle.arm64_reader.proofs.Steps.{tableStep, table-is, table-onward}
+use Rattle.arm64_reader.proofs.Steps.{tableStep, table-is, table-onward, table-reads}
 use Rattle.arm64_reader.proofs.read.fill_walk.Statement.{statement}
 use Rattle.arm64_reader.proofs.read.fill_walk.Tie as tie
 use Rattle.arm64_reader.proofs.read.fill_walk.Reads as reads
 use Rattle.arm64_reader.proofs.read.fill_walk.Lts as lts
-use Rattle.arm64_reader.proofs.record.read_one.Reads as read-one-reads
+use Rattle.arm64_reader.proofs.record.enter_one.Reads as enter-one-reads
 use Rattle.macho.proofs.reloc.Reloc.write.Reads as write-reads
 
 abbrev Inv-loop : tie.InvT-loop
@@ -26,7 +26,6 @@ Inv-loop contents rels sections slots₀ n i₀ count₀ slots i count =
 abbrev μ-loop : tie.MeasureT-loop
 μ-loop contents rels sections slots₀ n i₀ count₀ slots i count = length rels / 8 - i
 
--- src/read.rt:44:5
 loop-holds : tie.Need-loop-holds Inv-loop μ-loop
 loop-holds c =
     let a = c .before .before .before .before in
@@ -38,49 +37,41 @@ loop-holds c =
       refl,
     )
 
--- src/read.rt:45:15
-read-one-requires : tie.Need-read-one-requires Inv-loop μ-loop
-read-one-requires c κs = search needs
+enter-one-requires : tie.Need-enter-one-requires Inv-loop μ-loop
+enter-one-requires c κs =
+    let p = c .before .loop in
+    (c .loop-test .taken, table-reads _ _ _ (p .count) (p .i) (p .inv .0) (c .loop-test .taken) (p .inv .1))
 
--- src/read.rt:47:17
 enum-told : tie.Need-enum-told Inv-loop μ-loop
 enum-told c = search needs
 
--- src/read.rt:47:17
 same-length : tie.Need-same-length Inv-loop μ-loop
 same-length c = omega arith
 
--- src/read.rt:47:17
 returns : tie.Need-returns Inv-loop μ-loop
 returns c =
     let l = c .before .before .before in
     let p = l .before .loop in
-    absurd (fill-refused _ _ (p .count) (p .i) (p .inv .0) (l .loop-test .taken) (c .enum-told .given .1) (c .before .before .read-one .ensures) (p .inv .1))
+    absurd (fill-refused _ _ (p .count) (p .i) (p .inv .0) (l .loop-test .taken) (c .enum-told .given .1) (c .before .before .enter-one .ensures) (p .inv .1))
 
--- src/read.rt:49:24
 enum-known-entry : tie.Need-enum-known-entry Inv-loop μ-loop
 enum-known-entry c = search needs
 
--- src/read.rt:50:36
 mul-write : tie.Need-mul-write Inv-loop μ-loop
 mul-write c = omega arith
 
--- src/read.rt:50:17
 write-requires : tie.Need-write-requires Inv-loop μ-loop
 write-requires c κs = omega arith
 
--- src/read.rt:54:9
 add-count : tie.Need-add-count Inv-loop μ-loop
 add-count c = omega arith
 
--- src/read.rt:44:5
 loop-less : tie.Need-loop-less Inv-loop μ-loop
 loop-less c =
     let k = c .before .before .before .before .before in
     let r = k .before .before in
-    omega (arith, table-onward _ _ _ (r .before .before .loop .i) (k .entry .given .1) (r .read-one .ensures))
+    omega (arith, table-onward _ _ _ (r .before .before .loop .i) (k .entry .given .1) (r .enter-one .ensures))
 
--- src/read.rt:44:5
 loop-again : tie.Need-loop-again Inv-loop μ-loop
 loop-again c =
     let k = c .before .before .before .before .before in
@@ -88,18 +79,16 @@ loop-again c =
     let t = r .before .loop-test .taken in
     let p = r .before .before .loop in
     let s = k .entry .given .1 in
-    let q = r .read-one .ensures in (
+    let q = r .enter-one .ensures in (
       omega (arith, table-onward _ _ _ (p .i) s q),
       fill-read _ _ (p .count) (p .i) (p .inv .0) t s q (p .inv .1),
       rw (c .before .before .write .ensures) (fill-stored _ _ (p .count) (p .i) (p .slots) (p .inv .0) t s q (p .inv .1) ∙ p .inv .2),
       omega arith,
     )
 
--- src/read.rt:37:1
 same-length-2 : tie.Need-same-length-2 Inv-loop μ-loop
 same-length-2 c = omega arith
 
--- src/read.rt:37:1
 returns-2 : tie.Need-returns-2 Inv-loop μ-loop
 returns-2 c =
     let p = c .before .loop in
@@ -112,7 +101,7 @@ fill-walk-spec =
     Inv-loop
     μ-loop
     loop-holds
-    read-one-requires
+    enter-one-requires
     enum-told
     same-length
     returns

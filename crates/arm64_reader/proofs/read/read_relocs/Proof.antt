@@ -17,31 +17,24 @@ use Rattle.arch.proofs.table.check_lengths.Reads as check-lengths-reads
 use Rattle.arm64_reader.proofs.read.check_walk.Reads as check-walk-reads
 use Rattle.arm64_reader.proofs.read.fill_walk.Reads as fill-walk-reads
 
--- src/read.rt:62:11
 check-lengths-requires : tie.Need-check-lengths-requires
 check-lengths-requires c κs = search needs
 
--- src/read.rt:63:24
 enum-known-refusal : tie.Need-enum-known-refusal
 enum-known-refusal c = search needs
 
--- src/read.rt:64:29
 enum-told : tie.Need-enum-told
 enum-told c = search needs
 
--- src/read.rt:64:29
 check-walk-requires : tie.Need-check-walk-requires
 check-walk-requires c κs = search needs
 
--- src/read.rt:65:33
 enum-known-refusal-2 : tie.Need-enum-known-refusal-2
 enum-known-refusal-2 c = search needs
 
--- src/read.rt:66:32
 enum-known-count : tie.Need-enum-known-count
 enum-known-count c = search needs
 
--- src/read.rt:67:17
 fill-walk-requires : tie.Need-fill-walk-requires
 fill-walk-requires c κs =
     let k = c .before .before .before .before in
@@ -49,7 +42,6 @@ fill-walk-requires c κs =
     let a = k .before .before .before .before .before .before .before .before .args in
     (fills-of (readTable (now (a .contents)) (now (a .rels)) (now (a .sections))) _ (sym (c .before .before .count .given .1) ∙ k .check-walk .ensures), fit-room _ _ _ f)
 
--- src/read.rt:57:1
 returns : tie.Need-returns
 returns c =
     let a = c .before .before .before .before .before .before .before .before .args in
@@ -57,7 +49,6 @@ returns c =
     let e = lengths-refuse (now (a .contents)) (now (a .rels)) (now (a .sections)) (now (a .slots)) f in
     (ap outcomeOf (sym e), ap (λ (r : Answer). slotsAfter r (now (a .slots))) (sym e))
 
--- src/read.rt:57:1
 returns-2 : tie.Need-returns-2
 returns-2 c =
     let k = c .before .before .before in
@@ -69,11 +60,9 @@ returns-2 c =
       kept-of (readTable (now (a .contents)) (now (a .rels)) (now (a .sections))) _ _ d ∙ ap (λ (r : Answer). slotsAfter r (now (a .slots))) (sym e),
     )
 
--- src/read.rt:57:1
 same-length : tie.Need-same-length
 same-length c = search needs
 
--- src/read.rt:57:1
 returns-3 : tie.Need-returns-3
 returns-3 c =
     let m = c .before .before .before .before .before in

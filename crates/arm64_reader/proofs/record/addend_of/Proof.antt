@@ -12,11 +12,9 @@ use Rattle.util.proofs.read32.Reads as read32-reads
 use Rattle.util.proofs.read64.Reads as read64-reads
 use Rattle.util.proofs.sign_extend.Reads as sign-extend-reads
 
--- src/record.rt:33:8
 ty-requires : tie.Need-ty-requires
 ty-requires c κs = search needs
 
--- src/record.rt:34:9
 returns : tie.Need-returns
 unfolding addendOf choose
 returns c =
@@ -25,11 +23,9 @@ returns c =
       ← c .before .ty .ensures,
     )
 
--- src/record.rt:36:8
 p2size-requires : tie.Need-p2size-requires
 p2size-requires c κs = search needs
 
--- src/record.rt:38:13
 returns-2 : tie.Need-returns-2
 unfolding addendOf choose
 returns-2 c =
@@ -41,19 +37,15 @@ returns-2 c =
       ← c .before .before .before .before .ty .ensures,
     )
 
--- src/record.rt:40:41
 read32-requires : tie.Need-read32-requires
 read32-requires c κs = search needs
 
--- src/record.rt:40:41
 cast-sign-extend : tie.Need-cast-sign-extend
 cast-sign-extend c = search needs
 
--- src/record.rt:40:29
 sign-extend-requires : tie.Need-sign-extend-requires
 sign-extend-requires c κs = search needs
 
--- src/record.rt:40:9
 returns-3 : tie.Need-returns-3
 unfolding addendOf choose
 returns-3 c =
@@ -67,7 +59,6 @@ returns-3 c =
       ← c .before .before .before .before .before .before .ty .ensures,
     )
 
--- src/record.rt:43:9
 returns-4 : tie.Need-returns-4
 unfolding addendOf choose
 returns-4 c =
@@ -79,11 +70,9 @@ returns-4 c =
       ← c .before .before .before .before .ty .ensures,
     )
 
--- src/record.rt:45:18
 read64-requires : tie.Need-read64-requires
 read64-requires c κs = search needs
 
--- src/record.rt:30:1
 returns-5 : tie.Need-returns-5
 unfolding addendOf choose
 returns-5 c =

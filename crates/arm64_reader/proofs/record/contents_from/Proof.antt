@@ -11,19 +11,15 @@ use Rattle.arm64_reader.proofs.record.contents_from.Tie as tie
 use Rattle.arm64_reader.proofs.record.contents_from.Reads as reads
 use Rattle.arm64_reader.proofs.record.contents_from.Lts as lts
 
--- src/record.rt:75:5
 sub-result : tie.Need-sub-result
 sub-result c = search needs
 
--- src/record.rt:75:5
 part-result-start : tie.Need-part-result-start
 part-result-start c = search needs
 
--- src/record.rt:75:5
 part-result-end : tie.Need-part-result-end
 part-result-end c = search needs
 
--- src/record.rt:70:1
 returns : tie.Need-returns
 returns c =
     let s = now (c .before .args .contents) in

@@ -30,73 +30,58 @@ word ty h n0 n1 n4 n5 n6 =
     let e = every-at (λ k. eqb k 0 || (eqb k 1 || (eqb k 4 || (eqb k 5 || (eqb k 6 || eqb (bitsOf (formsOf k)) (bitOf (form 1 2 1))))))) 9 refl ty h in
     eqb-true (bitsOf (formsOf ty)) (bitOf (form 1 2 1)) (rw (ne-eqb ty 0 n0, ne-eqb ty 1 n1, ne-eqb ty 4 n4, ne-eqb ty 5 n5, ne-eqb ty 6 n6) at e)
 
--- src/support.rt:26:13
 reloc-form-requires : tie.Need-reloc-form-requires
 reloc-form-requires c κs = search needs
 
--- src/support.rt:27:19
 reloc-form-requires-2 : tie.Need-reloc-form-requires-2
 reloc-form-requires-2 c κs = search needs
 
--- src/support.rt:28:19
 reloc-form-requires-3 : tie.Need-reloc-form-requires-3
 reloc-form-requires-3 c κs = search needs
 
--- src/support.rt:29:19
 reloc-form-requires-4 : tie.Need-reloc-form-requires-4
 reloc-form-requires-4 c κs = search needs
 
--- src/support.rt:31:35
 reloc-form-requires-5 : tie.Need-reloc-form-requires-5
 reloc-form-requires-5 c κs = search needs
 
--- src/support.rt:31:64
 reloc-form-requires-6 : tie.Need-reloc-form-requires-6
 reloc-form-requires-6 c κs = search needs
 
--- src/support.rt:38:15
 reloc-form-requires-7 : tie.Need-reloc-form-requires-7
 reloc-form-requires-7 c κs = search needs
 
--- src/support.rt:39:31
 reloc-form-requires-8 : tie.Need-reloc-form-requires-8
 reloc-form-requires-8 c κs = search needs
 
--- src/support.rt:36:43
 reloc-form-requires-9 : tie.Need-reloc-form-requires-9
 reloc-form-requires-9 c κs = search needs
 
--- src/support.rt:21:1
 returns : tie.Need-returns
 unfolding formsOf
 returns c =
     let k = c .before .before .before in
     rw (c .reloc-form4 .ensures, c .before .reloc-form3 .ensures, c .before .before .reloc-form2 .ensures, k .reloc-form .ensures, k .before .match .keys1)
 
--- src/support.rt:21:1
 returns-2 : tie.Need-returns-2
 unfolding formsOf
 returns-2 c = rw (c .reloc-form6 .ensures, c .before .reloc-form5 .ensures, c .before .before .match .keys2)
 
--- src/support.rt:21:1
 returns-3 : tie.Need-returns-3
 unfolding formsOf
 returns-3 c =
     rw (c .reloc-form7 .ensures)
     (⊎-elim (λ e. rw e) (λ r. ⊎-elim (λ e. rw e) (λ e. rw e) r) (c .before .match .keys4))
 
--- src/support.rt:21:1
 returns-4 : tie.Need-returns-4
 unfolding formsOf
 returns-4 c = rw (c .reloc-form8 .ensures, c .before .match .keys5)
 
--- src/support.rt:21:1
 returns-5 : tie.Need-returns-5
 returns-5 c =
     let r = c .before .match .rest in
     no-form (c .before .before .args .ty) (c .if1 .left) (λ e. r .0 .1 (inr (inr e))) (r .1)
 
--- src/support.rt:21:1
 returns-6 : tie.Need-returns-6
 unfolding formsOf
 returns-6 c =

@@ -22,19 +22,15 @@ fit : (ty : ℕ) → ty < 16 → fieldsFit (formsOf ty) ≡ true
 unfolding formsOf every choose
 fit ty h = every-at (λ k. fieldsFit (formsOf k)) 16 refl ty h
 
--- src/support.rt:48:32
 ty-requires : tie.Need-ty-requires
 ty-requires c κs = search needs
 
--- src/support.rt:48:23
 forms-of-requires : tie.Need-forms-of-requires
 forms-of-requires c κs = search needs
 
--- src/support.rt:48:5
 has-reloc-form-requires : tie.Need-has-reloc-form-requires
 has-reloc-form-requires c κs = search needs
 
--- src/support.rt:45:1
 returns : tie.Need-returns
 unfolding supportedOf
 returns c =
