@@ -7,6 +7,7 @@ use Rattle.util.specs.Wrap.{sum, diff}
 use Rattle.util.specs.Diagram.{matches}
 use Rattle.macho.specs.Types.{ARM64-RELOC-UNSIGNED, ARM64-RELOC-BRANCH26, ARM64-RELOC-PAGE21, ARM64-RELOC-PAGEOFF12, ARM64-RELOC-GOT-LOAD-PAGE21}
 use Rattle.macho.specs.Types.{ARM64-RELOC-GOT-LOAD-PAGEOFF12, ARM64-RELOC-POINTER-TO-GOT, ARM64-RELOC-TLVP-LOAD-PAGE21}
+use Rattle.macho.specs.Report.{adrpReach, branchReach, alignment, nonLdr}
 use Rattle.macho.specs.Resolved.{isTls, canRelaxGot, hasThunk, hasHelper, helperIsOwn, isProbe, isEnabled}
 use Rattle.macho.specs.declared.reloc.Reloc.{Reloc}
 use Rattle.macho.specs.declared.resolved.Resolved.{Resolved}
@@ -79,7 +80,13 @@ unfoldable pub branch : Site → Reloc → Resolved → ℕ → Change
 branch s e t word =
     choose (branchReaches (branchTarget e t) (s .place)) (silent (Word (branchWord word (diff (branchTarget e t) (s .place)))))
     (choose (thunkServes e t (branchTarget e t)) (silent (Word (branchWord word (diff (t .thunk) (s .place)))))
-    (reported (Word (branchWord word (diff (branchTarget e t) (s .place)))) (reachReport s 2 (branchTarget e t))))
+    (reported (Word (branchWord word (diff (branchTarget e t) (s .place)))) (reachReport s branchReach (branchTarget e t))))
+
+-- the displacement that a branch at p gets: to T in reach; else to the thunk, where it serves; else to T all the same
+abbrev pub displacement : Reloc → Resolved → ℕ → ℕ
+displacement e t p =
+    choose (branchReaches (branchTarget e t) p) (diff (branchTarget e t) p)
+    (choose (thunkServes e t (branchTarget e t)) (diff (t .thunk) p) (diff (branchTarget e t) p))
 
 -- BRANCH26, a tracing site first
 abbrev pub branchUnless : Traced → Change → Change
@@ -90,12 +97,12 @@ branchUnless Untraced c = c
 unfoldable pub page21 : Site → ℕ → ℕ → Change
 page21 s target word =
     choose (adrpReaches target (s .place)) (silent (Word (adrpWith word target (s .place))))
-    (reported (Word (adrpWith word target (s .place))) (reachReport s 1 target))
+    (reported (Word (adrpWith word target (s .place))) (reachReport s adrpReach target))
 
 -- a word with its page offset; report 3 where the access size does not divide the target
 abbrev pub fitted : Site → Fit → Change
 fitted s (Fit.Word w) = silent (Word w)
-fitted s (Fit.Misaligned n) = reported Nothing (wordReport s 3 n)
+fitted s (Fit.Misaligned n) = reported Nothing (wordReport s alignment n)
 
 -- PAGEOFF12: the target's page offset
 unfoldable pub pageoff12 : Site → ℕ → ℕ → Change
@@ -113,7 +120,7 @@ canRelax ty word = matches ldrImmediate word || (eqb ty ARM64-RELOC-GOT-LOAD-PAG
 
 -- the relaxed page offset: ADD of the target's page offset, else report 4
 unfoldable pub relaxed : Site → ℕ → ℕ → ℕ → Change
-relaxed s ty target word = choose (canRelax ty word) (silent (Word (relaxedWord word target))) (reported Nothing (wordReport s 4 0))
+relaxed s ty target word = choose (canRelax ty word) (silent (Word (relaxedWord word target))) (reported Nothing (wordReport s nonLdr 0))
 
 -- GOT and thread-local page offsets: S + A if relaxed, else G + A
 unfoldable pub gotPageoff12 : Site → Reloc → Resolved → ℕ → Change

@@ -60,6 +60,7 @@ pub enum Traced {
     Untraced,
 }
 
+// The kinds of reports.
 const ADRP_REACH: u8 = 1;
 
 const BRANCH_REACH: u8 = 2;
@@ -180,6 +181,7 @@ fn thunk_serves(e: Reloc, t: Resolved, target: u64) -> bool
     adrp_reaches(target, t.thunk)
 }
 
+// A branch to T: straight where it reaches, else through a thunk that serves, else as if it reached, with a report.
 fn branch(s: Site, e: Reloc, t: Resolved, word: u32) -> Change
     ensures { λ r. ⌜ r ≡ branch s e t word ⌝ }
 {

@@ -1,14 +1,14 @@
 -- Where branches go after the fix-up, from the manual's definitions: for entry k of any accepted list that no SUBTRACTOR consumes and whose
--- bytes no other entry touches. The words are those of arm64_insn's `Encodes`, their targets those of its `Meaning`.
-use mathlib.Core.Path.{_≡_, refl, sym, ap, _∙_}
+-- bytes no other entry writes. The words are those of arm64_insn's `Encodes`, their targets those of its `Meaning`.
+use mathlib.Core.Path.{_≡_, refl, ap, _∙_}
 use mathlib.Core.Bool.{Bool, true, false}
 use mathlib.Core.List.{List}
-use Prim.Native.Nat.{ℕ, _+_, _*_, _%_, _^_, _<_}
+use Prim.Native.Nat.{ℕ, _%_, _^_, _<_}
 use native.Mathlib.Omega.{arith}
 use native.Mathlib.Nat.{mod-eq-of-lt}
 use Rattle.util.specs.Choice.{choose}
 use Rattle.util.specs.Bits.{field}
-use Rattle.util.specs.Wrap.{sum, diff}
+use Rattle.util.specs.Wrap.{diff}
 use Rattle.util.proofs.Choice.{chosen, choose-true, choose-false}
 use Rattle.macho.specs.Types.{ARM64-RELOC-BRANCH26, ARM64-RELOC-GOT-LOAD-PAGE21}
 use Rattle.macho.specs.Resolved.{hasHelper, helperIsOwn, isProbe, isEnabled}
@@ -23,8 +23,8 @@ use Rattle.arm64_insn.proofs.Encodes.{b-patched, bl-patched, helper-made, nop-m
 use Rattle.arm64_insn.proofs.Meaning.{branch-means}
 use Rattle.arm64_insn.proofs.Manual.{encode-lt}
 use Rattle.arm64_entry.specs.Target.{isSymbol, placeOf}
-use Rattle.arm64_entry.specs.Change.{silent, reported, branchTarget, thunkServes, dtraceSiteInsn, branch, branchUnless, gotPage21, changeOf}
-use Rattle.arm64_fixup.specs.Walk.{entryAt, targetAt, Fixed, changeAt}
+use Rattle.arm64_entry.specs.Change.{silent, reported, branchTarget, thunkServes, dtraceSiteInsn, branch, displacement, branchUnless, gotPage21}
+use Rattle.arm64_fixup.specs.Walk.{entryAt, targetAt, Fixed}
 use Rattle.arm64_fixup.specs.Footprint.{Lone, wordAt}
 use Rattle.arm64_entry.specs.declared.target.Bases.{Bases}
 use Rattle.arm64_entry.specs.declared.change.Site.{Site}
@@ -34,12 +34,6 @@ use Rattle.arm64_entry.specs.declared.change.Traced.the-variants.{Insn, Untrace
 use Rattle.arm64_entry.specs.declared.change.Write.the-variants.{Word}
 use Rattle.arm64_entry.proofs.ByType.{siteOf, branch-does, branch-untraced, got-page-does}
 use Rattle.arm64_fixup.proofs.Lone.{passed, stores-word}
-
--- the displacement that a branch at p gets: to T in reach; else to the thunk, where it serves; else to T all the same
-abbrev pub displacement : Reloc → Resolved → ℕ → ℕ
-displacement e t p =
-    choose (branchReaches (branchTarget e t) p) (diff (branchTarget e t) p)
-    (choose (thunkServes e t (branchTarget e t)) (diff (t .thunk) p) (diff (branchTarget e t) p))
 
 by-tests : (word : ℕ) (x y : Bool) (d c : ℕ) (r : Report)
     → choose x (silent (Word (branchWord word d))) (choose y (silent (Word (branchWord word c))) (reported (Word (branchWord word d)) r)) .write
@@ -153,3 +147,12 @@ module _ {section : List ℕ} {b : Bases} {rels targets slots : List ℕ} {f : F
         → decode (wordAt rels (f .section) k) ≡ form (BL (field (diff (targetAt targets k .helper) (placeOf b (entryAt rels k))) 2 26))
     helper-shared o =
         ap decode (helper-word ∙ ap (λ (t : Bool). helperWord t (diff (targetAt targets k .helper) (placeOf b (entryAt rels k)))) o) ∙ helper-made _ .1
+
+    -- in reach, where place and helper are multiples of 4, it goes to the helper
+    pub helper-goes : branchReaches (targetAt targets k .helper) (placeOf b (entryAt rels k)) ≡ true
+        → targetAt targets k .helper < 2 ^ 64
+        → targetAt targets k .helper % 4 ≡ 0
+        → placeOf b (entryAt rels k) % 4 ≡ 0
+        → M.branchTarget (field (diff (targetAt targets k .helper) (placeOf b (entryAt rels k))) 2 26) (placeOf b (entryAt rels k))
+        ≡ targetAt targets k .helper
+    helper-goes near lt t p = branch-means _ _ lt (passed l .place) near t p

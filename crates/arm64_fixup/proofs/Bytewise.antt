@@ -1,21 +1,23 @@
--- The second walk byte by byte: a change is kept apart from the others by its footprint.
-use mathlib.Core.Path.{_≡_, refl, sym, ap, _∙_, subst}
+-- The second walk byte by byte: an entry leaves what it does not write, and what it writes lies in its footprint.
+use mathlib.Core.Path.{_≡_, refl, sym, ap, _∙_}
 use mathlib.Core.Bool.{Bool, true, false}
 use mathlib.Core.List.{List}
 use mathlib.Core.Logic.{_⊎_, inl, inr, ⊎-elim}
-use Prim.Native.Nat.{ℕ, zero, suc, _+_, _-_, _≤_, _<_}
+use Prim.Native.Nat.{ℕ, zero, suc, zero-le, _+_, _-_, _≤_, _<_}
 use native.Mathlib.Omega.{arith}
-use borrow.Author.Tests.{ltb-true, ltb-false, ne-eqb}
-use lib.Dec.{ltb}
+use borrow.Author.Tests.{ltb-true, ltb-false}
+use lib.Dec.{eqb, ltb}
 use lib.ListN.{length, getD}
 use Rattle.util.specs.Choice.{choose}
 use Rattle.util.specs.Word.{le, put}
-use Rattle.util.proofs.Choice.{split, choose-true, choose-false}
+use Rattle.util.proofs.Choice.{choose-true, choose-false}
 use Rattle.util.proofs.Word.{Apart, getD-put, getD-put-other, le-ext}
+use Rattle.macho.specs.declared.reloc.Reloc.{Reloc}
+use Rattle.macho.specs.declared.resolved.Resolved.{Resolved}
 use Rattle.arm64_entry.specs.Target.{widthOf}
-use Rattle.arm64_entry.specs.Change.{bytesIn, changeOf}
-use Rattle.arm64_fixup.specs.Walk.{entryAt, targetAt, entries, consumed, checkTo, stored, Fixed, changeAt, applied, workAt, fixTo}
-use Rattle.arm64_fixup.specs.Footprint.{offsetAt, widthAt, Touches, Alone}
+use Rattle.arm64_entry.specs.Change.{bytesIn, silent, changeOf}
+use Rattle.arm64_fixup.specs.Walk.{entryAt, targetAt, entries, consumed, checkTo, stored, Fixed, changeAt, workAt, fixTo}
+use Rattle.arm64_fixup.specs.Footprint.{offsetAt, widthAt, Touches, writtenAt, Writes}
 use Rattle.arm64_entry.specs.declared.target.Bases.{Bases}
 use Rattle.arm64_entry.specs.declared.check.Checked.the-variants.{Fine}
 use Rattle.arm64_entry.specs.declared.change.Change.{Change}
@@ -67,40 +69,61 @@ pub worked-width : (rels targets : List ℕ) (i : ℕ) → consumed rels i ≡ f
 unfolding widthAt
 worked-width rels targets i e = choose-false (consumed rels i) 0 _ e
 
-module _ (b : Bases) (rels targets : List ℕ) where
-  -- an entry leaves the bytes that it does not touch
-  work-leaves : (f : Fixed) (i p : ℕ) → (Touches rels targets i p → ⊥) → getD (workAt b rels targets f i .section) p 0 ≡ getD (f .section) p 0
-  work-leaves f i p h = go (consumed rels i) refl
+module _ (section : List ℕ) (b : Bases) (rels targets : List ℕ) where
+  -- what it writes
+  pub worked-writes : (i : ℕ) → consumed rels i ≡ false
+      → writtenAt section b rels targets i ≡ bytesIn (changeAt b rels targets (fixTo b rels targets section i .section) i .write)
+  unfolding writtenAt
+  worked-writes i e = choose-false (consumed rels i) 0 _ e
+
+  taken-writes : (i : ℕ) → consumed rels i ≡ true → writtenAt section b rels targets i ≡ 0
+  unfolding writtenAt
+  taken-writes i e = choose-true (consumed rels i) 0 _ e
+
+  -- an entry leaves the bytes that it does not write
+  work-leaves : (i p : ℕ) → (Writes section b rels targets i p → ⊥)
+      → getD (fixTo b rels targets section (suc i) .section) p 0 ≡ getD (fixTo b rels targets section i .section) p 0
+  work-leaves i p h = ap (λ (g : Fixed). getD (g .section) p 0) (fix-suc b rels targets section i) ∙ go (consumed rels i) refl
     where
+      f : Fixed
+      f = fixTo b rels targets section i
+
       go : (t : Bool) → consumed rels i ≡ t → getD (workAt b rels targets f i .section) p 0 ≡ getD (f .section) p 0
       go true e = ap (λ (g : Fixed). getD (g .section) p 0) (work-taken b rels targets f i e)
       go false e =
           ap (λ (g : Fixed). getD (g .section) p 0) (work-worked b rels targets f i e)
           ∙ stored-other (f .section) (offsetAt rels i) (changeAt b rels targets (f .section) i .write) p
-          (λ w.
-          let fits =
-          change-fits b i (entryAt rels i) (targetAt targets i) (entryAt rels (i + 1)) (targetAt targets (i + 1)) (le 4 (f .section) (offsetAt rels i)) in
-          h (w .0, omega (arith, worked-width rels targets i e)))
+          (λ w. h (w .0, omega (arith, worked-writes i e)))
 
-  -- the entries from i on leave what none of them touches
-  fix-leaves : (section : List ℕ) (i m p : ℕ) → ((j : ℕ) → i ≤ j → j < m + i → Touches rels targets j p → ⊥)
+  -- the entries from i on leave what none of them writes
+  fix-leaves : (i m p : ℕ) → ((j : ℕ) → i ≤ j → j < m + i → Writes section b rels targets j p → ⊥)
       → getD (fixTo b rels targets section (m + i) .section) p 0 ≡ getD (fixTo b rels targets section i .section) p 0
-  fix-leaves section i zero p h = ap (λ (k : ℕ). getD (fixTo b rels targets section k .section) p 0) (omega arith)
-  fix-leaves section i (suc m) p h =
+  fix-leaves i zero p h = ap (λ (k : ℕ). getD (fixTo b rels targets section k .section) p 0) (omega arith)
+  fix-leaves i (suc m) p h =
       ap (λ (k : ℕ). getD (fixTo b rels targets section k .section) p 0) {x = suc m + i} {y = suc (m + i)} (omega arith)
-      ∙ ap (λ (f : Fixed). getD (f .section) p 0) (fix-suc b rels targets section (m + i))
-      ∙ work-leaves (fixTo b rels targets section (m + i)) (m + i) p (h (m + i) (omega arith) (omega arith))
-      ∙ fix-leaves section i m p (λ j l g. h j l (omega arith))
+      ∙ work-leaves (m + i) p (h (m + i) (omega arith) (omega arith))
+      ∙ fix-leaves i m p (λ j l g. h j l (omega arith))
 
   -- all of them, from the lent section on
-  pub from-start : (section : List ℕ) (n p : ℕ) → ((j : ℕ) → j < n → Touches rels targets j p → ⊥)
+  pub from-start : (n p : ℕ) → ((j : ℕ) → j < n → Writes section b rels targets j p → ⊥)
       → getD (fixTo b rels targets section n .section) p 0 ≡ getD section p 0
   unfolding fixTo
-  from-start section n p h =
+  from-start n p h =
       ap (λ (m : ℕ). getD (fixTo b rels targets section m .section) p 0) {x = n} {y = n + 0} (omega arith)
-      ∙ fix-leaves section 0 n p (λ j _ l. h j (omega arith))
+      ∙ fix-leaves 0 n p (λ j _ l. h j (omega arith))
 
--- a touched byte is one of an entry that is worked, and that has four bytes or more
+  -- what an entry writes is no more than its width
+  pub written-fits : (i : ℕ) → writtenAt section b rels targets i ≤ widthAt rels targets i
+  written-fits i = go (consumed rels i) refl
+    where
+      go : (t : Bool) → consumed rels i ≡ t → writtenAt section b rels targets i ≤ widthAt rels targets i
+      go true e = rw (taken-writes i e) zero-le
+      go false e =
+          rw (worked-writes i e, worked-width rels targets i e)
+          (change-fits b i (entryAt rels i) (targetAt targets i) (entryAt rels (i + 1)) (targetAt targets (i + 1))
+          (le 4 (fixTo b rels targets section i .section) (offsetAt rels i)))
+
+-- a byte of a footprint is one of an entry that is worked
 pub touched-worked : (rels targets : List ℕ) (i : ℕ) → 0 < widthAt rels targets i → consumed rels i ≡ false
 unfolding widthAt choose
 touched-worked rels targets i = go (consumed rels i)
@@ -109,52 +132,59 @@ touched-worked rels targets i = go (consumed rels i)
     go true h = absurd (omega arith)
     go false h = refl
 
-pub touched-wide : (rels targets : List ℕ) (i : ℕ) → 0 < widthAt rels targets i → 4 ≤ widthAt rels targets i
-touched-wide rels targets i h =
-    let e = worked-width rels targets i (touched-worked rels targets i h) in
-    rw e
-    (wide (entryAt rels i) (targetAt targets i)
-    (ne-eqb (widthOf (entryAt rels i) (targetAt targets i)) 0 (λ (z : widthOf (entryAt rels i) (targetAt targets i) ≡ 0). omega arith)))
+-- an entry with no width does nothing, whatever the word
+does-nothing : (b : Bases) (i : ℕ) (e : Reloc) (t : Resolved) (next : Reloc) (nextTarget : Resolved) (word : ℕ) → eqb (widthOf e t) 0 ≡ true
+    → changeOf b i e t next nextTarget word ≡ silent Nothing
+unfolding changeOf
+does-nothing b i e t next nextTarget word h = choose-true (eqb (widthOf e t) 0) _ _ h
 
--- ---- an entry whose bytes no other touches
+-- what an entry does depends on the bytes of its footprint alone
+pub reads-touch : (b : Bases) (rels targets : List ℕ) (i : ℕ) (s s′ : List ℕ) → consumed rels i ≡ false
+    → ((p : ℕ) → Touches rels targets i p → getD s p 0 ≡ getD s′ p 0) → changeAt b rels targets s i ≡ changeAt b rels targets s′ i
+reads-touch b rels targets i s s′ free same = go (eqb (widthOf (entryAt rels i) (targetAt targets i)) 0) refl
+  where
+    go : (z : Bool) → eqb (widthOf (entryAt rels i) (targetAt targets i)) 0 ≡ z → changeAt b rels targets s i ≡ changeAt b rels targets s′ i
+    go true h = does-nothing b i _ _ _ _ _ h ∙ sym (does-nothing b i _ _ _ _ _ h)
+    go false h =
+        let n = wide (entryAt rels i) (targetAt targets i) h in
+        let m = worked-width rels targets i free in
+        ap (λ (w : ℕ). changeOf b i (entryAt rels i) (targetAt targets i) (entryAt rels (i + 1)) (targetAt targets (i + 1)) w)
+        (le-ext 4 s s′ (offsetAt rels i) (offsetAt rels i) (λ j l. same (offsetAt rels i + j) (omega arith, omega arith)))
 
-module _ (section : List ℕ) (b : Bases) (rels targets : List ℕ) (k : ℕ) (below : k < entries rels) (alone : Alone rels targets k)
+-- ---- an entry whose bytes no other writes
+
+module _ (section : List ℕ) (b : Bases) (rels targets : List ℕ) (k : ℕ) (below : k < entries rels)
     (fine : checkTo (length section) b rels targets (entries rels) ≡ Fine)
+    (before : (j p : ℕ) → j < k → Touches rels targets k p → Writes section b rels targets j p → ⊥)
   where
     -- the entries before it leave its bytes
     before-it : (p : ℕ) → Touches rels targets k p → getD (fixTo b rels targets section k .section) p 0 ≡ getD section p 0
-    before-it p t = from-start b rels targets section k p (λ j l u. alone j p (omega arith) (λ e. omega arith) t u)
+    before-it p t = from-start section b rels targets k p (λ j l u. before j p l t u)
 
-    -- and so do those after it
-    after-it : (p : ℕ) → Touches rels targets k p
+    -- and so do those after it that do not write them
+    after-it : (p : ℕ) → ((j : ℕ) → k < j → j < entries rels → Writes section b rels targets j p → ⊥)
         → getD (fixTo b rels targets section (entries rels) .section) p 0 ≡ getD (fixTo b rels targets section (suc k) .section) p 0
-    after-it p t =
+    after-it p after =
         ap (λ (m : ℕ). getD (fixTo b rels targets section m .section) p 0) {x = entries rels} {y = entries rels - suc k + suc k} (omega arith)
-        ∙ fix-leaves b rels targets section (suc k) (entries rels - suc k) p (λ j g l u. alone j p (omega arith) (λ e. omega arith) t u)
+        ∙ fix-leaves section b rels targets (suc k) (entries rels - suc k) p (λ j g l u. after j g (omega arith) u)
 
-    module _ (some : 0 < widthAt rels targets k) where
-      -- so it finds the lent word
-      same-word : le 4 (fixTo b rels targets section k .section) (offsetAt rels k) ≡ le 4 section (offsetAt rels k)
-      same-word =
-          le-ext 4 _ section (offsetAt rels k) (offsetAt rels k)
-          (λ j l. before-it (offsetAt rels k + j) (omega arith, omega (arith, touched-wide rels targets k some)))
-
+    module _ (free : consumed rels k ≡ false) where
+      -- so its step is the one on the lent bytes
       pub same-change : changeAt b rels targets (fixTo b rels targets section k .section) k ≡ changeAt b rels targets section k
-      same-change =
-          ap (λ (w : ℕ). changeOf b k (entryAt rels k) (targetAt targets k) (entryAt rels (k + 1)) (targetAt targets (k + 1)) w) same-word
+      same-change = reads-touch b rels targets k (fixTo b rels targets section k .section) section free before-it
 
       has-room : offsetAt rels k + bytesIn (changeAt b rels targets section k .write) ≤ length section
       has-room =
           room (length section) b k (entryAt rels k) (targetAt targets k) _ _ _ _
-          (fine-at b rels targets section k (touched-worked rels targets k some) fine below refl refl refl) refl
+          (fine-at b rels targets section k free fine below refl refl refl) refl
 
-      pub only-it : (p : ℕ) → Touches rels targets k p
+      pub only-it : (p : ℕ) → Touches rels targets k p → ((j : ℕ) → k < j → j < entries rels → Writes section b rels targets j p → ⊥)
           → getD (fixTo b rels targets section (entries rels) .section) p 0
           ≡ getD (stored section (offsetAt rels k) (changeAt b rels targets section k .write)) p 0
-      only-it p t =
-          after-it p t
+      only-it p t after =
+          after-it p after
           ∙ ap (λ (f : Fixed). getD (f .section) p 0)
-          (fix-suc b rels targets section k ∙ work-worked b rels targets (fixTo b rels targets section k) k (touched-worked rels targets k some))
+          (fix-suc b rels targets section k ∙ work-worked b rels targets (fixTo b rels targets section k) k free)
           ∙ ap (λ (c : Change). getD (stored (fixTo b rels targets section k .section) (offsetAt rels k) (c .write)) p 0) same-change
           ∙ stored-agree (fixTo b rels targets section k .section) section (offsetAt rels k) (changeAt b rels targets section k .write) p
           (omega (arith, length-fix b rels targets section k, has-room)) has-room (before-it p t)

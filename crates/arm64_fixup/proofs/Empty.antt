@@ -5,8 +5,9 @@ use Prim.Native.Nat.{ℕ, zero-le}
 use borrow.Author.Tests.{le-ltb}
 use lib.ListN.{length}
 use Rattle.util.specs.Choice.{choose}
+use Rattle.macho.specs.Record.{listBytes}
 use Rattle.arm64_fixup.specs.Walk.{checkTo, fixTo}
-use Rattle.arm64_fixup.specs.Answer.{checkLists, fixed, outcomeOf, answerOf, sectionAfter, reportsBytes, slotsAfter}
+use Rattle.arm64_fixup.specs.Answer.{checkLists, outcomeOf, answerOf, sectionAfter, slotsAfter}
 use Rattle.arm64_entry.specs.declared.target.Bases.{Bases}
 use Rattle.arm64_fixup.specs.declared.walk.FixAnswer.the-variants.{Filled}
 
@@ -14,5 +15,5 @@ pub empty : (section : List ℕ) (b : Bases) (slots : List ℕ)
     → (answerOf (outcomeOf section b [] [] slots) ≡ Filled 0)
     × (sectionAfter (outcomeOf section b [] [] slots) section ≡ section)
     × (slotsAfter (outcomeOf section b [] [] slots) slots ≡ slots)
-unfolding outcomeOf checkLists checkTo fixTo reportsBytes choose
+unfolding outcomeOf checkLists checkTo fixTo listBytes choose
 empty section b slots = rw (le-ltb (length slots) 0 zero-le) (refl, refl, refl)

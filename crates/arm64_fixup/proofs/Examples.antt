@@ -1,7 +1,10 @@
--- Document 01's examples through the call: bench pieces 9 to 11, and the table "Turned-down input" for numbers 1 to 3, 5 and 8 to 11. Each is computed.
+-- Document 01's examples through the call: bench pieces 9 to 11, the table "Turned-down input" for numbers 1 to 3, 5 and 8 to 11, and the order
+-- of these. Each is computed.
 use mathlib.Core.Path.{_≡_, refl}
 use mathlib.Core.List.{List, [], _∷_, _++_}
-use Prim.Native.Nat.{ℕ, _-_, _^_}
+use Prim.Native.Nat.{ℕ, zero, suc, _-_, _^_, _<_}
+use native.Mathlib.Omega.{arith}
+use lib.Dec.{lit<}
 use Rattle.util.specs.Choice.{choose}
 use Rattle.util.specs.Word.{le, put, bytes}
 use Rattle.util.specs.Wrap.{inRange}
@@ -10,14 +13,13 @@ use Rattle.macho.specs.Types.{ARM64-RELOC-GOT-LOAD-PAGEOFF12, ARM64-RELOC-POINT
 use Rattle.macho.specs.Record.{bytesOf}
 use Rattle.macho.specs.Reloc.{relocAt, relocBytes}
 use Rattle.macho.specs.Resolved.{resolvedAt, resolvedBytes, wellFormed}
-use Rattle.macho.specs.declared.reloc.Reloc.{Reloc}
-use Rattle.macho.specs.declared.resolved.Resolved.{Resolved}
 use Rattle.arm64_insn.specs.Branch.{branchReaches, branchWord}
 use Rattle.arm64_insn.specs.Fix.{scaleOf, offsetWith, relaxedWord}
 use Rattle.arm64_entry.specs.Target.{targetOf, widthOf}
 use Rattle.arm64_entry.specs.Check.{checkOf}
 use Rattle.arm64_entry.specs.Change.{branchTarget, dtraceSiteInsn, branch, pageoff12, relaxed, gotPageoff12, wordChange, changeOf}
-use Rattle.arm64_fixup.specs.Walk.{consumed, checkAt, checkTo, workAt, fixTo}
+use Rattle.arm64_fixup.specs.Walk.{consumed, checkAt, checkTo, Fixed, workAt, fixTo}
+use Rattle.arm64_fixup.specs.Footprint.{writtenAt, Writes, Lone}
 use Rattle.arm64_fixup.specs.Answer.{checkLists, basesOf, Outcome, fixed, outcomeOf, answerOf, numberOf}
 
 -- an entry of a type, at an offset, with its target field; the other fields are zeros
@@ -57,7 +59,7 @@ unfolding relocBytes resolvedBytes bytesOf bytes outcomeOf checkLists checkTo ch
 pieces = (refl, refl, refl, refl)
 
 -- 7 bytes of entries; one entry with 23 bytes of slots; an 8-byte UNSIGNED at 4 of 8; a type of 10; one SUBTRACTOR;
--- base 2^64 - 1 with offset 1; POINTER_TO_GOT with target bit 31; flags 0x200
+-- base 2^64 - 1 with offset 1; POINTER_TO_GOT with target bit 31; flags 0x200, probe with is-enabled, and a last byte that is not zero
 pub numbers : (number [] 0 (bytes 7 0) [] [] ≡ 1)
     × (number (bytes 8 0) 0 (entry ARM64-RELOC-UNSIGNED 0 0) (resolved 0 0) (bytes 23 0) ≡ 2)
     × (number (bytes 8 0) 0 (entry ARM64-RELOC-UNSIGNED 4 0) (resolved 0 0) (bytes 24 0) ≡ 3)
@@ -66,5 +68,50 @@ pub numbers : (number [] 0 (bytes 7 0) [] [] ≡ 1)
     × (number (bytes 8 0) (2 ^ 64 - 1) (entry ARM64-RELOC-UNSIGNED 1 0) (resolved 0 0) (bytes 24 0) ≡ 9)
     × (number (bytes 8 0) 0 (entry ARM64-RELOC-POINTER-TO-GOT 0 (2 ^ 31)) (resolved 0 0) (bytes 24 0) ≡ 10)
     × (number (bytes 8 0) 0 (entry ARM64-RELOC-UNSIGNED 0 0) (resolved 0 0x200) (bytes 24 0) ≡ 11)
+    × (number (bytes 8 0) 0 (entry ARM64-RELOC-UNSIGNED 0 0) (resolved 0 0x180) (bytes 24 0) ≡ 11)
+    × (number (bytes 8 0) 0 (entry ARM64-RELOC-UNSIGNED 0 0) (bytes 47 0 ++ bytes 1 1) (bytes 24 0) ≡ 11)
 unfolding relocBytes resolvedBytes bytesOf bytes outcomeOf checkLists checkTo checkAt checkOf consumed relocAt resolvedAt le wellFormed widthOf choose
-numbers = (refl, refl, refl, refl, refl, refl, refl, refl)
+numbers = (refl, refl, refl, refl, refl, refl, refl, refl, refl, refl)
+
+-- where two numbers apply: 1 before 2 before 3; an offset's 3 before 11 before 9 before 5, 8 and 10, and these before the last 3; and the first
+-- entry's number before the second's
+pub order : (number [] 0 (bytes 25 0) [] [] ≡ 1)
+    × (number (bytes 8 0) 0 (entry ARM64-RELOC-UNSIGNED 9 0) (resolved 0 0) (bytes 23 0) ≡ 2)
+    × (number (bytes 8 0) 0 (entry ARM64-RELOC-UNSIGNED 9 0) (resolved 0 0x200) (bytes 24 0) ≡ 3)
+    × (number (bytes 8 0) (2 ^ 64 - 1) (entry ARM64-RELOC-UNSIGNED 1 0) (resolved 0 0x200) (bytes 24 0) ≡ 11)
+    × (number (bytes 8 0) (2 ^ 64 - 1) (entry ARM64-RELOC-ADDEND 1 0) (resolved 0 0) (bytes 24 0) ≡ 9)
+    × (number (bytes 8 0) (2 ^ 64 - 1) (entry ARM64-RELOC-SUBTRACTOR 1 0) (resolved 0 0) (bytes 24 0) ≡ 9)
+    × (number (bytes 8 0) (2 ^ 64 - 1) (entry ARM64-RELOC-POINTER-TO-GOT 1 (2 ^ 31)) (resolved 0 0) (bytes 24 0) ≡ 9)
+    × (number (bytes 8 0) 0 (entry ARM64-RELOC-ADDEND 8 0) (resolved 0 0) (bytes 24 0) ≡ 5)
+    × (number (bytes 8 0) 0 (entry ARM64-RELOC-SUBTRACTOR 8 0) (resolved 0 0) (bytes 24 0) ≡ 8)
+    × (number (bytes 8 0) 0 (entry ARM64-RELOC-POINTER-TO-GOT 8 (2 ^ 31)) (resolved 0 0) (bytes 24 0) ≡ 10)
+    × (number (bytes 8 0) 0 (entry ARM64-RELOC-UNSIGNED 4 0 ++ entry ARM64-RELOC-UNSIGNED 0 0) (resolved 0 0 ++ resolved 0 0x200) (bytes 48 0) ≡ 3)
+unfolding relocBytes resolvedBytes bytesOf bytes outcomeOf checkLists checkTo checkAt checkOf consumed relocAt resolvedAt le wellFormed widthOf choose
+order = (refl, refl, refl, refl, refl, refl, refl, refl, refl, refl, refl)
+
+-- two PAGEOFF12 on the word of piece 9: to 0x1234, which is reported and writes nothing, and to 0x1238
+abbrev pub twoEntries : List ℕ
+twoEntries = entry ARM64-RELOC-PAGEOFF12 0 0 ++ entry ARM64-RELOC-PAGEOFF12 0 0
+
+abbrev pub twoTargets : List ℕ
+twoTargets = resolved 0x1234 4 ++ resolved 0x1238 4
+
+abbrev pub twice : Fixed
+twice = record { section = bytes 4 0xf9411c00; reports = record { entry = 0; kind = 3; size = 8; place = 0; target = 0 } ∷ [] }
+
+-- so the second is one whose bytes no other entry writes, although both read the word
+pub second-lone : Lone (bytes 4 0xf9400000) (basesOf 0x1000 0) twoEntries twoTargets (bytes 48 0) twice 1
+unfolding relocBytes resolvedBytes bytesOf bytes outcomeOf checkLists checkTo checkAt checkOf consumed relocAt resolvedAt le wellFormed
+    widthOf fixTo workAt changeOf wordChange pageoff12 targetOf offsetWith scaleOf put choose writtenAt
+second-lone =
+    record {
+      accepted = refl;
+      listed = lit< tt;
+      worked = refl;
+      alone = λ i p l ne t w. first-writes-nothing i p l ne w;
+    }
+  where
+    first-writes-nothing : (i p : ℕ) → i < 2 → (i ≡ 1 → ⊥) → Writes (bytes 4 0xf9400000) (basesOf 0x1000 0) twoEntries twoTargets i p → ⊥
+    first-writes-nothing zero p l ne w = absurd (omega arith)
+    first-writes-nothing (suc zero) p l ne w = ne refl
+    first-writes-nothing (suc (suc i)) p l ne w = absurd (omega arith)

@@ -1,40 +1,82 @@
--- Which bytes a fix-up changes, and by which entry: a byte that no entry touches stays; a byte that only entry k touches ends as entry k's
--- step on the lent bytes leaves it.
-use mathlib.Core.Path.{_≡_, refl, sym, ap, _∙_}
+-- Which bytes a fix-up changes, and by which entry: an entry writes in its footprint; a byte that no entry writes stays; bytes that only entry k
+-- writes end as entry k's step on the lent bytes leaves them.
+use mathlib.Core.Path.{_≡_, refl, ap, _∙_}
+use mathlib.Core.Bool.{true, false}
 use mathlib.Core.List.{List}
-use Prim.Native.Nat.{ℕ, zero, _+_, _≤_, _<_}
+use mathlib.Core.Logic.{_⊎_, ⊎-elim}
+use Prim.Native.Nat.{ℕ, _+_, _≤_, _<_}
 use native.Mathlib.Omega.{arith}
-use lib.ListN.{length, getD}
+use lib.ListN.{getD}
+use Rattle.util.specs.Choice.{choose}
 use Rattle.util.specs.Word.{le}
 use Rattle.util.proofs.Word.{le-ext}
-use Rattle.arm64_fixup.specs.Walk.{entries, stored, Fixed, changeAt, fixTo}
-use Rattle.arm64_fixup.specs.Footprint.{offsetAt, widthAt, Touches, Alone}
-use Rattle.arm64_fixup.specs.Answer.{Outcome, refused, fixed, outcomeOf, sectionAfter, slotsAfter}
+use Rattle.macho.specs.Types.{ARM64-RELOC-UNSIGNED, ARM64-RELOC-PAGE21, ARM64-RELOC-PAGEOFF12}
+use Rattle.macho.specs.Resolved.{hasAddress}
+use Rattle.macho.specs.declared.reloc.Reloc.{Reloc}
+use Rattle.macho.specs.declared.resolved.Resolved.{Resolved}
+use Rattle.arm64_entry.specs.Target.{importedSymbol, widthOf}
+use Rattle.arm64_fixup.specs.Walk.{entries, stored, Fixed, changeAt}
+use Rattle.arm64_fixup.specs.Footprint.{offsetAt, widthAt, Touches, Writes, Alone}
+use Rattle.arm64_fixup.specs.Answer.{Outcome, refused, fixed, outcomeOf, sectionAfter}
 use Rattle.arm64_entry.specs.declared.target.Bases.{Bases}
-use Rattle.arm64_fixup.proofs.Bytewise.{from-start, only-it}
+use Rattle.arm64_fixup.proofs.Bytewise.{from-start, written-fits, touched-worked, only-it}
 use Rattle.arm64_fixup.proofs.Whole.{accepts}
 
+-- an imported symbol's UNSIGNED, and PAGE21 and PAGEOFF12 without an address, have no footprint
+pub imported-width : (e : Reloc) (t : Resolved) → e .ty ≡ ARM64-RELOC-UNSIGNED → importedSymbol e t ≡ true → widthOf e t ≡ 0
+unfolding widthOf choose
+imported-width e t h i = rw (h, i)
+
+pub unaddressed-width : (e : Reloc) (t : Resolved) → (e .ty ≡ ARM64-RELOC-PAGE21) ⊎ (e .ty ≡ ARM64-RELOC-PAGEOFF12) → hasAddress t ≡ false
+    → widthOf e t ≡ 0
+unfolding widthOf choose
+unaddressed-width e t h a = ⊎-elim page offset h
+  where
+    page : e .ty ≡ ARM64-RELOC-PAGE21 → widthOf e t ≡ 0
+    page q = rw (q, a)
+
+    offset : e .ty ≡ ARM64-RELOC-PAGEOFF12 → widthOf e t ≡ 0
+    offset q = rw (q, a)
+
 module _ (section : List ℕ) (b : Bases) (rels targets slots : List ℕ) where
-  -- bytes that no entry touches stay, whatever the call answers
-  pub untouched : (p : ℕ) → ((i : ℕ) → i < entries rels → Touches rels targets i p → ⊥)
+  -- what an entry writes lies in its footprint
+  pub writes-touch : (i p : ℕ) → Writes section b rels targets i p → Touches rels targets i p
+  writes-touch i p w = (w .0, omega (arith, w .1, written-fits section b rels targets i))
+
+  -- so an entry whose footprint meets no other is alone
+  pub apart-alone : (k : ℕ) → ((i p : ℕ) → i < entries rels → (i ≡ k → ⊥) → Touches rels targets k p → Touches rels targets i p → ⊥)
+      → Alone section b rels targets k
+  apart-alone k apart i p l ne t w = apart i p l ne t (writes-touch i p w)
+
+  -- bytes that no entry writes stay, whatever the call answers
+  pub unwritten : (p : ℕ) → ((i : ℕ) → i < entries rels → Writes section b rels targets i p → ⊥)
       → getD (sectionAfter (outcomeOf section b rels targets slots) section) p 0 ≡ getD section p 0
-  untouched p h = go (outcomeOf section b rels targets slots) refl
+  unwritten p h = go (outcomeOf section b rels targets slots) refl
     where
       go : (o : Outcome) → outcomeOf section b rels targets slots ≡ o → getD (sectionAfter o section) p 0 ≡ getD section p 0
       go (refused r) e = refl
       go (fixed f) e =
-          ap (λ (g : Fixed). getD (g .section) p 0) (accepts section b rels targets slots e .work) ∙ from-start b rels targets section (entries rels) p h
+          ap (λ (g : Fixed). getD (g .section) p 0) (accepts section b rels targets slots e .work) ∙ from-start section b rels targets (entries rels) p h
 
-  module _ {f : Fixed} (accepted : outcomeOf section b rels targets slots ≡ fixed f) (k : ℕ) (below : k < entries rels) (alone : Alone rels targets k) where
-    -- bytes that only entry k touches end as its step on the lent bytes leaves them
-    pub only : (p : ℕ) → Touches rels targets k p
+  module _ {f : Fixed} (accepted : outcomeOf section b rels targets slots ≡ fixed f) (k : ℕ) (below : k < entries rels) where
+    -- a byte of entry k's footprint, which no entry before it wrote in, ends as its step on the lent bytes leaves it, unless a later entry writes it
+    pub last-written : ((j p : ℕ) → j < k → Touches rels targets k p → Writes section b rels targets j p → ⊥)
+        → (p : ℕ) → Touches rels targets k p → ((j : ℕ) → k < j → j < entries rels → Writes section b rels targets j p → ⊥)
         → getD (f .section) p 0 ≡ getD (stored section (offsetAt rels k) (changeAt b rels targets section k .write)) p 0
-    only p t =
+    last-written before p t after =
         let a = accepts section b rels targets slots accepted in
         ap (λ (g : Fixed). getD (g .section) p 0) (a .work)
-        ∙ only-it section b rels targets k below alone (a .fine) (omega arith) p t
+        ∙ only-it section b rels targets k below (a .fine) before (touched-worked rels targets k (omega arith)) p t after
 
-    -- and so do its words
-    pub only-word : (n : ℕ) → n ≤ widthAt rels targets k
-        → le n (f .section) (offsetAt rels k) ≡ le n (stored section (offsetAt rels k) (changeAt b rels targets section k .write)) (offsetAt rels k)
-    only-word n h = le-ext n _ _ (offsetAt rels k) (offsetAt rels k) (λ j l. only (offsetAt rels k + j) (omega arith, omega arith))
+    module _ (alone : Alone section b rels targets k) where
+      -- bytes that only entry k writes end as its step on the lent bytes leaves them
+      pub only : (p : ℕ) → Touches rels targets k p
+          → getD (f .section) p 0 ≡ getD (stored section (offsetAt rels k) (changeAt b rels targets section k .write)) p 0
+      only p t =
+          last-written (λ j q l u w. alone j q (omega arith) (λ e. omega arith) u w) p t
+          (λ j g l w. alone j p l (λ e. omega arith) t w)
+
+      -- and so do its words
+      pub only-word : (n : ℕ) → n ≤ widthAt rels targets k
+          → le n (f .section) (offsetAt rels k) ≡ le n (stored section (offsetAt rels k) (changeAt b rels targets section k .write)) (offsetAt rels k)
+      only-word n h = le-ext n _ _ (offsetAt rels k) (offsetAt rels k) (λ j l. only (offsetAt rels k + j) (omega arith, omega arith))

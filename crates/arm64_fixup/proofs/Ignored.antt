@@ -1,11 +1,12 @@
 -- What is ignored changes nothing: an entry's spare bytes and its pc-relative and subtracted marks, and of an entry that a SUBTRACTOR
 -- consumes everything but its addend and its target's address. Lists that agree in the rest have the same outcome.
 use mathlib.Core.Path.{_≡_, refl, sym, ap, ap₂, _∙_}
-use mathlib.Core.Bool.{Bool, true, false, _&&_, not}
+use mathlib.Core.Bool.{Bool, true, false, true≢false, _&&_, not}
 use mathlib.Core.List.{List}
 use mathlib.Core.Logic.{_⊎_, inl, inr, ⊎-elim}
 use Prim.Native.Nat.{ℕ, zero, suc, _+_, _*_, _/_, _≤_, _<_}
 use native.Mathlib.Omega.{arith}
+use native.Mathlib.Nat.{eq-or-lt-of-le}
 use borrow.Author.Tests.{ltb-true, ltb-false}
 use lib.Dec.{eqb, ltb, lit≤}
 use lib.ListN.{length, set, length-set}
@@ -14,6 +15,7 @@ use Rattle.util.specs.Choice.{choose}
 use Rattle.util.specs.Word.{le}
 use Rattle.util.proofs.Word.{le-ext}
 use Rattle.macho.specs.Reloc.{relocAt}
+use Rattle.macho.specs.Resolved.{resolvedAt}
 use Rattle.macho.specs.declared.reloc.Reloc.{Reloc}
 use Rattle.macho.specs.declared.resolved.Resolved.{Resolved}
 use Rattle.arm64_entry.specs.Target.{targetOf, slotOf, gotTarget, widthOf}
@@ -21,13 +23,13 @@ use Rattle.arm64_entry.specs.Check.{subtracts, checkOf}
 use Rattle.arm64_entry.specs.Change.{unsignedValue, subtractorValue, difference, dtraceSiteInsn, branchTarget, thunkServes, branch, gotPage21}
 use Rattle.arm64_entry.specs.Change.{gotPageoff12, pointerToGot, wordChange, changeOf}
 use Rattle.arm64_fixup.specs.Walk.{entryAt, targetAt, entries, consumed, checkAt, first, checkTo, Fixed, changeAt, applied, workAt, fixTo}
-use Rattle.arm64_fixup.specs.Answer.{checkLists, Outcome, after, fixed, outcomeOf}
+use Rattle.arm64_fixup.specs.Answer.{checkLists, after, fixed, outcomeOf}
 use Rattle.arm64_entry.specs.declared.target.Bases.{Bases}
 use Rattle.arm64_entry.specs.declared.check.Checked.{Checked}
 use Rattle.arm64_entry.specs.declared.check.Checked.the-variants.{Fine, Refused}
 use Rattle.arm64_entry.specs.declared.change.Change.{Change}
 use Rattle.arm64_entry.proofs.Sound.{followed}
-use Rattle.arm64_fixup.proofs.Turns.{and-false, check-taken, check-worked, passes, work-worked, work-taken, fix-suc}
+use Rattle.arm64_fixup.proofs.Turns.{and-false, check-taken, check-worked, passes, work-worked, work-taken}
 
 -- an entry with zeros for its spare bytes and marks
 abbrev pub seen : Reloc → Reloc
@@ -208,3 +210,94 @@ spare-bytes section b rels targets slots i j v l =
     })
     section
     slots
+
+-- ---- the bytes of an entry that a SUBTRACTOR consumes, its addend aside, and of its target, the address aside
+
+-- n bytes of record k do not hold byte p of another record of that size
+apart-24 : (i j k off n : ℕ) → (k ≡ i → ⊥) → j < 24 → off + n ≤ 24 → (24 * i + j < 24 * k + off) ⊎ (24 * k + off + n ≤ 24 * i + j)
+apart-24 i j k off n ne l h = go (ltb i k) refl
+  where
+    go : (x : Bool) → ltb i k ≡ x → (24 * i + j < 24 * k + off) ⊎ (24 * k + off + n ≤ 24 * i + j)
+    go true e = inl (omega (arith, ltb-true i k e))
+    go false e = inr (⊎-elim (λ q. absurd (ne q)) (λ (w : k < i). omega arith) (eq-or-lt-of-le (ltb-false i k e)))
+
+apart-48 : (i j k off n : ℕ) → (k ≡ i → ⊥) → j < 48 → off + n ≤ 48 → (48 * i + j < 48 * k + off) ⊎ (48 * k + off + n ≤ 48 * i + j)
+apart-48 i j k off n ne l h = go (ltb i k) refl
+  where
+    go : (x : Bool) → ltb i k ≡ x → (48 * i + j < 48 * k + off) ⊎ (48 * k + off + n ≤ 48 * i + j)
+    go true e = inl (omega (arith, ltb-true i k e))
+    go false e = inr (⊎-elim (λ q. absurd (ne q)) (λ (w : k < i). omega arith) (eq-or-lt-of-le (ltb-false i k e)))
+
+entry-set : (rels : List ℕ) (i j v k : ℕ) → (k ≡ i → ⊥) → j < 24 → entryAt (set rels (24 * i + j) v) k ≡ entryAt rels k
+unfolding relocAt
+entry-set rels i j v k ne l =
+    let p : ℕ = 24 * i + j in
+    let at : (n off : ℕ) → off + n ≤ 24 → le n (set rels p v) (24 * k + off) ≡ le n rels (24 * k + off) =
+    λ n off h. le-set n rels (24 * k + off) p v (apart-24 i j k off n ne l h) in
+    let zero-off : 24 * k ≡ 24 * k + 0 = omega arith in
+    let o : le 4 (set rels p v) (24 * k) ≡ le 4 rels (24 * k) = rw zero-off (at 4 0 (lit≤ tt)) in
+    rw (
+      o,
+      at 1 4 (lit≤ tt),
+      at 1 5 (lit≤ tt),
+      at 1 6 (lit≤ tt),
+      at 1 7 (lit≤ tt),
+      at 4 8 (lit≤ tt),
+      at 4 12 (lit≤ tt),
+      at 8 16 (lit≤ tt),
+    )
+
+target-set : (targets : List ℕ) (i j v k : ℕ) → (k ≡ i → ⊥) → j < 48 → targetAt (set targets (48 * i + j) v) k ≡ targetAt targets k
+unfolding resolvedAt
+target-set targets i j v k ne l =
+    let p : ℕ = 48 * i + j in
+    let at : (n off : ℕ) → off + n ≤ 48 → le n (set targets p v) (48 * k + off) ≡ le n targets (48 * k + off) =
+    λ n off h. le-set n targets (48 * k + off) p v (apart-48 i j k off n ne l h) in
+    let zero-off : 48 * k ≡ 48 * k + 0 = omega arith in
+    let o : le 8 (set targets p v) (48 * k) ≡ le 8 targets (48 * k) = rw zero-off (at 8 0 (lit≤ tt)) in
+    rw (o, at 8 8 (lit≤ tt), at 8 16 (lit≤ tt), at 8 24 (lit≤ tt), at 8 32 (lit≤ tt), at 4 40 (lit≤ tt), at 4 44 (lit≤ tt))
+
+-- an addend, and an address, hold no other byte of a record
+addend-set : (rels : List ℕ) (i j v k : ℕ) → j < 16 → entryAt (set rels (24 * i + j) v) k .addend ≡ entryAt rels k .addend
+unfolding relocAt
+addend-set rels i j v k l = le-set 8 rels (24 * k + 16) (24 * i + j) v (go (ltb k i) refl)
+  where
+    go : (x : Bool) → ltb k i ≡ x → (24 * i + j < 24 * k + 16) ⊎ (24 * k + 16 + 8 ≤ 24 * i + j)
+    go true e = inr (omega (arith, ltb-true k i e))
+    go false e = inl (omega (arith, ltb-false k i e))
+
+address-set : (targets : List ℕ) (i j v k : ℕ) → 8 ≤ j → j < 48 → targetAt (set targets (48 * i + j) v) k .addr ≡ targetAt targets k .addr
+unfolding resolvedAt
+address-set targets i j v k m l = le-set 8 targets (48 * k) (48 * i + j) v (go (ltb i k) refl)
+  where
+    go : (x : Bool) → ltb i k ≡ x → (48 * i + j < 48 * k) ⊎ (48 * k + 8 ≤ 48 * i + j)
+    go true e = inl (omega (arith, ltb-true i k e))
+    go false e = inr (omega (arith, ltb-false i k e))
+
+module _ (section : List ℕ) (b : Bases) (rels targets slots : List ℕ) (i j v : ℕ) (taken : consumed rels i ≡ true) where
+  other : (k : ℕ) → consumed rels k ≡ false → k ≡ i → ⊥
+  other k free e = true≢false (sym taken ∙ ap (consumed rels) (sym e) ∙ free)
+
+  pub consumed-entry : j < 16 → outcomeOf section b rels targets slots ≡ outcomeOf section b (set rels (24 * i + j) v) targets slots
+  consumed-entry l =
+      ignored b rels (set rels (24 * i + j) v) targets targets
+      (record {
+        length-rels = simp length-set;
+        length-targets = refl;
+        worked = λ k _ free. (ap seen (sym (entry-set rels i j v k (other k free) (omega arith))), refl);
+        taken = λ k _ _. (sym (addend-set rels i j v k l), refl);
+      })
+      section
+      slots
+
+  pub consumed-target : 8 ≤ j → j < 48 → outcomeOf section b rels targets slots ≡ outcomeOf section b rels (set targets (48 * i + j) v) slots
+  consumed-target m l =
+      ignored b rels rels targets (set targets (48 * i + j) v)
+      (record {
+        length-rels = refl;
+        length-targets = simp length-set;
+        worked = λ k _ free. (refl, sym (target-set targets i j v k (other k free) l));
+        taken = λ k _ _. (refl, sym (address-set targets i j v k m l));
+      })
+      section
+      slots

@@ -11,5 +11,7 @@ pub mod Lone
 pub mod Values
 pub mod Means
 pub mod Branches
+pub mod Bits
 pub mod Reports
+pub mod Unreported
 pub mod StubEntry

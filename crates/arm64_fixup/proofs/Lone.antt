@@ -1,7 +1,7 @@
--- What stands at the place of an entry whose bytes no other entry touches: what its change on the lent bytes stores.
-use mathlib.Core.Path.{_≡_, refl, sym, ap, _∙_}
+-- What stands at the place of an entry whose bytes no other entry writes: what its change on the lent bytes stores.
+use mathlib.Core.Path.{_≡_, refl, ap, _∙_}
 use mathlib.Core.List.{List}
-use Prim.Native.Nat.{ℕ, _+_, _%_, _^_, _≤_, _<_}
+use Prim.Native.Nat.{ℕ, _+_, _%_, _^_, _≤_}
 use native.Mathlib.Omega.{arith}
 use lib.Dec.{eqb}
 use lib.ListN.{length}
@@ -9,7 +9,7 @@ use Rattle.util.specs.Word.{le}
 use Rattle.util.proofs.Word.{le-put}
 use Rattle.arm64_entry.specs.Target.{widthOf}
 use Rattle.arm64_entry.specs.Change.{bytesIn}
-use Rattle.arm64_fixup.specs.Walk.{entryAt, targetAt, entries, stored, Fixed, changeAt}
+use Rattle.arm64_fixup.specs.Walk.{entryAt, targetAt, entries, stored, Fixed, changeAt, fixTo}
 use Rattle.arm64_fixup.specs.Footprint.{offsetAt, widthAt, Lone, wordAt, pointerAt}
 use Rattle.arm64_entry.specs.declared.target.Bases.{Bases}
 use Rattle.arm64_entry.specs.declared.change.Write.{Write}
@@ -18,7 +18,7 @@ use Rattle.arm64_entry.proofs.Sound.{Sound, sound}
 use Rattle.arm64_entry.proofs.Width.{change-fits}
 use Rattle.arm64_fixup.proofs.Works.{fine-at}
 use Rattle.arm64_fixup.proofs.Whole.{accepts}
-use Rattle.arm64_fixup.proofs.Bytewise.{worked-width}
+use Rattle.arm64_fixup.proofs.Bytewise.{worked-width, same-change}
 use Rattle.arm64_fixup.proofs.Footprint.{only-word}
 
 module _ {section : List ℕ} {b : Bases} {rels targets slots : List ℕ} {f : Fixed} {k : ℕ} (l : Lone section b rels targets slots f k) where
@@ -27,6 +27,12 @@ module _ {section : List ℕ} {b : Bases} {rels targets slots : List ℕ} {f : F
   passed =
       sound (length section) b (entryAt rels k) (targetAt targets k) (eqb (k + 1) (entries rels))
       (fine-at b rels targets section k (l .worked) (accepts section b rels targets slots (l .accepted) .fine) (l .listed) refl refl refl)
+
+  -- its step at its turn is the one on the lent bytes
+  pub lent-step : changeAt b rels targets (fixTo b rels targets section k .section) k ≡ changeAt b rels targets section k
+  lent-step =
+      same-change section b rels targets k (l .listed) (accepts section b rels targets slots (l .accepted) .fine)
+      (λ j p m t w. l .alone j p (omega (arith, l .listed)) (λ e. omega arith) t w) (l .worked)
 
   -- the bytes of its width at its place
   pub stands : (n : ℕ) → n ≤ widthAt rels targets k

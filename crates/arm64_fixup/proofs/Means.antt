@@ -1,45 +1,41 @@
 -- What the fixed words mean, from the manual's definitions: for entry k of any accepted list that no SUBTRACTOR consumes and whose bytes
--- no other entry touches. The words are those of arm64_insn's `Encodes`, their targets those of its `Meaning`.
-use mathlib.Core.Path.{_≡_, refl, sym, ap, _∙_}
-use mathlib.Core.Bool.{Bool, true, false}
+-- no other entry writes. The words are those of arm64_insn's `Encodes`, their targets those of its `Meaning`.
+use mathlib.Core.Path.{_≡_, refl, ap, _∙_}
+use mathlib.Core.Bool.{true, false}
 use mathlib.Core.List.{List}
-use mathlib.Core.Logic.{_⊎_, inl, inr, ⊎-elim}
+use mathlib.Core.Logic.{_⊎_, ⊎-elim}
 use Prim.Native.Nat.{ℕ, _+_, _*_, _/_, _%_, _^_, _≤_, _<_}
 use native.Mathlib.Omega.{arith}
 use native.Mathlib.Nat.{mod-eq-of-lt, div-le-self}
 use borrow.Author.Tests.{eq-eqb, ne-eqb}
-use lib.Dec.{eqb, lit<, lit≤}
+use lib.Dec.{lit<, lit≤}
 use Rattle.util.specs.Choice.{choose}
 use Rattle.util.specs.Bits.{field}
-use Rattle.util.specs.Wrap.{sum, diff}
 use Rattle.util.proofs.Choice.{chosen, choose-true, choose-false}
 use Rattle.util.proofs.Word.{le-lt}
-use Rattle.macho.specs.Types.{ARM64-RELOC-BRANCH26, ARM64-RELOC-GOT-LOAD-PAGE21}
-use Rattle.macho.specs.Resolved.{canRelaxGot, hasHelper, helperIsOwn}
+use Rattle.macho.specs.Resolved.{canRelaxGot}
 use Rattle.macho.specs.declared.reloc.Reloc.{Reloc}
 use Rattle.macho.specs.declared.resolved.Resolved.{Resolved}
-use Rattle.arm64_insn.specs.Manual.{ADRP, ADD, LDST, B, BL, InRange, encode, form, decode, rdIn, rnIn}
+use Rattle.arm64_insn.specs.Manual.{ADRP, ADD, LDST, PRFM, InRange, form, decode, rdIn, rnIn}
 use Rattle.arm64_insn.specs.LoadStoreTable.{rowOf, movedBy}
 use Rattle.arm64_insn.specs.ManualTargets as M
 use Rattle.arm64_insn.specs.Page.{pageOf, adrpPage}
 use Rattle.arm64_insn.specs.Reach.{pageImm, pageOffset, adrpReaches}
-use Rattle.arm64_insn.specs.Branch.{branchReaches, branchWord, helperWord}
 use Rattle.arm64_insn.specs.Fix.{adrpWith, scaleOf, offsetWith, relaxedWord}
 use Rattle.arm64_insn.specs.declared.fix.Fit.the-variants as Fit
-use Rattle.arm64_insn.proofs.Encodes.{adrp-patched, add-patched, load-store-patched, b-patched, bl-patched, helper-made, relaxed-made}
-use Rattle.arm64_insn.proofs.Meaning.{adrp-means, add-means, access-means, branch-means}
+use Rattle.arm64_insn.proofs.Encodes.{adrp-patched, add-patched, load-store-patched, prefetch-patched, relaxed-made}
+use Rattle.arm64_insn.proofs.Meaning.{adrp-means, add-means, access-means}
 use Rattle.arm64_insn.proofs.Manual.{decode-encode, decode-in-range, encode-lt}
 use Rattle.arm64_entry.specs.Target.{placeOf, targetOf, slotOf, gotTarget, widthOf}
-use Rattle.arm64_entry.specs.Change.{branchTarget, thunkServes, dtraceSiteInsn, branch, branchUnless, page21, fitted, pageoff12, gotPage21}
-use Rattle.arm64_entry.specs.Change.{canRelax, relaxed, gotPageoff12, changeOf}
+use Rattle.arm64_entry.specs.Change.{page21, fitted}
+use Rattle.arm64_entry.specs.Change.{canRelax, relaxed, gotPageoff12}
 use Rattle.arm64_fixup.specs.Walk.{entryAt, targetAt, Fixed, changeAt}
-use Rattle.arm64_fixup.specs.Footprint.{Lone, wordAt, Octets}
+use Rattle.arm64_fixup.specs.Footprint.{Lone, wordAt}
 use Rattle.arm64_entry.specs.Roles.{Page, page, got-page, tlv-page, GotOffset, Offset, offset, got-offset, Relaxed}
 use Rattle.arm64_entry.specs.declared.target.Bases.{Bases}
 use Rattle.arm64_entry.specs.declared.change.Site.{Site}
 use Rattle.arm64_entry.specs.declared.change.Change.{Change}
-use Rattle.arm64_entry.specs.declared.change.Write.the-variants.{Nothing, Word}
-use Rattle.arm64_entry.specs.declared.change.Traced.the-variants.{Untraced}
+use Rattle.arm64_entry.specs.declared.change.Write.the-variants.{Word}
 use Rattle.arm64_entry.proofs.ByType.{siteOf, page-does-it, got-offset-does-it, offset-does-it}
 use Rattle.arm64_fixup.proofs.Lone.{passed, stores-word, leaves-word}
 
@@ -77,13 +73,13 @@ module _ {section : List ℕ} {b : Bases} {rels targets slots : List ℕ} {f : F
       ∙ mod-eq-of-lt (adrp-with-lt (wordAt rels section k) target (placeOf b (entryAt rels k)))
 
   -- an ADRP is one of the old register; in reach, it makes the target's page
-  pub page-means : Octets section → {target : ℕ} → Page (entryAt rels k) (targetAt targets k) target
+  pub page-means : {target : ℕ} → Page (entryAt rels k) (targetAt targets k) target
       → (rd imm : ℕ) → decode (wordAt rels section k) ≡ form (ADRP rd imm)
       → adrpReaches target (placeOf b (entryAt rels k)) ≡ true
       → (decode (wordAt rels (f .section) k) ≡ form (ADRP rd (pageImm target (placeOf b (entryAt rels k)))))
       × (adrpPage (pageImm target (placeOf b (entryAt rels k))) (placeOf b (entryAt rels k)) ≡ pageOf target)
-  page-means o {target} r rd imm d near = (
-    ap decode (page-word r) ∙ adrp-patched _ rd imm target _ (le-lt 4 section _ o) d,
+  page-means {target} r rd imm d near = (
+    ap decode (page-word r) ∙ adrp-patched _ rd imm target _ (le-lt 4 section _) d,
     adrp-means target _ (page-lt _ _ r) (passed l .place) near,
   )
 
@@ -135,6 +131,17 @@ module _ {section : List ℕ} {b : Bases} {rels targets slots : List ℕ} {f : F
       pub offset-misaligned : (target % movedBy (rowOf size v opc) ≡ 0 → ⊥) → wordAt rels (f .section) k ≡ wordAt rels section k
       offset-misaligned h = stays (load-store-patched _ size v opc rt rn imm12 target d ∙ choose-false _ _ _ (ne-eqb _ _ h))
 
+    -- a prefetch is the old one with the target's low 12 bits in eights, where 8 divides the target
+    pub offset-prefetch : (rt rn imm12 : ℕ) → decode (wordAt rels section k) ≡ form (PRFM rt rn imm12) → target % 8 ≡ 0
+        → decode (wordAt rels (f .section) k) ≡ form (PRFM rt rn (target % 2 ^ 12 / 8))
+    offset-prefetch rt rn imm12 d h =
+        let i = decode-in-range _ (PRFM rt rn imm12) d in
+        let j : InRange (PRFM rt rn (target % 2 ^ 12 / 8)) = (i .0, i .1, omega arith) in
+        ap decode
+        (fits (prefetch-patched _ rt rn imm12 target d ∙ choose-true _ _ _ (eq-eqb _ _ h))
+        ∙ mod-eq-of-lt (encode-lt (PRFM rt rn (target % 2 ^ 12 / 8)) j))
+        ∙ decode-encode (PRFM rt rn (target % 2 ^ 12 / 8)) j
+
     -- any word: bits 31..22 and 9..0 stay, bits 21..10 are the page offset in the word's scale; or all of it stays
     pub offset-word : target % 2 ^ scaleOf (wordAt rels section k) ≡ 0
         → wordAt rels (f .section) k
@@ -157,9 +164,9 @@ relaxes-it s e t word h = rw h
 module _ {section : List ℕ} {b : Bases} {rels targets slots : List ℕ} {f : Fixed} {k : ℕ} (l : Lone section b rels targets slots f k)
     (r : Relaxed (entryAt rels k) (targetAt targets k))
   where
-    does : changeAt b rels targets section k
+    pub relaxed-does : changeAt b rels targets section k
         ≡ relaxed (siteOf b k (entryAt rels k)) (entryAt rels k .ty) (targetOf (entryAt rels k) (targetAt targets k)) (wordAt rels section k)
-    does = got-offset-does-it b k _ _ _ _ _ (r .type) ∙ relaxes-it _ _ _ _ (r .relaxes)
+    relaxed-does = got-offset-does-it b k _ _ _ _ _ (r .type) ∙ relaxes-it _ _ _ _ (r .relaxes)
 
     -- an LDR, for GOT also a 64-bit ADD, becomes the 64-bit ADD of its registers and the low 12 bits of S + A
     pub relaxed-means : canRelax (entryAt rels k .ty) (wordAt rels section k) ≡ true
@@ -171,7 +178,7 @@ module _ {section : List ℕ} {b : Bases} {rels targets slots : List ℕ} {f : F
         let w = wordAt rels section k in
         let j : InRange (ADD 1 0 (rdIn w) (rnIn w) (field target 0 12)) = (lit< tt, lit< tt, omega arith, omega arith, omega arith) in
         ap decode
-        (stores-word l (ap (λ (c : Change). c .write) (does ∙ choose-true _ _ _ h))
+        (stores-word l (ap (λ (c : Change). c .write) (relaxed-does ∙ choose-true _ _ _ h))
         ∙ mod-eq-of-lt (encode-lt (ADD 1 0 (rdIn w) (rnIn w) (field target 0 12)) j))
         ∙ relaxed-made w target
 
@@ -179,11 +186,12 @@ module _ {section : List ℕ} {b : Bases} {rels targets slots : List ℕ} {f : F
     pub relaxed-kept : canRelax (entryAt rels k .ty) (wordAt rels section k) ≡ false → wordAt rels (f .section) k ≡ wordAt rels section k
     unfolding relaxed
     relaxed-kept h =
-        leaves-word l (got-offset-width _ _ (r .type)) (ap (λ (c : Change). c .write) (does ∙ choose-false _ _ _ h))
+        leaves-word l (got-offset-width _ _ (r .type)) (ap (λ (c : Change). c .write) (relaxed-does ∙ choose-false _ _ _ h))
 
--- ---- page and page offset together
+-- ---- page and page offset together. What the word at m makes or accesses is said of a source that holds the ADRP's page: so it is where
+-- the source is the ADRP's register
 
-module _ {section : List ℕ} {b : Bases} {rels targets slots : List ℕ} {f : Fixed} {k m : ℕ} (octets : Octets section)
+module _ {section : List ℕ} {b : Bases} {rels targets slots : List ℕ} {f : Fixed} {k m : ℕ}
     (l : Lone section b rels targets slots f k) (l′ : Lone section b rels targets slots f m)
     {target : ℕ} (r : Page (entryAt rels k) (targetAt targets k) target) (near : adrpReaches target (placeOf b (entryAt rels k)) ≡ true)
     (rd imm : ℕ) (d : decode (wordAt rels section k) ≡ form (ADRP rd imm))
@@ -195,7 +203,7 @@ module _ {section : List ℕ} {b : Bases} {rels targets slots : List ℕ} {f : F
         × (decode (wordAt rels (f .section) m) ≡ form (ADD 1 0 rd′ rn (field target 0 12)))
         × (M.addValue 1 0 (adrpPage (pageImm target (placeOf b (entryAt rels k))) (placeOf b (entryAt rels k))) (field target 0 12) ≡ target)
     adrp-add r′ rd′ rn imm12 d′ = (
-      page-means l octets r rd imm d near .0,
+      page-means l r rd imm d near .0,
       offset-add l′ r′ 1 0 rd′ rn imm12 d′,
       add-means target (placeOf b (entryAt rels k)) (page-lt _ _ r) (passed l .place) near,
     )
@@ -207,7 +215,7 @@ module _ {section : List ℕ} {b : Bases} {rels targets slots : List ℕ} {f : F
         × (decode (wordAt rels (f .section) m) ≡ form (ADD 1 0 (rdIn (wordAt rels section m)) (rnIn (wordAt rels section m)) (field target 0 12)))
         × (M.addValue 1 0 (adrpPage (pageImm target (placeOf b (entryAt rels k))) (placeOf b (entryAt rels k))) (field target 0 12) ≡ target)
     adrp-relaxed r′ same h = (
-      page-means l octets r rd imm d near .0,
+      page-means l r rd imm d near .0,
       relaxed-means l′ r′ h
           ∙ ap (λ (t : ℕ). form (ADD 1 0 (rdIn (wordAt rels section m)) (rnIn (wordAt rels section m)) (field t 0 12))) same,
       add-means target (placeOf b (entryAt rels k)) (page-lt _ _ r) (passed l .place) near,
@@ -222,7 +230,7 @@ module _ {section : List ℕ} {b : Bases} {rels targets slots : List ℕ} {f : F
         (target % 2 ^ 12 / movedBy (rowOf size v opc))
         ≡ target)
     adrp-access r′ size v opc rt rn imm12 d′ h = (
-      page-means l octets r rd imm d near .0,
+      page-means l r rd imm d near .0,
       offset-access l′ r′ size v opc rt rn imm12 d′ h,
       access-means target (placeOf b (entryAt rels k)) (page-lt _ _ r) (passed l .place) _ size v opc rt rn imm12 d′ near h,
     )

@@ -3,23 +3,20 @@
 use mathlib.Core.Path.{_≡_, refl, sym, ap, _∙_, subst}
 use mathlib.Core.Bool.{Bool, true, false}
 use mathlib.Core.List.{List, [], _∷_, _++_, List·Memᴰ, List·Memᴰ·head, Memᴰ·append-left, Memᴰ·append-right}
-use mathlib.Core.Logic.{_⊎_, inl, inr, ⊎-elim}
-use Prim.Native.Nat.{ℕ, zero, suc, _+_, _-_, _≤_, _<_}
+use Prim.Native.Nat.{ℕ, zero, suc, _+_, _-_}
 use native.Mathlib.Omega.{arith}
-use borrow.Author.Tests.{eqb-false}
-use lib.Dec.{eqb}
 use Rattle.util.specs.Choice.{choose}
-use Rattle.util.proofs.Choice.{split, chosen, choose-false}
+use Rattle.util.proofs.Choice.{chosen, choose-false}
 use Rattle.macho.specs.Types.{ARM64-RELOC-BRANCH26}
 use Rattle.macho.specs.declared.reloc.Reloc.{Reloc}
 use Rattle.macho.specs.declared.resolved.Resolved.{Resolved}
 use Rattle.macho.specs.declared.report.Report as R
 use Rattle.arm64_insn.specs.Reach.{adrpReaches}
 use Rattle.arm64_insn.specs.Branch.{branchReaches}
-use Rattle.arm64_entry.specs.Target.{placeOf, widthOf}
+use Rattle.arm64_entry.specs.Target.{placeOf}
 use Rattle.arm64_entry.specs.Change.{silent, branchTarget, thunkServes, dtraceSiteInsn, branch, page21, difference, changeOf}
-use Rattle.arm64_fixup.specs.Walk.{entryAt, targetAt, entries, consumed, reportsOf, Fixed, changeAt, applied, workAt, fixTo}
-use Rattle.arm64_fixup.specs.Footprint.{widthAt, Lone, wordAt}
+use Rattle.arm64_fixup.specs.Walk.{entryAt, targetAt, entries, consumed, reportsOf, Fixed, changeAt, workAt, fixTo}
+use Rattle.arm64_fixup.specs.Footprint.{Lone, Unreported, wordAt}
 use Rattle.arm64_entry.specs.Roles.{Page}
 use Rattle.arm64_entry.specs.declared.target.Bases.{Bases}
 use Rattle.arm64_entry.specs.declared.change.Site.{Site}
@@ -31,7 +28,7 @@ use Rattle.arm64_entry.specs.declared.change.Change.{Change}
 use Rattle.arm64_entry.proofs.Shapes.{of-word}
 use Rattle.arm64_fixup.proofs.Turns.{work-worked, fix-suc}
 use Rattle.arm64_fixup.proofs.Whole.{accepts}
-use Rattle.arm64_fixup.proofs.Bytewise.{worked-width, same-change}
+use Rattle.arm64_fixup.proofs.Lone.{lent-step}
 use Rattle.arm64_entry.proofs.ByType.{siteOf, branch-untraced, page-does-it}
 
 -- ---- whose report it is
@@ -73,17 +70,8 @@ module _ (b : Bases) (rels targets : List ℕ) where
       (subst (λ (g : Fixed). List·Memᴰ r (g .reports)) (sym (fix-suc b rels targets section (j + i)))
       (work-keeps (fixTo b rels targets section (j + i)) (j + i) (fix-keeps section j i m)))
 
--- an entry that touches nothing tells nothing
-told-some : (b : Bases) (i : ℕ) (e : Reloc) (t : Resolved) (next : Reloc) (nextTarget : Resolved) (word : ℕ) (r : R.Report)
-    → changeOf b i e t next nextTarget word .told ≡ Report r → 0 < widthOf e t
-unfolding changeOf
-told-some b i e t next nextTarget word r =
-    split (λ (c : Change). c .told ≡ Report r → 0 < widthOf e t) (eqb (widthOf e t) 0) _ _
-    (λ z d. let y : _≡_ {A = ℕ} 0 1 = cc in absurd (omega arith))
-    (λ z d. omega (arith, eqb-false (widthOf e t) 0 z))
-
 -- a page and a branch that tell nothing
-silent-test : (q : Bool) (w : Write) (c : Change) (r : R.Report) → c .told ≡ Report r → choose q (silent w) c .told ≡ Silent → q ≡ true
+pub silent-test : (q : Bool) (w : Write) (c : Change) (r : R.Report) → c .told ≡ Report r → choose q (silent w) c .told ≡ Silent → q ≡ true
 unfolding choose
 silent-test true w c r h e = refl
 silent-test false w c r h e = let z : _≡_ {A = ℕ} 0 1 = cc in absurd (omega arith)
@@ -98,22 +86,15 @@ unfolding branch
 branch-silent s e t word far h =
     silent-test (branchReaches (branchTarget e t) (s .place)) _ _ _ (ap (λ (c : Change). c .told) (choose-false (thunkServes e t (branchTarget e t)) _ _ far)) h
 
--- that no report names entry k
-abbrev pub Unreported : Fixed → ℕ → Type 0
-Unreported f k = (r : R.Report) → List·Memᴰ r (f .reports) → r .entry ≡ k → ⊥
-
 module _ {section : List ℕ} {b : Bases} {rels targets slots : List ℕ} {f : Fixed} {k : ℕ} (l : Lone section b rels targets slots f k) where
   -- what entry k tells of the lent bytes stands in the list
   pub told-in : {r : R.Report} → changeAt b rels targets section k .told ≡ Report r → List·Memᴰ r (f .reports)
   told-in {r} h =
       let a = accepts section b rels targets slots (l .accepted) in
-      let some : 0 < widthAt rels targets k =
-      rw (worked-width rels targets k (l .worked)) (told-some b k (entryAt rels k) (targetAt targets k) _ _ _ r h) in
-      let same = same-change section b rels targets k (l .listed) (l .alone) (a .fine) some in
       let one : fixTo b rels targets section (suc k) .reports ≡ fixTo b rels targets section k .reports ++ (r ∷ []) =
       ap (λ (g : Fixed). g .reports)
       (fix-suc b rels targets section k ∙ work-worked b rels targets (fixTo b rels targets section k) k (l .worked))
-      ∙ ap (λ (t : Told). fixTo b rels targets section k .reports ++ reportsOf t) (ap (λ (c : Change). c .told) same ∙ h) in
+      ∙ ap (λ (t : Told). fixTo b rels targets section k .reports ++ reportsOf t) (ap (λ (c : Change). c .told) (lent-step l) ∙ h) in
       let m : List·Memᴰ r (fixTo b rels targets section (suc k) .reports) =
       subst (λ (rs : List R.Report). List·Memᴰ r rs) (sym one) (Memᴰ·append-right (fixTo b rels targets section k .reports) (List·Memᴰ·head {xs = []} refl)) in
       let n : entries rels - suc k + suc k ≡ entries rels = omega (arith, l .listed) in

@@ -1,9 +1,9 @@
 -- One stub or thunk entry: which bytes it writes, and what its words mean by the manual.
-use mathlib.Core.Path.{_≡_, refl, sym, ap, _∙_}
+use mathlib.Core.Path.{_≡_, refl, ap, _∙_}
 use mathlib.Core.Bool.{true}
 use mathlib.Core.List.{List}
-use mathlib.Core.Logic.{_⊎_, inl, inr}
-use Prim.Native.Nat.{ℕ, _+_, _%_, _^_, _≤_, _<_}
+use mathlib.Core.Logic.{inl, inr}
+use Prim.Native.Nat.{ℕ, _%_, _^_, _≤_, _<_}
 use native.Mathlib.Omega.{arith}
 use native.Mathlib.Nat.{mod-eq-of-lt}
 use borrow.Author.Tests.{lt-ltb, le-ltb}
@@ -13,18 +13,17 @@ use Rattle.util.specs.Choice.{choose}
 use Rattle.util.specs.Bits.{field}
 use Rattle.util.specs.Word.{le, put}
 use Rattle.util.proofs.Word.{length-put, getD-put-other, le-put, le-put-other}
-use Rattle.util.proofs.Choice.{choose-true, choose-false}
-use Rattle.arm64_insn.specs.Manual.{ADRP, ADD, LDST, BR, InRange, encode, form, decode}
+use Rattle.util.proofs.Choice.{choose-false}
+use Rattle.arm64_insn.specs.Manual.{ADRP, ADD, LDST, BR, InRange, form, decode}
 use Rattle.arm64_insn.specs.LoadStoreTable.{rowOf}
 use Rattle.arm64_insn.specs.ManualTargets as M
 use Rattle.arm64_insn.specs.Page.{adrpPage}
 use Rattle.arm64_insn.specs.Reach.{pageImm, adrpReaches}
 use Rattle.arm64_insn.specs.Stub.{stubWords, thunkWords}
 use Rattle.arm64_insn.specs.declared.stub.Words3.{Words3}
-use Rattle.arm64_insn.proofs.Encodes.{stub-made, thunk-made}
+use Rattle.arm64_insn.proofs.Encodes.{page-imm-lt, stub-made, thunk-made}
 use Rattle.arm64_insn.proofs.Meaning.{add-means, stub-means}
 use Rattle.arm64_insn.proofs.Manual.{encode-lt}
-use Rattle.macho.specs.declared.refusal.Refusal.the-variants.{Bounds}
 use Rattle.arm64_fixup.specs.Stub.{wordsIn, stubAnswer, thunkAnswer, stubNumber, thunkNumber}
 
 -- fewer than 12 bytes: number 3, and nothing written
@@ -64,10 +63,6 @@ module _ (s : List ℕ) (w : Words3) (room : 12 ≤ length s) where
         ap (λ (l : List ℕ). le 4 l 8) stands ∙ le-put 4 _ 8 (w .third) (omega arith) ∙ mod-eq-of-lt (h .2),
       )
 
-page-imm-lt : (hi lo : ℕ) → pageImm hi lo < 2 ^ 21
-unfolding pageImm
-page-imm-lt hi lo = omega arith
-
 -- the words of a stub: ADRP x16; LDR x16, [x16]; BR x16. In reach, of a pointer that is a multiple of 8, the load is from the pointer
 pub stub-entry : (s : List ℕ) (addr ptr : ℕ) → 12 ≤ length s
     → (decode (le 4 (wordsIn s (stubWords addr ptr)) 0) ≡ form (ADRP 16 (pageImm ptr addr)))
@@ -91,7 +86,7 @@ stub-entry s addr ptr room =
       λ ha hp near h. stub-means ptr addr hp ha near h,
     )
 
--- the words of a thunk: ADRP x16; ADD x16, x16; BR x16. In reach they go to the target
+-- the words of a thunk: ADRP x16; ADD x16, x16; BR x16. In reach, the ADD makes the target, where the BR goes
 pub thunk-entry : (s : List ℕ) (addr target : ℕ) → 12 ≤ length s
     → (decode (le 4 (wordsIn s (thunkWords addr target)) 0) ≡ form (ADRP 16 (pageImm target addr)))
     × (decode (le 4 (wordsIn s (thunkWords addr target)) 4) ≡ form (ADD 1 0 16 16 (field target 0 12)))

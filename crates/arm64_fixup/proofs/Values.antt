@@ -1,7 +1,7 @@
 -- The numbers that UNSIGNED, SUBTRACTOR and POINTER_TO_GOT leave at their place, as plain arithmetic: for entry k of any accepted list
--- that no SUBTRACTOR consumes and whose bytes no other entry touches.
-use mathlib.Core.Path.{_≡_, refl, sym, ap, _∙_}
-use mathlib.Core.Bool.{Bool, true, false}
+-- that no SUBTRACTOR consumes and whose bytes no other entry writes.
+use mathlib.Core.Path.{_≡_, ap, _∙_}
+use mathlib.Core.Bool.{true, false}
 use mathlib.Core.List.{List}
 use Prim.Native.Nat.{ℕ, _+_, _%_, _^_, _<_}
 use native.Mathlib.Omega.{arith}
@@ -14,12 +14,12 @@ use Rattle.macho.specs.Resolved.{isTls}
 use Rattle.macho.specs.declared.reloc.Reloc.{Reloc}
 use Rattle.arm64_entry.specs.Target.{importedSymbol, placeOf, targetOf, slotOf}
 use Rattle.arm64_entry.specs.Change.{silent, unsignedValue, subtractorValue, difference, pointerToGot}
-use Rattle.arm64_fixup.specs.Walk.{entryAt, targetAt, Fixed, changeAt}
+use Rattle.arm64_fixup.specs.Walk.{entryAt, targetAt, Fixed}
 use Rattle.arm64_fixup.specs.Footprint.{Lone, wordAt, pointerAt}
 use Rattle.arm64_entry.specs.declared.target.Bases.{Bases}
 use Rattle.arm64_entry.specs.declared.change.Change.{Change}
 use Rattle.arm64_entry.specs.declared.change.Write.the-variants.{Word, Pointer}
-use Rattle.arm64_entry.proofs.ByType.{siteOf, unsigned-does, subtractor-does, pointer-does}
+use Rattle.arm64_entry.proofs.ByType.{unsigned-does, subtractor-does, pointer-does}
 use Rattle.arm64_fixup.proofs.Lone.{stores-word, stores-pointer}
 
 -- sums and differences are 64-bit numbers

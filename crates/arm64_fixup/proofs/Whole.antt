@@ -7,7 +7,6 @@ use native.Mathlib.Omega.{arith}
 use borrow.Author.Tests.{ltb-false, leb-false, eqb-true}
 use lib.Dec.{eqb, leb}
 use lib.ListN.{length}
-use Rattle.util.specs.Choice.{choose}
 use Rattle.macho.specs.declared.refusal.Refusal.{Refusal}
 use Rattle.arm64_fixup.specs.Walk.{checkAll, Fixed, fixAll}
 use Rattle.arm64_fixup.specs.Answer.{disagree, lacksSlots, checkLists, Outcome, refused, fixed, after, outcomeOf, answerOf, sectionAfter}
@@ -15,7 +14,6 @@ use Rattle.arm64_fixup.specs.Answer.{filled, slotsAfter}
 use Rattle.arm64_entry.specs.declared.target.Bases.{Bases}
 use Rattle.arm64_entry.specs.declared.check.Checked.{Checked}
 use Rattle.arm64_entry.specs.declared.check.Checked.the-variants as C
-use Rattle.arm64_fixup.specs.declared.walk.FixAnswer.{FixAnswer}
 use Rattle.arm64_fixup.specs.declared.walk.FixAnswer.the-variants.{Filled, Refused}
 use Rattle.arm64_entry.proofs.Sound.{passed}
 

@@ -1,8 +1,8 @@
 -- One turn of the second walk, in the form in which the loop asks for it, and the reports' bytes one after another.
-use mathlib.Core.Path.{_≡_, refl, sym, ap, _∙_, subst}
+use mathlib.Core.Path.{_≡_, refl, sym, ap, _∙_}
 use mathlib.Core.Bool.{Bool, false}
 use mathlib.Core.List.{List, [], _∷_, _++_, append-assoc}
-use Prim.Native.Nat.{ℕ, zero, suc, _+_, _*_, _≤_, _<_}
+use Prim.Native.Nat.{ℕ, _+_, _*_, _≤_, _<_}
 use native.Mathlib.Omega.{arith}
 use lib.Dec.{eqb}
 use lib.ListN.{length, drop, length-append}
@@ -10,7 +10,7 @@ use lib.Seq.{sets, sets-eq}
 use Rattle.util.specs.Word.{le}
 use Rattle.util.proofs.Part.{length-bytes}
 use Rattle.util.proofs.Bytes.{sets-append}
-use Rattle.macho.specs.Record.{bytesOf}
+use Rattle.macho.specs.Record.{bytesOf, listBytes}
 use Rattle.macho.specs.Report.{reportBytes}
 use Rattle.macho.specs.declared.reloc.Reloc.{Reloc}
 use Rattle.macho.specs.declared.resolved.Resolved.{Resolved}
@@ -18,8 +18,8 @@ use Rattle.macho.specs.declared.report.Report.{Report}
 use Rattle.arm64_entry.specs.Check.{checkOf}
 use Rattle.arm64_entry.specs.Change.{bytesIn, changeOf}
 use Rattle.arm64_fixup.specs.Walk.{entries, entryAt, targetAt, takenBy, consumed, checkAll, stored, reportsOf, Fixed}
-use Rattle.arm64_fixup.specs.Walk.{changeAt, applied, fixTo, fixAll}
-use Rattle.arm64_fixup.specs.Answer.{reportsBytes, filled}
+use Rattle.arm64_fixup.specs.Walk.{applied, fixTo, fixAll}
+use Rattle.arm64_fixup.specs.Answer.{filled}
 use Rattle.arm64_entry.specs.declared.target.Bases.{Bases}
 use Rattle.arm64_entry.specs.declared.check.Checked.the-variants.{Fine}
 use Rattle.arm64_entry.specs.declared.change.Told.{Told}
@@ -35,28 +35,28 @@ length-report : (r : Report) → length (reportBytes r) ≡ 24
 unfolding reportBytes bytesOf
 length-report r = simp (length-append, length-bytes)
 
-length-reports : (rs : List Report) → length (reportsBytes rs) ≡ 24 * length rs
-unfolding reportsBytes
+length-reports : (rs : List Report) → length (listBytes reportBytes rs) ≡ 24 * length rs
+unfolding listBytes
 length-reports [] = refl
 length-reports (r ∷ rs) = simp (length-append, length-report r, length-reports rs) (omega arith)
 
-reports-append : (rs qs : List Report) → reportsBytes (rs ++ qs) ≡ reportsBytes rs ++ reportsBytes qs
-unfolding reportsBytes
+reports-append : (rs qs : List Report) → listBytes reportBytes (rs ++ qs) ≡ listBytes reportBytes rs ++ listBytes reportBytes qs
+unfolding listBytes
 reports-append [] qs = refl
-reports-append (r ∷ rs) qs = rw (reports-append rs qs) (sym (append-assoc (reportBytes r) (reportsBytes rs) (reportsBytes qs)))
+reports-append (r ∷ rs) qs = rw (reports-append rs qs) (sym (append-assoc (reportBytes r) (listBytes reportBytes rs) (listBytes reportBytes qs)))
 
 -- reports stored after others
 more : (slots : List ℕ) (rs qs : List Report)
-    → sets slots 0 (reportsBytes (rs ++ qs)) ≡ sets (sets slots 0 (reportsBytes rs)) (24 * length rs) (reportsBytes qs)
+    → sets slots 0 (listBytes reportBytes (rs ++ qs)) ≡ sets (sets slots 0 (listBytes reportBytes rs)) (24 * length rs) (listBytes reportBytes qs)
 more slots rs qs =
-    rw (reports-append rs qs) (sets-append (reportsBytes rs) (reportsBytes qs) slots 0 (24 * length rs) (omega (arith, length-reports rs)))
+    rw (reports-append rs qs) (sets-append (listBytes reportBytes rs) (listBytes reportBytes qs) slots 0 (24 * length rs) (omega (arith, length-reports rs)))
 
 -- stored reports are the front of the slots
-front : (slots : List ℕ) (f : Fixed) → 24 * length (f .reports) ≤ length slots → sets slots 0 (reportsBytes (f .reports)) ≡ filled f slots
+front : (slots : List ℕ) (f : Fixed) → 24 * length (f .reports) ≤ length slots → sets slots 0 (listBytes reportBytes (f .reports)) ≡ filled f slots
 front slots f h =
-    let n : 0 + length (reportsBytes (f .reports)) ≡ 24 * length (f .reports) = omega (arith, length-reports (f .reports)) in
-    sets-eq (reportsBytes (f .reports)) slots 0 (omega (arith, length-reports (f .reports)))
-    ∙ ap (λ (k : ℕ). reportsBytes (f .reports) ++ drop k slots) n
+    let n : 0 + length (listBytes reportBytes (f .reports)) ≡ 24 * length (f .reports) = omega (arith, length-reports (f .reports)) in
+    sets-eq (listBytes reportBytes (f .reports)) slots 0 (omega (arith, length-reports (f .reports)))
+    ∙ ap (λ (k : ℕ). listBytes reportBytes (f .reports) ++ drop k slots) n
 
 -- at most one report an entry
 at-most-one : (t : Told) → length (reportsOf t) ≤ 1
@@ -90,16 +90,16 @@ module _ (b : Bases) (rels targets section : List ℕ) (i : ℕ) (free : consume
       pub work-again : (slots₀ : List ℕ) {count count′ : ℕ} {slots slots′ buf′ : List ℕ} → i < entries rels → checkAll (length section) b rels targets ≡ Fine
           → count ≤ i
           → count ≡ length (fixTo b rels targets section i .reports)
-          → slots ≡ sets slots₀ 0 (reportsBytes (fixTo b rels targets section i .reports))
+          → slots ≡ sets slots₀ 0 (listBytes reportBytes (fixTo b rels targets section i .reports))
           → buf′ ≡ stored buf (e .offset) (c .write)
           → count′ ≡ count + length (reportsOf (c .told))
-          → slots′ ≡ sets slots (24 * count) (reportsBytes (reportsOf (c .told)))
+          → slots′ ≡ sets slots (24 * count) (listBytes reportBytes (reportsOf (c .told)))
           → (i + k ≤ entries rels)
           × (consumed rels (i + k) ≡ false)
           × (count′ ≤ i + k)
           × (count′ ≡ length (fixTo b rels targets section (i + k) .reports))
           × (buf′ ≡ fixTo b rels targets section (i + k) .section)
-          × (slots′ ≡ sets slots₀ 0 (reportsBytes (fixTo b rels targets section (i + k) .reports)))
+          × (slots′ ≡ sets slots₀ 0 (listBytes reportBytes (fixTo b rels targets section (i + k) .reports)))
       work-again slots₀ below h few pn ps qb qn qs = (
         rw (pk, pe) (next-within (length section) b rels targets i free below (fine-at h below refl refl refl)),
         rw (pk, pe) (next-worked rels i free),
@@ -115,7 +115,7 @@ pub work-done : (b : Bases) (rels targets section slots₀ : List ℕ) (i : ℕ)
     → 24 * entries rels ≤ length slots₀
     → count ≡ length (fixTo b rels targets section i .reports)
     → buf ≡ fixTo b rels targets section i .section
-    → slots ≡ sets slots₀ 0 (reportsBytes (fixTo b rels targets section i .reports))
+    → slots ≡ sets slots₀ 0 (listBytes reportBytes (fixTo b rels targets section i .reports))
     → (count ≡ length (fixAll b rels targets section .reports))
     × ((buf ≡ fixAll b rels targets section .section) × (slots ≡ filled (fixAll b rels targets section) slots₀))
 work-done b rels targets section slots₀ i {count} {buf} {slots} l g few enough pn pb ps =

@@ -1,13 +1,13 @@
 -- The whole call: a refusal that leaves everything, or the fixed section with its reports (document 01, "Turned-down input", "Records lent by the linker").
 use Prim.Native.Nat.{ℕ, _*_, _/_, _%_, _^_}
 use mathlib.Core.Bool.{Bool, _||_, not}
-use mathlib.Core.List.{List, [], _∷_, _++_}
+use mathlib.Core.List.{List, _++_}
 use lib.Dec.{eqb, ltb, leb}
 use lib.ListN.{length, drop}
 use Rattle.util.specs.Choice.{choose}
 use Rattle.macho.specs.Refusal as Refusal
+use Rattle.macho.specs.Record.{listBytes}
 use Rattle.macho.specs.Report.{reportBytes}
-use Rattle.macho.specs.declared.report.Report.{Report}
 use Rattle.macho.specs.declared.refusal.Refusal.{Refusal}
 use Rattle.macho.specs.declared.refusal.Refusal.the-variants.{Lengths, Slots}
 use Rattle.arm64_fixup.specs.Walk.{checkAll, Fixed, fixAll}
@@ -61,14 +61,9 @@ abbrev pub sectionAfter : Outcome → List ℕ → List ℕ
 sectionAfter (refused r) section = section
 sectionAfter (fixed f) section = f .section
 
--- the reports' bytes one after another
-unfoldable pub reportsBytes : List Report → List ℕ
-reportsBytes [] = []
-reportsBytes (r ∷ rs) = reportBytes r ++ reportsBytes rs
-
 -- the slots with the reports from the front on, and after them the old bytes
 abbrev pub filled : Fixed → List ℕ → List ℕ
-filled f slots = reportsBytes (f .reports) ++ drop (24 * length (f .reports)) slots
+filled f slots = listBytes reportBytes (f .reports) ++ drop (24 * length (f .reports)) slots
 
 -- the slots at exit
 abbrev pub slotsAfter : Outcome → List ℕ → List ℕ

@@ -1,13 +1,14 @@
--- The bytes that an entry reads or writes: its place in the section, and its width.
+-- The bytes that an entry reads or writes, its footprint (place and width), and those that it writes in a run.
 use Prim.Native.Nat.{ℕ, _+_, _≤_, _<_}
-use mathlib.Core.List.{List}
+use mathlib.Core.List.{List, List·Memᴰ}
 use mathlib.Core.Path.{_≡_}
 use mathlib.Core.Bool.{false}
-use lib.ListN.{getD}
 use Rattle.util.specs.Choice.{choose}
 use Rattle.util.specs.Word.{le}
+use Rattle.macho.specs.declared.report.Report.{Report}
 use Rattle.arm64_entry.specs.Target.{widthOf}
-use Rattle.arm64_fixup.specs.Walk.{entryAt, targetAt, entries, consumed, Fixed}
+use Rattle.arm64_entry.specs.Change.{bytesIn}
+use Rattle.arm64_fixup.specs.Walk.{entryAt, targetAt, entries, consumed, Fixed, changeAt, fixTo}
 use Rattle.arm64_fixup.specs.Answer.{fixed, outcomeOf}
 use Rattle.arm64_entry.specs.declared.target.Bases.{Bases}
 
@@ -19,20 +20,34 @@ offsetAt rels i = entryAt rels i .offset
 unfoldable pub widthAt : List ℕ → List ℕ → ℕ → ℕ
 widthAt rels targets i = choose (consumed rels i) 0 (widthOf (entryAt rels i) (targetAt targets i))
 
--- entry i reads or writes byte p
+-- byte p is in entry i's footprint: it reads or writes it
 abbrev pub Touches : List ℕ → List ℕ → ℕ → ℕ → Type 0
 Touches rels targets i p = (offsetAt rels i ≤ p) × (p < offsetAt rels i + widthAt rels targets i)
 
--- no other entry reads or writes a byte of entry k
-abbrev pub Alone : List ℕ → List ℕ → ℕ → Type 0
-Alone rels targets k = (i p : ℕ) → i < entries rels → (i ≡ k → ⊥) → Touches rels targets k p → Touches rels targets i p → ⊥
+-- how many bytes entry i writes at its turn, on the section as the entries before it leave it: none where it only reports
+unfoldable pub writtenAt : List ℕ → Bases → List ℕ → List ℕ → ℕ → ℕ
+writtenAt section b rels targets i =
+    choose (consumed rels i) 0 (bytesIn (changeAt b rels targets (fixTo b rels targets section i .section) i .write))
 
--- entry k of an accepted call that ends with f: no SUBTRACTOR consumes it, and no other entry reads or writes its bytes
+-- entry i writes byte p
+abbrev pub Writes : List ℕ → Bases → List ℕ → List ℕ → ℕ → ℕ → Type 0
+Writes section b rels targets i p = (offsetAt rels i ≤ p) × (p < offsetAt rels i + writtenAt section b rels targets i)
+
+-- no other entry writes a byte of entry k's footprint. The whole footprint is meant: what entry k makes of one byte depends on the word there
+abbrev pub Alone : List ℕ → Bases → List ℕ → List ℕ → ℕ → Type 0
+Alone section b rels targets k =
+    (i p : ℕ) → i < entries rels → (i ≡ k → ⊥) → Touches rels targets k p → Writes section b rels targets i p → ⊥
+
+-- entry k of an accepted call that ends with f: no SUBTRACTOR consumes it, and no other entry writes its bytes
 pub record Lone (section : List ℕ) (b : Bases) (rels targets slots : List ℕ) (f : Fixed) (k : ℕ) : Type 0 where
   pub accepted : outcomeOf section b rels targets slots ≡ fixed f
   pub listed : k < entries rels
   pub worked : consumed rels k ≡ false
-  pub alone : Alone rels targets k
+  pub alone : Alone section b rels targets k
+
+-- no report of a call that ends with f names entry k
+abbrev pub Unreported : Fixed → ℕ → Type 0
+Unreported f k = (r : Report) → List·Memᴰ r (f .reports) → r .entry ≡ k → ⊥
 
 -- the 4-byte word at entry k's place
 abbrev pub wordAt : List ℕ → List ℕ → ℕ → ℕ
@@ -41,7 +56,3 @@ wordAt rels section k = le 4 section (offsetAt rels k)
 -- the 8-byte word there
 abbrev pub pointerAt : List ℕ → List ℕ → ℕ → ℕ
 pointerAt rels section k = le 8 section (offsetAt rels k)
-
--- each element is a byte
-abbrev pub Octets : List ℕ → Type 0
-Octets s = (i : ℕ) → getD s i 0 < 256

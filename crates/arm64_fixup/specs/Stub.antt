@@ -8,7 +8,6 @@ use Rattle.util.specs.Word.{put}
 use Rattle.macho.specs.Refusal as Refusal
 use Rattle.macho.specs.declared.refusal.Refusal.the-variants.{Bounds}
 use Rattle.arm64_insn.specs.Reach.{adrpReaches}
-use Rattle.arm64_insn.specs.Stub.{stubWords, thunkWords}
 use Rattle.arm64_insn.specs.declared.stub.Words3.{Words3}
 use Rattle.arm64_fixup.specs.declared.stub.StubAnswer.{StubAnswer}
 use Rattle.arm64_fixup.specs.declared.stub.StubAnswer.the-variants as S

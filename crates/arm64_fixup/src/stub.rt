@@ -25,6 +25,11 @@ pub enum ThunkAnswer {
     Refused(Refusal),
 }
 
+// How many bytes an entry has.
+const STUB_SIZE: usize = 12;
+
+const THUNK_SIZE: usize = 12;
+
 // Stores three words at the front.
 fn write_words(buf: &mut [u8], w: Words3)
     requires { ⌜ 12 ≤ length (now buf) ⌝ }
@@ -40,7 +45,7 @@ pub fn write_stub(buf: &mut [u8], addr: u64, ptr: u64) -> StubAnswer
     ensures answer { λ r. ⌜ r ≡ stubAnswer (now (buf .entry)) addr ptr ⌝ }
     ensures bytes { λ _. ⌜ now (buf .exit) ≡ wordsIn (now (buf .entry)) (stubWords addr ptr) ⌝ }
 {
-    if buf.len() < 12 {
+    if buf.len() < STUB_SIZE {
         return StubAnswer::Refused(Refusal::Bounds);
     }
     write_words(buf, stub_words(addr, ptr));
@@ -55,7 +60,7 @@ pub fn write_thunk(buf: &mut [u8], addr: u64, target: u64) -> ThunkAnswer
     ensures answer { λ r. ⌜ r ≡ thunkAnswer (now (buf .entry)) ⌝ }
     ensures bytes { λ _. ⌜ now (buf .exit) ≡ wordsIn (now (buf .entry)) (thunkWords addr target) ⌝ }
 {
-    if buf.len() < 12 {
+    if buf.len() < THUNK_SIZE {
         return ThunkAnswer::Refused(Refusal::Bounds);
     }
     write_words(buf, thunk_words(addr, target));

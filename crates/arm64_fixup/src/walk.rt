@@ -25,10 +25,12 @@ ghost use Prim.Native.Nat.{_+_, _*_, _/_, _≤_, _<_, _^_};
 ghost use lib.Dec.{eqb};
 ghost use lib.ListN.{length};
 ghost use lib.Seq.{sets};
+ghost use Rattle.macho.specs.Record.{listBytes};
+ghost use Rattle.macho.specs.Report.{reportBytes};
 ghost use Rattle.arm64_entry.specs.Check.{checkOf};
 ghost use Rattle.arm64_entry.specs.Change.{bytesIn};
 ghost use Rattle.arm64_fixup.specs.Walk.{entries, takenBy, checkAll, stored, reportsOf, changeBy, fixAll};
-ghost use Rattle.arm64_fixup.specs.Answer.{checkLists, reportsBytes, filled, answerTo, sectionTo, slotsTo};
+ghost use Rattle.arm64_fixup.specs.Answer.{checkLists, filled, answerTo, sectionTo, slotsTo};
 
 // What the fix-up of a section answers: the reports filled, or why nothing was changed.
 pub enum FixAnswer {
@@ -143,7 +145,7 @@ fn store(buf: &mut [u8], at: usize, w: Write)
 fn tell(slots: &mut [u8], count: usize, told: Told) -> usize
     requires { ⌜ 24 * count + 24 ≤ length (now slots) ⌝ }
     ensures count { λ r. ⌜ r ≡ count + length (reportsOf told) ⌝ }
-    ensures slots { λ _. ⌜ now (slots .exit) ≡ sets (now (slots .entry)) (24 * count) (reportsBytes (reportsOf told)) ⌝ }
+    ensures slots { λ _. ⌜ now (slots .exit) ≡ sets (now (slots .entry)) (24 * count) (listBytes reportBytes (reportsOf told)) ⌝ }
 {
     match told {
         Told::Silent => count,

@@ -15,27 +15,21 @@ use Rattle.arm64_insn.proofs.branch.branch_reaches.Reads as branch-reaches-read
 use Rattle.arm64_insn.proofs.branch.branch_word.Reads as branch-word-reads
 use Rattle.util.proofs.wrapping_sub.Reads as wrapping-sub-reads
 
--- src/change.rt:185:9
 branch-target-requires : tie.Need-branch-target-requires
 branch-target-requires c κs = search needs
 
--- src/change.rt:186:36
 wrapping-sub-requires : tie.Need-wrapping-sub-requires
 wrapping-sub-requires c κs = search needs
 
--- src/change.rt:186:9
 branch-word-requires : tie.Need-branch-word-requires
 branch-word-requires c κs = search needs
 
--- src/change.rt:187:8
 branch-reaches-requires : tie.Need-branch-reaches-requires
 branch-reaches-requires c κs = search needs
 
--- src/change.rt:188:9
 silent-requires : tie.Need-silent-requires
 silent-requires c κs = search needs
 
--- src/change.rt:188:9
 returns : tie.Need-returns
 unfolding branch choose
 returns c =
@@ -48,23 +42,18 @@ returns c =
       ← c .before .before .before .before .before .branch-target .ensures,
     )
 
--- src/change.rt:190:8
 thunk-serves-requires : tie.Need-thunk-serves-requires
 thunk-serves-requires c κs = search needs
 
--- src/change.rt:191:53
 wrapping-sub-requires-2 : tie.Need-wrapping-sub-requires-2
 wrapping-sub-requires-2 c κs = search needs
 
--- src/change.rt:191:35
 branch-word-requires-2 : tie.Need-branch-word-requires-2
 branch-word-requires-2 c κs = search needs
 
--- src/change.rt:191:9
 silent-requires-2 : tie.Need-silent-requires-2
 silent-requires-2 c κs = search needs
 
--- src/change.rt:191:9
 returns-2 : tie.Need-returns-2
 unfolding branch choose
 returns-2 c =
@@ -81,11 +70,9 @@ returns-2 c =
       ← c .before .before .before .before .before .before .before .before .before .branch-target .ensures,
     )
 
--- src/change.rt:193:5
 out-of-reach-requires : tie.Need-out-of-reach-requires
 out-of-reach-requires c κs = search needs
 
--- src/change.rt:182:1
 returns-3 : tie.Need-returns-3
 unfolding branch choose
 returns-3 c =

@@ -10,27 +10,21 @@ use Rattle.arm64_entry.proofs.change.branch.Reads as branch-reads
 use Rattle.arm64_entry.proofs.change.dtrace_site_insn.Reads as dtrace-site-insn-reads
 use Rattle.arm64_entry.proofs.change.silent.Reads as silent-reads
 
--- src/change.rt:200:11
 dtrace-site-insn-requires : tie.Need-dtrace-site-insn-requires
 dtrace-site-insn-requires c κs = search needs
 
--- src/change.rt:201:22
 enum-known-insn : tie.Need-enum-known-insn
 enum-known-insn c = search needs
 
--- src/change.rt:201:31
 silent-requires : tie.Need-silent-requires
 silent-requires c κs = search needs
 
--- src/change.rt:202:29
 enum-told : tie.Need-enum-told
 enum-told c = search needs
 
--- src/change.rt:202:29
 branch-requires : tie.Need-branch-requires
 branch-requires c κs = search needs
 
--- src/change.rt:197:1
 returns : tie.Need-returns
 returns c =
     simp (
@@ -39,7 +33,6 @@ returns c =
       ← c .before .before .before .before .dtrace-site-insn .ensures,
     )
 
--- src/change.rt:197:1
 returns-2 : tie.Need-returns-2
 returns-2 c =
     simp (

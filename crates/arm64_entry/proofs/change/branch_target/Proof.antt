@@ -10,15 +10,12 @@ use Rattle.arm64_entry.proofs.change.branch_target.Lts as lts
 use Rattle.macho.proofs.reloc.Reloc.is_section.Reads as is-section-reads
 use Rattle.util.proofs.wrapping_add.Reads as wrapping-add-reads
 
--- src/change.rt:160:8
 is-section-requires : tie.Need-is-section-requires
 is-section-requires c κs = search needs
 
--- src/change.rt:161:9
 wrapping-add-requires : tie.Need-wrapping-add-requires
 wrapping-add-requires c κs = search needs
 
--- src/change.rt:161:9
 returns : tie.Need-returns
 unfolding branchTarget choose
 returns c =
@@ -28,11 +25,9 @@ returns c =
       ← c .before .before .is-section .ensures,
     )
 
--- src/change.rt:163:5
 wrapping-add-requires-2 : tie.Need-wrapping-add-requires-2
 wrapping-add-requires-2 c κs = search needs
 
--- src/change.rt:157:1
 returns-2 : tie.Need-returns-2
 unfolding branchTarget choose
 returns-2 c =

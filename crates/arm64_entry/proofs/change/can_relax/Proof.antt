@@ -9,11 +9,9 @@ use Rattle.arm64_entry.proofs.change.can_relax.Lts as lts
 use Rattle.arm64_insn.proofs.add.is_add.Reads as is-add-reads
 use Rattle.arm64_insn.proofs.ldst.is_ldr_imm.Reads as is-ldr-imm-reads
 
--- src/change.rt:242:8
 is-ldr-imm-requires : tie.Need-is-ldr-imm-requires
 is-ldr-imm-requires c κs = search needs
 
--- src/change.rt:243:9
 returns : tie.Need-returns
 returns c =
     simp (
@@ -21,11 +19,9 @@ returns c =
       ← c .before .is-ldr-imm .ensures,
     )
 
--- src/change.rt:246:9
 is-add-requires : tie.Need-is-add-requires
 is-add-requires c κs = search needs
 
--- src/change.rt:246:9
 returns-2 : tie.Need-returns-2
 returns-2 c =
     simp (
@@ -35,7 +31,6 @@ returns-2 c =
       ← c .before .before .before .is-ldr-imm .ensures,
     )
 
--- src/change.rt:239:1
 returns-3 : tie.Need-returns-3
 returns-3 c =
     simp (

@@ -9,15 +9,12 @@ use Rattle.arm64_entry.proofs.change.difference.Reads as reads
 use Rattle.arm64_entry.proofs.change.difference.Lts as lts
 use Rattle.arm64_entry.proofs.change.silent.Reads as silent-reads
 
--- src/change.rt:135:35
 cast-t5 : tie.Need-cast-t5
 cast-t5 c = search needs
 
--- src/change.rt:135:9
 silent-requires : tie.Need-silent-requires
 silent-requires c κs = search needs
 
--- src/change.rt:135:9
 returns : tie.Need-returns
 unfolding difference choose
 returns c =
@@ -26,11 +23,9 @@ returns c =
       eq-eqb _ _ (c .before .if1 .taken),
     )
 
--- src/change.rt:137:5
 silent-requires-2 : tie.Need-silent-requires-2
 silent-requires-2 c κs = search needs
 
--- src/change.rt:131:1
 returns-2 : tie.Need-returns-2
 unfolding difference choose
 returns-2 c =

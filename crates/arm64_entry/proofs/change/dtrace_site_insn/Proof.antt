@@ -11,11 +11,9 @@ use Rattle.macho.proofs.reloc.Reloc.is_section.Reads as is-section-reads
 use Rattle.macho.proofs.resolved.Resolved.is_enabled.Reads as is-enabled-reads
 use Rattle.macho.proofs.resolved.Resolved.is_probe.Reads as is-probe-reads
 
--- src/change.rt:144:8
 is-section-requires : tie.Need-is-section-requires
 is-section-requires c κs = search needs
 
--- src/change.rt:145:9
 returns : tie.Need-returns
 unfolding dtraceSiteInsn choose
 returns c =
@@ -24,11 +22,9 @@ returns c =
       ← c .before .is-section .ensures,
     )
 
--- src/change.rt:147:8
 is-probe-requires : tie.Need-is-probe-requires
 is-probe-requires c κs = search needs
 
--- src/change.rt:148:9
 returns-2 : tie.Need-returns-2
 unfolding dtraceSiteInsn choose
 returns-2 c =
@@ -39,11 +35,9 @@ returns-2 c =
       ← c .before .before .before .is-section .ensures,
     )
 
--- src/change.rt:150:8
 is-enabled-requires : tie.Need-is-enabled-requires
 is-enabled-requires c κs = search needs
 
--- src/change.rt:151:9
 returns-3 : tie.Need-returns-3
 unfolding dtraceSiteInsn choose
 returns-3 c =
@@ -56,7 +50,6 @@ returns-3 c =
       ← c .before .before .before .before .before .is-section .ensures,
     )
 
--- src/change.rt:141:1
 returns-4 : tie.Need-returns-4
 unfolding dtraceSiteInsn choose
 returns-4 c =

@@ -15,27 +15,21 @@ use Rattle.macho.proofs.resolved.Resolved.has_helper.Reads as has-helper-reads
 use Rattle.macho.proofs.resolved.Resolved.helper_is_own.Reads as helper-is-own-reads
 use Rattle.util.proofs.wrapping_sub.Reads as wrapping-sub-reads
 
--- src/change.rt:231:8
 has-helper-requires : tie.Need-has-helper-requires
 has-helper-requires c κs = search needs
 
--- src/change.rt:232:13
 helper-is-own-requires : tie.Need-helper-is-own-requires
 helper-is-own-requires c κs = search needs
 
--- src/change.rt:233:52
 wrapping-sub-requires : tie.Need-wrapping-sub-requires
 wrapping-sub-requires c κs = search needs
 
--- src/change.rt:233:35
 helper-word-requires : tie.Need-helper-word-requires
 helper-word-requires c κs = search needs
 
--- src/change.rt:233:9
 silent-requires : tie.Need-silent-requires
 silent-requires c κs = search needs
 
--- src/change.rt:233:9
 returns : tie.Need-returns
 unfolding gotPage21 choose
 returns c =
@@ -48,15 +42,12 @@ returns c =
       ← c .before .before .before .before .before .has-helper .ensures,
     )
 
--- src/change.rt:235:15
 got-target-requires : tie.Need-got-target-requires
 got-target-requires c κs = search needs
 
--- src/change.rt:235:5
 page21-requires : tie.Need-page21-requires
 page21-requires c κs = search needs
 
--- src/change.rt:228:1
 returns-2 : tie.Need-returns-2
 unfolding gotPage21 choose
 returns-2 c =

@@ -13,19 +13,15 @@ use Rattle.arm64_entry.proofs.target.slot_of.Reads as slot-of-reads
 use Rattle.arm64_entry.proofs.target.target_of.Reads as target-of-reads
 use Rattle.macho.proofs.resolved.Resolved.can_relax_got.Reads as can-relax-got-reads
 
--- src/change.rt:265:8
 can-relax-got-requires : tie.Need-can-relax-got-requires
 can-relax-got-requires c κs = search needs
 
--- src/change.rt:266:33
 target-of-requires : tie.Need-target-of-requires
 target-of-requires c κs = search needs
 
--- src/change.rt:266:9
 relaxed-requires : tie.Need-relaxed-requires
 relaxed-requires c κs = search needs
 
--- src/change.rt:266:9
 returns : tie.Need-returns
 unfolding gotPageoff12 choose
 returns c =
@@ -36,15 +32,12 @@ returns c =
       ← c .before .before .before .can-relax-got .ensures,
     )
 
--- src/change.rt:268:18
 slot-of-requires : tie.Need-slot-of-requires
 slot-of-requires c κs = search needs
 
--- src/change.rt:268:5
 pageoff12-requires : tie.Need-pageoff12-requires
 pageoff12-requires c κs = search needs
 
--- src/change.rt:262:1
 returns-2 : tie.Need-returns-2
 unfolding gotPageoff12 choose
 returns-2 c =

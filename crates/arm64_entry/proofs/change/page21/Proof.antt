@@ -12,19 +12,15 @@ use Rattle.arm64_entry.proofs.change.silent.Reads as silent-reads
 use Rattle.arm64_insn.proofs.fix.write_adrp_word.Reads as write-adrp-word-reads
 use Rattle.arm64_insn.proofs.page.adrp_reaches.Reads as adrp-reaches-reads
 
--- src/change.rt:210:9
 write-adrp-word-requires : tie.Need-write-adrp-word-requires
 write-adrp-word-requires c κs = search needs
 
--- src/change.rt:211:8
 adrp-reaches-requires : tie.Need-adrp-reaches-requires
 adrp-reaches-requires c κs = search needs
 
--- src/change.rt:212:9
 silent-requires : tie.Need-silent-requires
 silent-requires c κs = search needs
 
--- src/change.rt:212:9
 returns : tie.Need-returns
 unfolding page21 choose
 returns c =
@@ -35,11 +31,9 @@ returns c =
       ← c .before .before .before .write-adrp-word .ensures,
     )
 
--- src/change.rt:214:5
 out-of-reach-requires : tie.Need-out-of-reach-requires
 out-of-reach-requires c κs = search needs
 
--- src/change.rt:207:1
 returns-2 : tie.Need-returns-2
 unfolding page21 choose
 returns-2 c =

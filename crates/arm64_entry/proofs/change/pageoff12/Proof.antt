@@ -13,34 +13,27 @@ use Rattle.arm64_entry.proofs.change.silent.Reads as silent-reads
 use Rattle.arm64_entry.proofs.change.unfit.Reads as unfit-reads
 use Rattle.arm64_insn.proofs.fix.write_add_ldst_word.Reads as write-add-ldst-word-reads
 
--- src/change.rt:221:11
 write-add-ldst-word-requires : tie.Need-write-add-ldst-word-requires
 write-add-ldst-word-requires c κs = search needs
 
--- src/change.rt:222:19
 enum-known-insn : tie.Need-enum-known-insn
 enum-known-insn c = search needs
 
--- src/change.rt:222:28
 silent-requires : tie.Need-silent-requires
 silent-requires c κs = search needs
 
--- src/change.rt:223:25
 enum-known-size : tie.Need-enum-known-size
 enum-known-size c = search needs
 
--- src/change.rt:223:54
 cast-unfit : tie.Need-cast-unfit
 cast-unfit c =
     let k = c .before .before .before in
     let a = k .before .args in
     omega (arith, misaligned-le (a .word) (a .target) _ (sym (k .write-add-ldst-word .ensures) ∙ c .before .size .given .1))
 
--- src/change.rt:223:34
 unfit-requires : tie.Need-unfit-requires
 unfit-requires c κs = search needs
 
--- src/change.rt:218:1
 returns : tie.Need-returns
 unfolding pageoff12
 returns c =
@@ -50,7 +43,6 @@ returns c =
       ← c .before .before .before .before .write-add-ldst-word .ensures,
     )
 
--- src/change.rt:218:1
 returns-2 : tie.Need-returns-2
 unfolding pageoff12
 returns-2 c =

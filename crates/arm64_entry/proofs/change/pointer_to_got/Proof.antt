@@ -9,19 +9,15 @@ use Rattle.arm64_entry.proofs.change.pointer_to_got.Lts as lts
 use Rattle.arm64_entry.proofs.target.slot_of.Reads as slot-of-reads
 use Rattle.util.proofs.wrapping_sub.Reads as wrapping-sub-reads
 
--- src/change.rt:275:25
 slot-of-requires : tie.Need-slot-of-requires
 slot-of-requires c κs = search needs
 
--- src/change.rt:275:6
 wrapping-sub-requires : tie.Need-wrapping-sub-requires
 wrapping-sub-requires c κs = search needs
 
--- src/change.rt:275:5
 cast-result : tie.Need-cast-result
 cast-result c = search needs
 
--- src/change.rt:272:1
 returns : tie.Need-returns
 unfolding pointerToGot
 returns c =

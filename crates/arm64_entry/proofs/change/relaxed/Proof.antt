@@ -12,19 +12,15 @@ use Rattle.arm64_entry.proofs.change.silent.Reads as silent-reads
 use Rattle.arm64_entry.proofs.change.unfit.Reads as unfit-reads
 use Rattle.arm64_insn.proofs.fix.relaxed_word.Reads as relaxed-word-reads
 
--- src/change.rt:255:8
 can-relax-requires : tie.Need-can-relax-requires
 can-relax-requires c κs = search needs
 
--- src/change.rt:256:35
 relaxed-word-requires : tie.Need-relaxed-word-requires
 relaxed-word-requires c κs = search needs
 
--- src/change.rt:256:9
 silent-requires : tie.Need-silent-requires
 silent-requires c κs = search needs
 
--- src/change.rt:256:9
 returns : tie.Need-returns
 unfolding relaxed choose
 returns c =
@@ -35,11 +31,9 @@ returns c =
       ← c .before .before .before .can-relax .ensures,
     )
 
--- src/change.rt:258:5
 unfit-requires : tie.Need-unfit-requires
 unfit-requires c κs = search needs
 
--- src/change.rt:252:1
 returns-2 : tie.Need-returns-2
 unfolding relaxed choose
 returns-2 c =

@@ -9,15 +9,12 @@ use Rattle.arm64_entry.proofs.change.subtractor_value.Lts as lts
 use Rattle.arm64_entry.proofs.target.target_of.Reads as target-of-reads
 use Rattle.util.proofs.wrapping_sub.Reads as wrapping-sub-reads
 
--- src/change.rt:127:24
 target-of-requires : tie.Need-target-of-requires
 target-of-requires c κs = search needs
 
--- src/change.rt:127:5
 wrapping-sub-requires : tie.Need-wrapping-sub-requires
 wrapping-sub-requires c κs = search needs
 
--- src/change.rt:124:1
 returns : tie.Need-returns
 unfolding subtractorValue
 returns c =

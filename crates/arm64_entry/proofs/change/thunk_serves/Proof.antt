@@ -10,11 +10,9 @@ use Rattle.arm64_insn.proofs.page.adrp_reaches.Reads as adrp-reaches-reads
 use Rattle.macho.proofs.reloc.Reloc.is_section.Reads as is-section-reads
 use Rattle.macho.proofs.resolved.Resolved.has_thunk.Reads as has-thunk-reads
 
--- src/change.rt:170:8
 is-section-requires : tie.Need-is-section-requires
 is-section-requires c κs = search needs
 
--- src/change.rt:171:9
 returns : tie.Need-returns
 unfolding thunkServes
 returns c =
@@ -23,11 +21,9 @@ returns c =
       ← c .before .is-section .ensures,
     )
 
--- src/change.rt:173:9
 has-thunk-requires : tie.Need-has-thunk-requires
 has-thunk-requires c κs = search needs
 
--- src/change.rt:174:9
 returns-2 : tie.Need-returns-2
 unfolding thunkServes
 returns-2 c =
@@ -38,7 +34,6 @@ returns-2 c =
       ← c .before .before .before .is-section .ensures,
     )
 
--- src/change.rt:177:9
 returns-3 : tie.Need-returns-3
 unfolding thunkServes
 returns-3 c =
@@ -50,11 +45,9 @@ returns-3 c =
       ← c .before .before .before .before .before .is-section .ensures,
     )
 
--- src/change.rt:179:5
 adrp-reaches-requires : tie.Need-adrp-reaches-requires
 adrp-reaches-requires c κs = search needs
 
--- src/change.rt:167:1
 returns-4 : tie.Need-returns-4
 unfolding thunkServes
 returns-4 c =

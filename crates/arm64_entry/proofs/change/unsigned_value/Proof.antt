@@ -11,19 +11,15 @@ use Rattle.arm64_entry.proofs.target.target_of.Reads as target-of-reads
 use Rattle.macho.proofs.resolved.Resolved.is_tls.Reads as is-tls-reads
 use Rattle.util.proofs.wrapping_sub.Reads as wrapping-sub-reads
 
--- src/change.rt:116:9
 target-of-requires : tie.Need-target-of-requires
 target-of-requires c κs = search needs
 
--- src/change.rt:117:8
 is-tls-requires : tie.Need-is-tls-requires
 is-tls-requires c κs = search needs
 
--- src/change.rt:118:9
 wrapping-sub-requires : tie.Need-wrapping-sub-requires
 wrapping-sub-requires c κs = search needs
 
--- src/change.rt:118:9
 returns : tie.Need-returns
 unfolding unsignedValue choose
 returns c =
@@ -34,7 +30,6 @@ returns c =
       ← c .before .before .before .target-of .ensures,
     )
 
--- src/change.rt:113:1
 returns-2 : tie.Need-returns-2
 unfolding unsignedValue choose
 returns-2 c =

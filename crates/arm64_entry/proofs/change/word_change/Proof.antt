@@ -17,11 +17,9 @@ use Rattle.arm64_entry.proofs.change.silent.Reads as silent-reads
 use Rattle.arm64_entry.proofs.target.got_target.Reads as got-target-reads
 use Rattle.arm64_entry.proofs.target.target_of.Reads as target-of-reads
 
--- src/change.rt:283:9
 branch26-requires : tie.Need-branch26-requires
 branch26-requires c κs = search needs
 
--- src/change.rt:283:9
 returns : tie.Need-returns
 unfolding wordChange choose
 returns c =
@@ -30,15 +28,12 @@ returns c =
       eq-eqb _ _ (c .before .if1 .taken),
     )
 
--- src/change.rt:286:26
 target-of-requires : tie.Need-target-of-requires
 target-of-requires c κs = search needs
 
--- src/change.rt:286:9
 page21-requires : tie.Need-page21-requires
 page21-requires c κs = search needs
 
--- src/change.rt:286:9
 returns-2 : tie.Need-returns-2
 unfolding wordChange choose
 returns-2 c =
@@ -49,15 +44,12 @@ returns-2 c =
       ne-eqb _ _ (c .before .before .before .before .if1 .left),
     )
 
--- src/change.rt:289:29
 target-of-requires-2 : tie.Need-target-of-requires-2
 target-of-requires-2 c κs = search needs
 
--- src/change.rt:289:9
 pageoff12-requires : tie.Need-pageoff12-requires
 pageoff12-requires c κs = search needs
 
--- src/change.rt:289:9
 returns-3 : tie.Need-returns-3
 unfolding wordChange choose
 returns-3 c =
@@ -69,11 +61,9 @@ returns-3 c =
       ne-eqb _ _ (c .before .before .before .before .before .before .if1 .left),
     )
 
--- src/change.rt:292:9
 got-page21-requires : tie.Need-got-page21-requires
 got-page21-requires c κs = search needs
 
--- src/change.rt:292:9
 returns-4 : tie.Need-returns-4
 unfolding wordChange choose
 returns-4 c =
@@ -85,15 +75,12 @@ returns-4 c =
       ne-eqb _ _ (c .before .before .before .before .before .before .before .if1 .left),
     )
 
--- src/change.rt:295:26
 got-target-requires : tie.Need-got-target-requires
 got-target-requires c κs = search needs
 
--- src/change.rt:295:9
 page21-requires-2 : tie.Need-page21-requires-2
 page21-requires-2 c κs = search needs
 
--- src/change.rt:295:9
 returns-5 : tie.Need-returns-5
 unfolding wordChange choose
 returns-5 c =
@@ -107,15 +94,12 @@ returns-5 c =
       ne-eqb _ _ (c .before .before .before .before .before .before .before .before .before .before .if1 .left),
     )
 
--- src/change.rt:298:35
 pointer-to-got-requires : tie.Need-pointer-to-got-requires
 pointer-to-got-requires c κs = search needs
 
--- src/change.rt:298:9
 silent-requires : tie.Need-silent-requires
 silent-requires c κs = search needs
 
--- src/change.rt:298:9
 returns-6 : tie.Need-returns-6
 unfolding wordChange choose
 returns-6 c =
@@ -130,11 +114,9 @@ returns-6 c =
       ne-eqb _ _ (c .before .before .before .before .before .before .before .before .before .before .before .before .if1 .left),
     )
 
--- src/change.rt:300:5
 got-pageoff12-requires : tie.Need-got-pageoff12-requires
 got-pageoff12-requires c κs = search needs
 
--- src/change.rt:279:1
 returns-7 : tie.Need-returns-7
 unfolding wordChange choose
 returns-7 c =

@@ -14,22 +14,18 @@ use Rattle.arm64_entry.proofs.check.unsupported.Reads as unsupported-re
 use Rattle.arm64_entry.proofs.target.width_of.Reads as width-of-reads
 use Rattle.macho.proofs.resolved.Resolved.is_well_formed.Reads as is-well-formed-reads
 
--- src/check.rt:97:18
 cast-offset : tie.Need-cast-offset
 cast-offset c = search needs
 
--- src/check.rt:99:9
 returns : tie.Need-returns
 unfolding checkOf choose
 returns c =
     simp
     (lt-ltb _ _ (c .if1 .taken))
 
--- src/check.rt:101:9
 is-well-formed-requires : tie.Need-is-well-formed-requires
 is-well-formed-requires c κs = search needs
 
--- src/check.rt:102:9
 returns-2 : tie.Need-returns-2
 unfolding checkOf choose
 returns-2 c =
@@ -39,11 +35,9 @@ returns-2 c =
       le-ltb _ _ (c .before .before .if1 .left),
     )
 
--- src/check.rt:104:8
 overflows-requires : tie.Need-overflows-requires
 overflows-requires c κs = search needs
 
--- src/check.rt:105:9
 returns-3 : tie.Need-returns-3
 unfolding checkOf choose
 returns-3 c =
@@ -55,11 +49,9 @@ returns-3 c =
       le-ltb _ _ (c .before .before .before .before .if1 .left),
     )
 
--- src/check.rt:107:8
 unsupported-requires : tie.Need-unsupported-requires
 unsupported-requires c κs = search needs
 
--- src/check.rt:108:9
 returns-4 : tie.Need-returns-4
 unfolding checkOf choose
 returns-4 c =
@@ -75,11 +67,9 @@ returns-4 c =
       le-ltb _ _ (k2 .before .before .if1 .left),
     )
 
--- src/check.rt:110:8
 is-lone-requires : tie.Need-is-lone-requires
 is-lone-requires c κs = search needs
 
--- src/check.rt:111:9
 returns-5 : tie.Need-returns-5
 unfolding checkOf choose
 returns-5 c =
@@ -98,11 +88,9 @@ returns-5 c =
       le-ltb _ _ (k2 .before .before .if1 .left),
     )
 
--- src/check.rt:113:8
 lacks-symbol-requires : tie.Need-lacks-symbol-requires
 lacks-symbol-requires c κs = search needs
 
--- src/check.rt:114:9
 returns-6 : tie.Need-returns-6
 unfolding checkOf choose
 returns-6 c =
@@ -124,11 +112,9 @@ returns-6 c =
       le-ltb _ _ (k2 .before .before .if1 .left),
     )
 
--- src/check.rt:116:23
 width-of-requires : tie.Need-width-of-requires
 width-of-requires c κs = search needs
 
--- src/check.rt:117:9
 returns-7 : tie.Need-returns-7
 unfolding checkOf choose
 returns-7 c =
@@ -153,7 +139,6 @@ returns-7 c =
       le-ltb _ _ (k2 .before .before .if1 .left),
     )
 
--- src/check.rt:94:1
 returns-8 : tie.Need-returns-8
 unfolding checkOf choose
 returns-8 c =

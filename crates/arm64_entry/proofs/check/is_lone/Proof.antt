@@ -8,11 +8,9 @@ use Rattle.arm64_entry.proofs.check.is_lone.Reads as reads
 use Rattle.arm64_entry.proofs.check.is_lone.Lts as lts
 use Rattle.arm64_entry.proofs.check.subtracts.Reads as subtracts-reads
 
--- src/check.rt:78:9
 subtracts-requires : tie.Need-subtracts-requires
 subtracts-requires c κs = search needs
 
--- src/check.rt:78:9
 returns : tie.Need-returns
 returns c =
     simp (
@@ -20,7 +18,6 @@ returns c =
       c .before .if1 .taken,
     )
 
--- src/check.rt:74:1
 returns-2 : tie.Need-returns-2
 returns-2 c =
     simp

@@ -9,15 +9,12 @@ use Rattle.arm64_entry.proofs.check.lacks_symbol.Lts as lts
 use Rattle.arm64_entry.proofs.check.needs_symbol.Reads as needs-symbol-reads
 use Rattle.macho.proofs.reloc.Reloc.is_section.Reads as is-section-reads
 
--- src/check.rt:87:8
 is-section-requires : tie.Need-is-section-requires
 is-section-requires c κs = search needs
 
--- src/check.rt:88:9
 needs-symbol-requires : tie.Need-needs-symbol-requires
 needs-symbol-requires c κs = search needs
 
--- src/check.rt:88:9
 returns : tie.Need-returns
 returns c =
     simp (
@@ -26,7 +23,6 @@ returns c =
       ← c .before .before .is-section .ensures,
     )
 
--- src/check.rt:84:1
 returns-2 : tie.Need-returns-2
 returns-2 c =
     simp (

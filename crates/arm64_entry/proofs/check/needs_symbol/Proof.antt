@@ -10,11 +10,9 @@ use Rattle.arm64_entry.proofs.check.needs_symbol.Lts as lts
 use Rattle.arm64_entry.proofs.check.uses_got.Reads as uses-got-reads
 use Rattle.macho.proofs.resolved.Resolved.has_helper.Reads as has-helper-reads
 
--- src/check.rt:68:17
 has-helper-requires : tie.Need-has-helper-requires
 has-helper-requires c κs = search needs
 
--- src/check.rt:68:9
 returns : tie.Need-returns
 unfolding choose
 returns c =
@@ -23,11 +21,9 @@ returns c =
       eq-eqb _ _ (c .before .if1 .taken),
     )
 
--- src/check.rt:70:5
 uses-got-requires : tie.Need-uses-got-requires
 uses-got-requires c κs = search needs
 
--- src/check.rt:64:1
 returns-2 : tie.Need-returns-2
 unfolding choose
 returns-2 c =

@@ -1,33 +1,30 @@
 -- `overflows` meets its contract: the difference that is tested is below the base just where the sum passes 2^64 - 1.
 use native.Mathlib.Omega.{arith}
 use borrow.Author.Tests.{le-leb, lt-leb}
-use Prim.Native.Nat.{_+_, _^_, _≤_, _<_}
+use Prim.Native.Nat.{_^_, _≤_, _<_}
 use borrow.Author.Needs.{needs}
+use Rattle.arm64_entry.specs.Target.{placeOf}
 use Rattle.arm64_entry.proofs.check.overflows.Statement.{statement}
 use Rattle.arm64_entry.proofs.check.overflows.Tie as tie
 use Rattle.arm64_entry.proofs.check.overflows.Reads as reads
 use Rattle.arm64_entry.proofs.check.overflows.Lts as lts
 
--- src/check.rt:27:20
 cast-if1 : tie.Need-cast-if1
 cast-if1 c = search needs
 
--- src/check.rt:27:8
 sub-if1 : tie.Need-sub-if1
 sub-if1 c = search needs
 
--- src/check.rt:28:9
 returns : tie.Need-returns
 returns c =
     let a = c .before .before .before .args in
-    let h : 2 ^ 64 ≤ a .bases .base + a .e .offset = omega arith in
+    let h : 2 ^ 64 ≤ placeOf (a .bases) (a .e) = omega arith in
     simp (le-leb _ _ h)
 
--- src/check.rt:24:1
 returns-2 : tie.Need-returns-2
 returns-2 c =
     let a = c .before .before .before .args in
-    let h : a .bases .base + a .e .offset < 2 ^ 64 = omega arith in
+    let h : placeOf (a .bases) (a .e) < 2 ^ 64 = omega arith in
     simp (lt-leb _ _ h)
 
 pub overflows-spec : {M : Type 1} → statement M

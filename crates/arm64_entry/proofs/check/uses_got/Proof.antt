@@ -6,13 +6,11 @@ use Rattle.arm64_entry.proofs.check.uses_got.Tie as tie
 use Rattle.arm64_entry.proofs.check.uses_got.Reads as reads
 use Rattle.arm64_entry.proofs.check.uses_got.Lts as lts
 
--- src/check.rt:52:9
 returns : tie.Need-returns
 returns c =
     simp
     (eq-eqb _ _ (c .if1 .taken))
 
--- src/check.rt:55:9
 returns-2 : tie.Need-returns-2
 returns-2 c =
     simp (
@@ -20,7 +18,6 @@ returns-2 c =
       ne-eqb _ _ (c .before .if1 .left),
     )
 
--- src/check.rt:58:9
 returns-3 : tie.Need-returns-3
 returns-3 c =
     simp (
@@ -29,7 +26,6 @@ returns-3 c =
       ne-eqb _ _ (c .before .before .if1 .left),
     )
 
--- src/check.rt:48:1
 returns-4 : tie.Need-returns-4
 returns-4 c = rw (ne-eqb _ _ (c .before .before .if1 .left), ne-eqb _ _ (c .before .if2 .left), ne-eqb _ _ (c .if3 .left))
 

@@ -6,13 +6,11 @@ use Rattle.arm64_entry.proofs.target.acts_on_address.Tie as tie
 use Rattle.arm64_entry.proofs.target.acts_on_address.Reads as reads
 use Rattle.arm64_entry.proofs.target.acts_on_address.Lts as lts
 
--- src/target.rt:56:9
 returns : tie.Need-returns
 returns c =
     simp
     (eq-eqb _ _ (c .if1 .taken))
 
--- src/target.rt:52:1
 returns-2 : tie.Need-returns-2
 returns-2 c =
     simp

@@ -11,15 +11,12 @@ use Rattle.arm64_entry.proofs.target.slot_of.Reads as slot-of-reads
 use Rattle.arm64_entry.proofs.target.target_of.Reads as target-of-reads
 use Rattle.macho.proofs.resolved.Resolved.can_relax_got.Reads as can-relax-got-reads
 
--- src/target.rt:35:8
 can-relax-got-requires : tie.Need-can-relax-got-requires
 can-relax-got-requires c κs = search needs
 
--- src/target.rt:36:9
 target-of-requires : tie.Need-target-of-requires
 target-of-requires c κs = search needs
 
--- src/target.rt:36:9
 returns : tie.Need-returns
 unfolding gotTarget choose
 returns c =
@@ -29,11 +26,9 @@ returns c =
       ← c .before .before .can-relax-got .ensures,
     )
 
--- src/target.rt:38:5
 slot-of-requires : tie.Need-slot-of-requires
 slot-of-requires c κs = search needs
 
--- src/target.rt:32:1
 returns-2 : tie.Need-returns-2
 unfolding gotTarget choose
 returns-2 c =

@@ -9,11 +9,9 @@ use Rattle.arm64_entry.proofs.target.is_imported_symbol.Lts as lts
 use Rattle.macho.proofs.reloc.Reloc.is_section.Reads as is-section-reads
 use Rattle.macho.proofs.resolved.Resolved.is_imported.Reads as is-imported-reads
 
--- src/target.rt:45:8
 is-section-requires : tie.Need-is-section-requires
 is-section-requires c κs = search needs
 
--- src/target.rt:46:9
 returns : tie.Need-returns
 returns c =
     simp (
@@ -21,11 +19,9 @@ returns c =
       ← c .before .is-section .ensures,
     )
 
--- src/target.rt:48:5
 is-imported-requires : tie.Need-is-imported-requires
 is-imported-requires c κs = search needs
 
--- src/target.rt:42:1
 returns-2 : tie.Need-returns-2
 returns-2 c =
     simp (

@@ -8,11 +8,9 @@ use Rattle.arm64_entry.proofs.target.slot_of.Reads as reads
 use Rattle.arm64_entry.proofs.target.slot_of.Lts as lts
 use Rattle.util.proofs.wrapping_add.Reads as wrapping-add-reads
 
--- src/target.rt:28:5
 wrapping-add-requires : tie.Need-wrapping-add-requires
 wrapping-add-requires c κs = search needs
 
--- src/target.rt:25:1
 returns : tie.Need-returns
 unfolding slotOf
 returns c =

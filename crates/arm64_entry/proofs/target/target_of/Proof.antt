@@ -8,11 +8,9 @@ use Rattle.arm64_entry.proofs.target.target_of.Reads as reads
 use Rattle.arm64_entry.proofs.target.target_of.Lts as lts
 use Rattle.util.proofs.wrapping_add.Reads as wrapping-add-reads
 
--- src/target.rt:21:5
 wrapping-add-requires : tie.Need-wrapping-add-requires
 wrapping-add-requires c κs = search needs
 
--- src/target.rt:18:1
 returns : tie.Need-returns
 unfolding targetOf
 returns c =

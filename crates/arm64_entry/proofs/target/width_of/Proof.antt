@@ -11,11 +11,9 @@ use Rattle.arm64_entry.proofs.target.acts_on_address.Reads as acts-on-a
 use Rattle.arm64_entry.proofs.target.is_imported_symbol.Reads as is-imported-symbol-reads
 use Rattle.macho.proofs.resolved.Resolved.has_address.Reads as has-address-reads
 
--- src/target.rt:66:12
 is-imported-symbol-requires : tie.Need-is-imported-symbol-requires
 is-imported-symbol-requires c κs = search needs
 
--- src/target.rt:67:13
 returns : tie.Need-returns
 unfolding widthOf choose
 returns c =
@@ -25,7 +23,6 @@ returns c =
       eq-eqb _ _ (c .before .before .if1 .taken),
     )
 
--- src/target.rt:69:9
 returns-2 : tie.Need-returns-2
 unfolding widthOf choose
 returns-2 c =
@@ -35,7 +32,6 @@ returns-2 c =
       eq-eqb _ _ (c .before .before .if1 .taken),
     )
 
--- src/target.rt:73:13
 returns-3 : tie.Need-returns-3
 unfolding widthOf choose
 returns-3 c =
@@ -45,7 +41,6 @@ returns-3 c =
       ne-eqb _ _ (c .before .before .before .before .if1 .left),
     )
 
--- src/target.rt:75:9
 returns-4 : tie.Need-returns-4
 unfolding widthOf choose
 returns-4 c =
@@ -55,15 +50,12 @@ returns-4 c =
       ne-eqb _ _ (c .before .before .before .before .if1 .left),
     )
 
--- src/target.rt:77:8
 acts-on-address-requires : tie.Need-acts-on-address-requires
 acts-on-address-requires c κs = search needs
 
--- src/target.rt:78:12
 has-address-requires : tie.Need-has-address-requires
 has-address-requires c κs = search needs
 
--- src/target.rt:79:13
 returns-5 : tie.Need-returns-5
 unfolding widthOf choose
 returns-5 c =
@@ -76,7 +68,6 @@ returns-5 c =
       ne-eqb _ _ (c .before .before .before .before .before .before .if1 .left),
     )
 
--- src/target.rt:81:9
 returns-6 : tie.Need-returns-6
 unfolding widthOf choose
 returns-6 c =
@@ -89,7 +80,6 @@ returns-6 c =
       ne-eqb _ _ (c .before .before .before .before .before .before .if1 .left),
     )
 
--- src/target.rt:62:1
 returns-7 : tie.Need-returns-7
 unfolding widthOf choose
 returns-7 c =

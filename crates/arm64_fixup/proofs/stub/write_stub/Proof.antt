@@ -12,28 +12,22 @@ use Rattle.arm64_fixup.proofs.stub.write_words.Reads as write-words-rea
 use Rattle.arm64_insn.proofs.page.adrp_reaches.Reads as adrp-reaches-reads
 use Rattle.arm64_insn.proofs.stub.stub_words.Reads as stub-words-reads
 
--- src/stub.rt:44:9
 returns : tie.Need-returns
 unfolding stubAnswer wordsIn choose
 returns c = (simp (lt-ltb _ _ (c .if1 .taken)), simp (lt-ltb _ _ (c .if1 .taken)))
 
--- src/stub.rt:46:22
 stub-words-requires : tie.Need-stub-words-requires
 stub-words-requires c κs = search needs
 
--- src/stub.rt:46:5
 write-words-requires : tie.Need-write-words-requires
 write-words-requires c κs = search needs
 
--- src/stub.rt:47:8
 adrp-reaches-requires : tie.Need-adrp-reaches-requires
 adrp-reaches-requires c κs = search needs
 
--- src/stub.rt:48:9
 same-length : tie.Need-same-length
 same-length c = search needs
 
--- src/stub.rt:48:9
 returns-2 : tie.Need-returns-2
 unfolding stubAnswer wordsIn choose
 returns-2 c =
@@ -41,11 +35,9 @@ returns-2 c =
     let t = le-ltb _ _ (w .before .before .before .if1 .left) in
     (simp (c .if2 .taken, ← c .before .adrp-reaches .ensures, t), simp (w .write-words .ensures, w .before .stub-words .ensures, t))
 
--- src/stub.rt:39:1
 same-length-2 : tie.Need-same-length-2
 same-length-2 c = search needs
 
--- src/stub.rt:39:1
 returns-3 : tie.Need-returns-3
 unfolding stubAnswer wordsIn choose
 returns-3 c =

@@ -11,24 +11,19 @@ use Rattle.arm64_fixup.proofs.stub.write_thunk.Lts as lts
 use Rattle.arm64_fixup.proofs.stub.write_words.Reads as write-words-reads
 use Rattle.arm64_insn.proofs.stub.thunk_words.Reads as thunk-words-reads
 
--- src/stub.rt:59:9
 returns : tie.Need-returns
 unfolding thunkAnswer wordsIn choose
 returns c = (simp (lt-ltb _ _ (c .if1 .taken)), simp (lt-ltb _ _ (c .if1 .taken)))
 
--- src/stub.rt:61:22
 thunk-words-requires : tie.Need-thunk-words-requires
 thunk-words-requires c κs = search needs
 
--- src/stub.rt:61:5
 write-words-requires : tie.Need-write-words-requires
 write-words-requires c κs = search needs
 
--- src/stub.rt:54:1
 same-length : tie.Need-same-length
 same-length c = search needs
 
--- src/stub.rt:54:1
 returns-2 : tie.Need-returns-2
 unfolding thunkAnswer wordsIn choose
 returns-2 c =

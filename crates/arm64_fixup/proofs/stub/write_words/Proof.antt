@@ -6,23 +6,18 @@ use Rattle.arm64_fixup.proofs.stub.write_words.Reads as reads
 use Rattle.arm64_fixup.proofs.stub.write_words.Lts as lts
 use Rattle.util.proofs.write32.Reads as write32-reads
 
--- src/stub.rt:33:5
 write32-requires : tie.Need-write32-requires
 write32-requires c κs = search needs
 
--- src/stub.rt:34:5
 write32-requires-2 : tie.Need-write32-requires-2
 write32-requires-2 c κs = search needs
 
--- src/stub.rt:35:5
 write32-requires-3 : tie.Need-write32-requires-3
 write32-requires-3 c κs = search needs
 
--- src/stub.rt:29:1
 same-length : tie.Need-same-length
 same-length c = search needs
 
--- src/stub.rt:29:1
 returns : tie.Need-returns
 returns c = cc
 

@@ -11,58 +11,46 @@ use Rattle.arm64_fixup.proofs.walk.check_all.Reads as check-all-reads
 use Rattle.arm64_fixup.proofs.walk.check_lists.Reads as check-lists-reads
 use Rattle.arm64_fixup.proofs.walk.work_all.Reads as work-all-reads
 
--- src/walk.rt:194:11
 check-lists-requires : tie.Need-check-lists-requires
 check-lists-requires c κs = search needs
 
--- src/walk.rt:195:26
 enum-known-r : tie.Need-enum-known-r
 enum-known-r c = search needs
 
--- src/walk.rt:196:42
 enum-told : tie.Need-enum-told
 enum-told c = search needs
 
--- src/walk.rt:196:32
 check-all-requires : tie.Need-check-all-requires
 check-all-requires c κs = lists _ _ _ (sym (c .before .before .check-lists .ensures) ∙ c .enum-told .given .1) .paired
 
--- src/walk.rt:197:30
 enum-known-r-2 : tie.Need-enum-known-r-2
 enum-known-r-2 c = search needs
 
--- src/walk.rt:198:57
 enum-told-2 : tie.Need-enum-told-2
 enum-told-2 c = search needs
 
--- src/walk.rt:198:48
 work-all-requires : tie.Need-work-all-requires
 work-all-requires c κs =
     let k = c .before .before .before .before in
     let p = lists _ _ _ (sym (k .before .before .before .check-lists .ensures) ∙ k .before .enum-told .given .1) in
     (sym (k .check-all .ensures) ∙ c .before .before .enum-told2 .given .1, (p .paired, p .few, p .enough))
 
--- src/walk.rt:181:1
 returns : tie.Need-returns
 returns c =
     turned-down _ _ _ _ _ (by-lists _ _ _ _ _ (c .before .before .before .check-lists .ensures) (c .before .r .given .1))
 
--- src/walk.rt:181:1
 returns-2 : tie.Need-returns-2
 returns-2 c =
     let k = c .before .before .before in
     let f = sym (k .before .before .before .check-lists .ensures) ∙ k .before .enum-told .given .1 in
     turned-down _ _ _ _ _ (by-entry _ _ _ _ _ f (k .check-all .ensures) (c .before .r2 .given .1))
 
--- src/walk.rt:181:1
 same-length : tie.Need-same-length
 same-length c = search needs
 
--- src/walk.rt:181:1
 same-length-2 : tie.Need-same-length-2
 same-length-2 c = search needs
 
--- src/walk.rt:181:1
 returns-3 : tie.Need-returns-3
 returns-3 c =
     let w = c .before .before .before .before in

@@ -26,15 +26,12 @@ use Rattle.macho.proofs.reloc.Reloc.read.Reads as reloc-Reloc-read-reads
 use Rattle.macho.proofs.resolved.Resolved.read.Reads as resolved-Resolved-read-reads
 use Rattle.util.proofs.read32.Reads as read32-reads
 
--- src/walk.rt:107:8
 width-of-requires : tie.Need-width-of-requires
 width-of-requires c κs = search needs
 
--- src/walk.rt:108:9
 silent-requires : tie.Need-silent-requires
 silent-requires c κs = search needs
 
--- src/walk.rt:108:9
 returns : tie.Need-returns
 unfolding changeOf choose
 returns c =
@@ -44,15 +41,12 @@ returns c =
       ← c .before .before .width-of .ensures,
     )
 
--- src/walk.rt:111:38
 unsigned-value-requires : tie.Need-unsigned-value-requires
 unsigned-value-requires c κs = search needs
 
--- src/walk.rt:111:9
 silent-requires-2 : tie.Need-silent-requires-2
 silent-requires-2 c κs = search needs
 
--- src/walk.rt:111:9
 returns-2 : tie.Need-returns-2
 unfolding changeOf choose
 returns-2 c =
@@ -64,48 +58,38 @@ returns-2 c =
       ← c .before .before .before .before .before .width-of .ensures,
     )
 
--- src/walk.rt:113:8
 subtracts-requires : tie.Need-subtracts-requires
 subtracts-requires c κs = search needs
 
--- src/walk.rt:114:44
 add-read : tie.Need-add-read
 add-read c = search needs
 
--- src/walk.rt:114:38
 mul-read : tie.Need-mul-read
 mul-read c = search needs
 
--- src/walk.rt:114:13
 read-requires : tie.Need-read-requires
 read-requires c κs =
     let a = c .before .before .before .before .before .before .before .before .before in
     omega (arith, followed _ _ _ _ _ _ (a .pre .1) (sym (c .before .subtracts .ensures) ∙ c .if3 .taken) (a .pre .0 .0))
 
--- src/walk.rt:115:57
 add-read-2 : tie.Need-add-read-2
 add-read-2 c = search needs
 
--- src/walk.rt:115:51
 mul-read-2 : tie.Need-mul-read-2
 mul-read-2 c = search needs
 
--- src/walk.rt:115:13
 read-requires-2 : tie.Need-read-requires-2
 read-requires-2 c κs =
     let k = c .before in
     let a = k .before .before .before .before .before .before .before .before .before in
     omega (arith, followed _ _ _ _ _ _ (a .pre .1) (sym (k .before .subtracts .ensures) ∙ k .if3 .taken) (a .pre .0 .0))
 
--- src/walk.rt:116:30
 subtractor-value-requires : tie.Need-subtractor-value-requires
 subtractor-value-requires c κs = search needs
 
--- src/walk.rt:116:9
 difference-requires : tie.Need-difference-requires
 difference-requires c κs = search needs
 
--- src/walk.rt:116:9
 returns-3 : tie.Need-returns-3
 unfolding changeOf choose
 returns-3 c =
@@ -121,26 +105,21 @@ returns-3 c =
       ← c .before .before .before .before .before .before .before .before .before .width-of .ensures,
     )
 
--- src/walk.rt:118:14
 cast-at : tie.Need-cast-at
 cast-at c = search needs
 
--- src/walk.rt:120:16
 cast-word-change : tie.Need-cast-word-change
 cast-word-change c = search needs
 
--- src/walk.rt:121:29
 cast-t22 : tie.Need-cast-t22
 cast-t22 c = search needs
 
--- src/walk.rt:121:16
 add-t23 : tie.Need-add-t23
 add-t23 c =
     let a = c .before .before .before .before .before .before .before .before .before .before .before .before in
     let s = sound _ _ _ _ _ (a .pre .1) in
     omega arith
 
--- src/walk.rt:123:26
 read32-requires : tie.Need-read32-requires
 read32-requires c κs =
     let k = c .before .before .before .before .before .before .before in
@@ -149,11 +128,9 @@ read32-requires c κs =
     let z : eqb (widthOf (a .args .e) (a .args .t)) 0 ≡ false = ap (λ (n : ℕ). eqb n 0) (sym (k .before .width-of .ensures)) ∙ ne-eqb _ _ (k .if1 .left) in
     omega (arith, wide _ _ z)
 
--- src/walk.rt:123:5
 word-change-requires : tie.Need-word-change-requires
 word-change-requires c κs = search needs
 
--- src/walk.rt:95:1
 returns-4 : tie.Need-returns-4
 unfolding changeOf choose
 returns-4 c =

@@ -23,40 +23,31 @@ Inv-loop len bases rels targets n i₀ i = (i ≤ entries rels) × (consumed rel
 abbrev μ-loop : tie.MeasureT-loop
 μ-loop len bases rels targets n i₀ i = entries rels - i
 
--- src/walk.rt:79:5
 loop-holds : tie.Need-loop-holds Inv-loop μ-loop
 unfolding consumed checkTo
 loop-holds c = (zero-le, refl, refl)
 
--- src/walk.rt:80:35
 mul-read : tie.Need-mul-read Inv-loop μ-loop
 mul-read c = search needs
 
--- src/walk.rt:80:13
 read-requires : tie.Need-read-requires Inv-loop μ-loop
 read-requires c κs = search needs
 
--- src/walk.rt:81:41
 mul-read-2 : tie.Need-mul-read-2 Inv-loop μ-loop
 mul-read-2 c = search needs
 
--- src/walk.rt:81:13
 read-requires-2 : tie.Need-read-requires-2 Inv-loop μ-loop
 read-requires-2 c κs = search needs
 
--- src/walk.rt:82:45
 add-check-entry : tie.Need-add-check-entry Inv-loop μ-loop
 add-check-entry c = search needs
 
--- src/walk.rt:82:15
 check-entry-requires : tie.Need-check-entry-requires Inv-loop μ-loop
 check-entry-requires c κs = search needs
 
--- src/walk.rt:83:30
 enum-known-r : tie.Need-enum-known-r Inv-loop μ-loop
 enum-known-r c = search needs
 
--- src/walk.rt:84:17
 returns : tie.Need-returns Inv-loop μ-loop
 returns c =
     let m = c .before .before .before in
@@ -65,26 +56,21 @@ returns c =
     check-refused _ _ _ _ (p .i) (p .inv .1) (l .loop-test .taken) (p .inv .2) (m .before .before .read .ensures) (m .before .read2 .ensures)
     (m .check-entry .ensures) (c .before .r .given .1)
 
--- src/walk.rt:87:22
 enum-told : tie.Need-enum-told Inv-loop μ-loop
 enum-told c = search needs
 
--- src/walk.rt:87:22
 taken-requires : tie.Need-taken-requires Inv-loop μ-loop
 taken-requires c κs = search needs
 
--- src/walk.rt:87:17
 add-i : tie.Need-add-i Inv-loop μ-loop
 add-i c =
     let l = c .before .before .before .before .before .before in
     let t = takes (c .before .before .before .before .before .read .result .ty) (c .taken .ensures) in
     omega (arith, l .before .before .before .before .good .1 .1 .0)
 
--- src/walk.rt:79:5
 loop-less : tie.Need-loop-less Inv-loop μ-loop
 loop-less c = let t = takes (c .before .before .before .before .before .read .result .ty) (c .taken .ensures) in omega arith
 
--- src/walk.rt:79:5
 loop-again : tie.Need-loop-again Inv-loop μ-loop
 loop-again c =
     let m = c .before .before .before in
@@ -93,7 +79,6 @@ loop-again c =
     check-again _ _ _ _ (p .i) (p .inv .1) (l .loop-test .taken) (p .inv .2) (m .before .before .read .ensures) (m .before .read2 .ensures)
     (m .check-entry .ensures) (c .before .enum-told .given .1) (c .taken .ensures)
 
--- src/walk.rt:73:1
 returns-2 : tie.Need-returns-2 Inv-loop μ-loop
 returns-2 c =
     let p = c .before .loop in

@@ -8,14 +8,12 @@ use Rattle.arm64_fixup.proofs.walk.check_lists.Tie as tie
 use Rattle.arm64_fixup.proofs.walk.check_lists.Reads as reads
 use Rattle.arm64_fixup.proofs.walk.check_lists.Lts as lts
 
--- src/walk.rt:45:9
 returns : tie.Need-returns
 unfolding checkLists choose
 returns c =
     simp
     (ne-eqb _ _ (c .if1 .taken))
 
--- src/walk.rt:48:9
 returns-2 : tie.Need-returns-2
 unfolding checkLists choose
 returns-2 c =
@@ -24,7 +22,6 @@ returns-2 c =
       eq-eqb _ _ (c .before .if1 .left),
     )
 
--- src/walk.rt:51:9
 returns-3 : tie.Need-returns-3
 unfolding checkLists choose
 returns-3 c =
@@ -34,7 +31,6 @@ returns-3 c =
       eq-eqb _ _ (c .before .before .if1 .left),
     )
 
--- src/walk.rt:54:9
 returns-4 : tie.Need-returns-4
 unfolding checkLists choose
 returns-4 c =
@@ -45,11 +41,9 @@ returns-4 c =
       eq-eqb _ _ (c .before .before .before .if1 .left),
     )
 
--- src/walk.rt:56:16
 mul-if5 : tie.Need-mul-if5
 mul-if5 c = search needs
 
--- src/walk.rt:57:9
 returns-5 : tie.Need-returns-5
 unfolding checkLists choose
 returns-5 c =
@@ -61,7 +55,6 @@ returns-5 c =
       eq-eqb _ _ (c .before .before .before .before .if1 .left),
     )
 
--- src/walk.rt:41:1
 returns-6 : tie.Need-returns-6
 unfolding checkLists choose
 returns-6 c =

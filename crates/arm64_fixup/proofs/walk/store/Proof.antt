@@ -14,33 +14,26 @@ use Rattle.util.proofs.write64.Reads as write64-reads
 enum-told : tie.Need-enum-told
 enum-told c = search needs
 
--- src/walk.rt:133:21
 enum-known-w : tie.Need-enum-known-w
 enum-known-w c = search needs
 
--- src/walk.rt:134:13
 write32-requires : tie.Need-write32-requires
 write32-requires c κs = let e = c .before .before .w .given .1 in let h = simp e at (c .before .before .before .before .before .pre) in omega arith
 
--- src/walk.rt:136:24
 enum-known-w-2 : tie.Need-enum-known-w-2
 enum-known-w-2 c = search needs
 
--- src/walk.rt:137:13
 write64-requires : tie.Need-write64-requires
 write64-requires c κs = let e = c .before .before .w2 .given .1 in let h = simp e at (c .before .before .before .before .before .pre) in omega arith
 
--- src/walk.rt:127:1
 returns : tie.Need-returns
 returns c =
     simp
     (c .enum-told .given .1)
 
--- src/walk.rt:127:1
 same-length : tie.Need-same-length
 same-length c = search needs
 
--- src/walk.rt:127:1
 returns-2 : tie.Need-returns-2
 returns-2 c =
     simp (
@@ -48,11 +41,9 @@ returns-2 c =
       c .before .before .before .before .before .w .given .1,
     )
 
--- src/walk.rt:127:1
 same-length-2 : tie.Need-same-length-2
 same-length-2 c = search needs
 
--- src/walk.rt:127:1
 returns-3 : tie.Need-returns-3
 returns-3 c =
     simp (

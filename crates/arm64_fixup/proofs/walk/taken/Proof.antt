@@ -9,11 +9,9 @@ use Rattle.arm64_fixup.proofs.walk.taken.Reads as reads
 use Rattle.arm64_fixup.proofs.walk.taken.Lts as lts
 use Rattle.arm64_entry.proofs.check.subtracts.Reads as subtracts-reads
 
--- src/walk.rt:66:8
 subtracts-requires : tie.Need-subtracts-requires
 subtracts-requires c κs = search needs
 
--- src/walk.rt:67:9
 returns : tie.Need-returns
 unfolding choose
 returns c =
@@ -22,7 +20,6 @@ returns c =
       ← c .before .subtracts .ensures,
     )
 
--- src/walk.rt:63:1
 returns-2 : tie.Need-returns-2
 unfolding choose
 returns-2 c =

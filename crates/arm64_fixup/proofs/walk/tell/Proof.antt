@@ -2,8 +2,8 @@
 use mathlib.Core.List.{append-nil}
 use native.Mathlib.Omega.{arith}
 use mathlib.Core.Path.{refl}
-use Rattle.arm64_fixup.specs.Answer.{reportsBytes}
 use borrow.Author.Tests.{eq-eqb, ne-eqb, le-leb, lt-leb, lt-ltb, le-ltb, not-true, not-false}
+use Rattle.macho.specs.Record.{listBytes}
 use Rattle.arm64_fixup.specs.Walk.{reportsOf}
 use borrow.Author.Needs.{needs}
 use Rattle.arm64_fixup.proofs.walk.tell.Statement.{statement}
@@ -12,38 +12,30 @@ use Rattle.arm64_fixup.proofs.walk.tell.Reads as reads
 use Rattle.arm64_fixup.proofs.walk.tell.Lts as lts
 use Rattle.macho.proofs.report.Report.write.Reads as write-reads
 
--- src/walk.rt:149:25
 enum-told : tie.Need-enum-told
 enum-told c = search needs
 
--- src/walk.rt:150:22
 enum-known-told : tie.Need-enum-known-told
 enum-known-told c = search needs
 
--- src/walk.rt:151:28
 mul-write : tie.Need-mul-write
 mul-write c = search needs
 
--- src/walk.rt:151:13
 write-requires : tie.Need-write-requires
 write-requires c κs = search needs
 
--- src/walk.rt:152:13
 add-result : tie.Need-add-result
 add-result c = search needs
 
--- src/walk.rt:143:1
 returns : tie.Need-returns
-unfolding reportsBytes
+unfolding listBytes
 returns c = simp (c .enum-told .given .1) (omega arith, refl)
 
--- src/walk.rt:143:1
 same-length : tie.Need-same-length
 same-length c = search needs
 
--- src/walk.rt:143:1
 returns-2 : tie.Need-returns-2
-unfolding reportsBytes
+unfolding listBytes
 returns-2 c = simp (c .before .before .before .before .before .told .given .1, append-nil) (refl, c .before .before .write .ensures)
 
 pub tell-spec : {M : Type 1} → statement M

@@ -11,8 +11,9 @@ use native.Mathlib.Omega.{arith}
 use borrow.Author.Needs.{needs}
 use lib.ListN.{length}
 use lib.Seq.{sets}
+use Rattle.macho.specs.Record.{listBytes}
+use Rattle.macho.specs.Report.{reportBytes}
 use Rattle.arm64_fixup.specs.Walk.{entries, consumed, fixTo}
-use Rattle.arm64_fixup.specs.Answer.{reportsBytes}
 use Rattle.arm64_fixup.proofs.walk.work_all.Statement.{statement}
 use Rattle.arm64_fixup.proofs.walk.work_all.Tie as tie
 use Rattle.arm64_fixup.proofs.walk.work_all.Reads as reads
@@ -31,34 +32,28 @@ Inv-loop buf₀ bases rels targets slots₀ n i₀ count₀ buf slots i count =
     × (count ≤ i)
     × (count ≡ length (fixTo bases rels targets buf₀ i .reports))
     × (buf ≡ fixTo bases rels targets buf₀ i .section)
-    × (slots ≡ sets slots₀ 0 (reportsBytes (fixTo bases rels targets buf₀ i .reports)))
+    × (slots ≡ sets slots₀ 0 (listBytes reportBytes (fixTo bases rels targets buf₀ i .reports)))
     × (length slots ≡ length slots₀)
 
 abbrev μ-loop : tie.MeasureT-loop
 μ-loop buf₀ bases rels targets slots₀ n i₀ count₀ buf slots i count = entries rels - i
 
--- src/walk.rt:167:5
 loop-holds : tie.Need-loop-holds Inv-loop μ-loop
-unfolding consumed fixTo reportsBytes
+unfolding consumed fixTo listBytes
 loop-holds c = (zero-le, refl, zero-le, refl, refl, refl, refl)
 
--- src/walk.rt:168:35
 mul-read : tie.Need-mul-read Inv-loop μ-loop
 mul-read c = search needs
 
--- src/walk.rt:168:13
 read-requires : tie.Need-read-requires Inv-loop μ-loop
 read-requires c κs = search needs
 
--- src/walk.rt:169:41
 mul-read-2 : tie.Need-mul-read-2 Inv-loop μ-loop
 mul-read-2 c = search needs
 
--- src/walk.rt:169:13
 read-requires-2 : tie.Need-read-requires-2 Inv-loop μ-loop
 read-requires-2 c κs = search needs
 
--- src/walk.rt:170:13
 change-at-requires : tie.Need-change-at-requires Inv-loop μ-loop
 change-at-requires c κs =
     let l = c .before .before .before in
@@ -70,11 +65,9 @@ change-at-requires c κs =
     (c .before .read2 .ensures) len in
     ((l .loop-test .taken, a .pre .1 .1, a .pre .1 .0), fine)
 
--- src/walk.rt:173:20
 cast-store : tie.Need-cast-store Inv-loop μ-loop
 cast-store c = search needs
 
--- src/walk.rt:173:9
 store-requires : tie.Need-store-requires Inv-loop μ-loop
 store-requires c κs =
     let r = c .before .before .before .before in
@@ -86,18 +79,15 @@ store-requires c κs =
     fine-at _ _ _ (now (a .args .buf)) (p .i) (p .inv .1) (a .pre .0) (l .loop-test .taken) (r .before .read .ensures) (r .read2 .ensures) len in
     room _ _ _ _ _ _ _ _ _ fine (c .before .before .change-at .ensures)
 
--- src/walk.rt:174:9
 tell-requires : tie.Need-tell-requires Inv-loop μ-loop
 tell-requires c κs =
     let l = c .before .before .before .before .before .before .before .before .before .before in
     let p = l .before .loop in
     omega (arith, l .before .before .before .before .before .before .pre .1 .2, p .inv .6, p .inv .2, l .loop-test .taken)
 
--- src/walk.rt:175:14
 taken-requires : tie.Need-taken-requires Inv-loop μ-loop
 taken-requires c κs = search needs
 
--- src/walk.rt:175:9
 add-i : tie.Need-add-i Inv-loop μ-loop
 add-i c =
     let h = c .before .before .before .before .before .before .before .before .before .before in
@@ -105,14 +95,12 @@ add-i c =
     let t = takes (h .before .before .before .read .result .ty) (c .taken .ensures) in
     omega (arith, l .before .before .before .before .before .before .pre .1 .1, l .loop-test .taken)
 
--- src/walk.rt:167:5
 loop-less : tie.Need-loop-less Inv-loop μ-loop
 loop-less c =
     let h = c .before .before .before .before .before .before .before .before .before .before in
     let t = takes (h .before .before .before .read .result .ty) (c .taken .ensures) in
     omega (arith, h .before .before .before .before .loop-test .taken)
 
--- src/walk.rt:167:5
 loop-again : tie.Need-loop-again Inv-loop μ-loop
 loop-again c =
     let t = c .before .before .before .tell .ensures in
@@ -127,15 +115,12 @@ loop-again c =
     (s .store .ensures) (t .0) (t .1) in
     (w .0, w .1, w .2, w .3, w .4, w .5, omega arith)
 
--- src/walk.rt:158:1
 same-length : tie.Need-same-length Inv-loop μ-loop
 same-length c = ap length (c .before .loop .inv .4) ∙ length-fix _ _ _ _ (c .before .loop .i)
 
--- src/walk.rt:158:1
 same-length-2 : tie.Need-same-length-2 Inv-loop μ-loop
 same-length-2 c = c .before .loop .inv .6
 
--- src/walk.rt:158:1
 returns : tie.Need-returns Inv-loop μ-loop
 returns c =
     let p = c .before .loop in
