@@ -1,4 +1,5 @@
--- The places of a hint: a field `[HintInsn; 3]` has the elements' tuples (`map` of the struct's `into`), and a parameter `[HintInsn; 3]` the records. What the one's relation says, the other's says.
+-- The places of a hint: a field `[HintInsn; 3]` has the elements' tuples (`map` of the struct's `into`), and a parameter `[HintInsn; 3]` the records.
+-- What the one's relation says, the other's says.
 --     places-are       from the field's relation to the parameter's, at the same machine value.        places-back      and back
 -- Assumes nothing.
 use mathlib.Core.Path.{sym, _∙_}

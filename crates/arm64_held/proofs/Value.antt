@@ -1,8 +1,8 @@
--- A hint as a value: the machine values of its fields, and what whoever holds one knows of them. And the borrow of a hint, as a method has it: opened, and closed again.
+-- A hint as a value: the machine values of its fields, and what whoever holds one knows of them. And the borrow of a hint, as a method has it: opened,
+-- and closed again.
 --     opens-hint       obs γ d ∗ &κ₀ (the hint) ∗ [κ₀]_q   gives   the struct's cell ∗ what d owns ∗ the open borrow, and what is known of d's fields
 --     closes-hint      and back, at a hint d′ with the same machine value
 -- Assumes `Given`.
-use mathlib.Core.Path.{_≡_}
 use Prim.Native.Nat.{ℕ, _<_, _^_}
 use mathlib.Core.List.{List, [], _∷_}
 use lib.ListN.{length}
@@ -62,11 +62,13 @@ module _ (κ : Lft) (d : Hint) (g : Is (Row κ) d (valOf κ d ∷ [])) where
 module _ {M : Type 1} {𝓤 : URA M} {H : Heap 𝓤} {A : Atoms 𝓤} {K : Type 0} {W : Given 𝓤 H A} {Γ : List (Item 𝓤)} {G : Goal 𝓤 H} where
   pub opens-hint : K → Soaks G → (κ : Lft) {κ₀ : Lft} {q : Share} {γ : GName} (d : Hint) (b o : ℕ)
       → (Is (Row κ) d (valOf κ d ∷ [])
-      → Seq K W (‵ (fat fullShare (T′.mir erased) b o (valOf κ d)) ∷ ‵ (Row κ .own d (valOf κ d ∷ [])) ∷ ‵ (fobor κ₀ q (Body (mem (Row κ)) b o γ)) ∷ ‵ (fobs γ (Row κ .coded .code d)) ∷ ‵ (fauth γ (Row κ .coded .code d)) ∷ Γ) G)
+      → Seq K W (‵ (fat fullShare (T′.mir erased) b o (valOf κ d)) ∷ ‵ (Row κ .own d (valOf κ d ∷ []))
+      ∷ ‵ (fobor κ₀ q (Body (mem (Row κ)) b o γ)) ∷ ‵ (fobs γ (Row κ .coded .code d)) ∷ ‵ (fauth γ (Row κ .coded .code d)) ∷ Γ) G)
       → Seq K W (‵ (fobs γ (Row κ .coded .code d)) ∷ ‵ (fbor κ₀ (Body (mem (Row κ)) b o γ)) ∷ ‵ (flft κ₀ q) ∷ Γ) G
   opens-hint t z κ d b o k =
       opens t z (Row κ) {h = d} b o (λ vs.
-      spelt t (Row κ) (Is (Row κ)) (shows 𝓤 H A (Row κ)) (LL.vals (T.the-type (α κ)) (T′.the-laws (α κ))) (LL.tells (T.the-type (α κ)) (T′.the-laws (α κ))) fullShare d vs b o $
+      spelt t (Row κ) (Is (Row κ)) (shows 𝓤 H A (Row κ)) (LL.vals (T.the-type (α κ)) (T′.the-laws (α κ)))
+      (LL.tells (T.the-type (α κ)) (T′.the-laws (α κ))) fullShare d vs b o $
       use1 W (‵ (fat fullShare (T′.mir erased) b o (valOf κ d))) (W .laws .raw-at fullShare (T′.mir erased) b o (valOf κ d)) $
       move t (1 ∷ []) $ peeks t (Row κ) (Is (Row κ)) (shows 𝓤 H A (Row κ)) d (valOf κ d ∷ []) (λ g. move t (1 ∷ 0 ∷ []) $ k g))
 

@@ -1,30 +1,27 @@
 -- The entries that a hint's places name in a list of entries (arch/arm64.rs, `Hint::has_page_pair`; document 01, "Records lent by the linker").
-use Prim.Native.Nat.{ℕ, _+_, _*_, _≤_, _<_}
+use Prim.Native.Nat.{ℕ, _+_, _*_, _≤_}
 use mathlib.Core.Path.{_≡_}
-use mathlib.Core.List.{List}
-use lib.Dec.{ltb}
-use Rattle.util.specs.Choice.{choose}
+use mathlib.Core.List.{List, map}
+use lib.ListN.{getD}
 use Rattle.macho.specs.Hint.{noEntry}
 use Rattle.macho.specs.declared.hint.HintInsn.{HintInsn}
 use Rattle.arm64_rules.specs.Rels.{relAt}
-use Rattle.arm64_rules.specs.declared.rels.Rel.{Rel}
-use Rattle.arm64_rules.specs.declared.rels.Rel.the-variants.{Absent}
 use Rattle.arm64_rules.specs.declared.rels.Rels.{Rels}
-use Rattle.arm64_held.specs.Place.{placeAt}
+use Rattle.order.specs.Lists.{All}
 
--- place i is one of the three, and its entry, if it names one, stands in a list of len bytes, unless it is past the word count n
-pub record Finds (len : ℕ) (insns : List HintInsn) (n i : ℕ) : Type 0 where
-  pub one : i < 3
-  pub within : i < n → (placeAt insns i .rel ≡ noEntry → ⊥) → 24 * placeAt insns i .rel + 24 ≤ len
+-- the numbers of the entries that places name
+abbrev pub numbers : List HintInsn → List ℕ
+numbers insns = map (λ i. i .rel) insns
 
--- so it is of each of the three
-abbrev pub Named : ℕ → List HintInsn → ℕ → Type 0
-Named len insns n = (i : ℕ) → i < 3 → Finds len insns n i
+-- the number that place i names, none past the places
+abbrev pub numberAt : List HintInsn → ℕ → ℕ
+numberAt insns i = getD (numbers insns) i noEntry
 
--- the entry that place i names
-abbrev pub relIn : List ℕ → List HintInsn → ℕ → ℕ → Rel
-relIn entries insns n i = choose (ltb i n) (relAt entries (placeAt insns i .rel)) Absent
+-- the entries that the places name
+abbrev pub relsIn : List ℕ → List HintInsn → Rels
+relsIn entries insns =
+    record { r0 = relAt entries (numberAt insns 0); r1 = relAt entries (numberAt insns 1); r2 = relAt entries (numberAt insns 2) }
 
--- the entries of the three
-abbrev pub relsIn : List ℕ → List HintInsn → ℕ → Rels
-relsIn entries insns n = record { r0 = relIn entries insns n 0; r1 = relIn entries insns n 1; r2 = relIn entries insns n 2 }
+-- they stand in a list of len bytes
+abbrev pub InEntries : ℕ → List HintInsn → Type 0
+InEntries len insns = All (λ k. (k ≡ noEntry → ⊥) → 24 * k + 24 ≤ len) (numbers insns)

@@ -8,10 +8,10 @@ use arm64_rules::answer::NewWord;
 use macho::hint::HintInsn;
 ghost use mathlib.Core.Path.{_≡_};
 ghost use Prim.Native.Nat.{_<_};
-ghost use lib.ListN.{length};
+ghost use lib.ListN.{length, take};
 ghost use Rattle.arm64_rules.specs.Rels.{hasPagePair};
 ghost use Rattle.arm64_held.specs.Place.{wordIn, setIn, addrIn, Fits};
-ghost use Rattle.arm64_held.specs.Entry.{relsIn, Named};
+ghost use Rattle.arm64_held.specs.Entry.{relsIn, InEntries};
 ghost use Rattle.arm64_held.specs.Held.{holding};
 
 // A hint's instructions, in their section's bytes.
@@ -56,9 +56,9 @@ impl<'a> Hint<'a> {
 
     // Whether the first two words carry the halves of one reference, and a third carries no entry. The hint stays as it is.
     pub fn has_page_pair<'s, 'e>(&'s mut self, entries: &'e [u8], got: bool) -> bool
-        requires { ⌜ Named (length (now entries)) (now self .insns) (now self .n) ⌝ }
-        ensures { λ b. ⌜ (b ≡ hasPagePair (relsIn (now (entries .entry)) (now (self .entry) .insns) (now (self .entry) .n)) (now (self .entry) .n) got)
-            × (now (self .exit) ≡ now (self .entry)) ⌝ }
+        requires { ⌜ InEntries (length (now entries)) (take (now self .n) (now self .insns)) ⌝ }
+        ensures { λ b. ⌜ (b ≡ hasPagePair (relsIn (now (entries .entry)) (take (now (self .entry) .n) (now (self .entry) .insns)))
+            (now (self .entry) .n) got) × (now (self .exit) ≡ now (self .entry)) ⌝ }
     {
         let insns = self.insns;
         let n = self.n;

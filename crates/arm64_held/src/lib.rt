@@ -1,4 +1,3 @@
-// A hint that holds the bytes of its section, as in the Rust (arch/arm64.rs, `Hint`), and the two functions through which a run reaches its words.
+// A hint that holds the bytes of its section, as in the Rust (arch/arm64.rs, `Hint`).
 pub mod hint;
 pub mod place;
-pub mod words;

@@ -9,10 +9,10 @@ use util::read32;
 use util::write32;
 ghost use mathlib.Core.Path.{_≡_};
 ghost use Prim.Native.Nat.{_<_};
-ghost use lib.ListN.{length};
-ghost use Rattle.arm64_rules.specs.Rels.{hasPagePair};
+ghost use lib.ListN.{length, take};
+ghost use Rattle.arm64_rules.specs.Rels.{relAt, hasPagePair};
 ghost use Rattle.arm64_held.specs.Place.{wordIn, setIn, addrIn, Fits};
-ghost use Rattle.arm64_held.specs.Entry.{relIn, relsIn, Finds, Named};
+ghost use Rattle.arm64_held.specs.Entry.{numberAt, relsIn, InEntries};
 
 // The word of place i, 0 past the word count. The bytes are only read; they are lent by `&mut`, since that is how a `&mut` inside a struct is lent on.
 pub fn get_in(buf: &mut [u8], insns: [HintInsn; 3], n: usize, i: usize) -> u32
@@ -56,8 +56,9 @@ pub fn addr_in(insns: [HintInsn; 3], n: usize, i: usize) -> u64
 
 // The entry that place i names, none past the word count.
 fn rel_in(entries: &[u8], insns: [HintInsn; 3], n: usize, i: usize) -> Rel
-    requires { ⌜ Finds (length (now entries)) insns n i ⌝ }
-    ensures { λ r. ⌜ r ≡ relIn (now (entries .entry)) insns n i ⌝ }
+    requires { ⌜ i < 3 ⌝ }
+    requires { ⌜ InEntries (length (now entries)) (take n insns) ⌝ }
+    ensures { λ r. ⌜ r ≡ relAt (now (entries .entry)) (numberAt (take n insns) i) ⌝ }
 {
     if i < n {
         let insn = insns[i];
@@ -66,13 +67,22 @@ fn rel_in(entries: &[u8], insns: [HintInsn; 3], n: usize, i: usize) -> Rel
     Rel::Absent
 }
 
-// Whether the first two words carry the halves of one reference, and a third carries no entry.
-pub fn page_pair_in(entries: &[u8], insns: [HintInsn; 3], n: usize, got: bool) -> bool
-    requires { ⌜ Named (length (now entries)) insns n ⌝ }
-    ensures { λ b. ⌜ b ≡ hasPagePair (relsIn (now (entries .entry)) insns n) n got ⌝ }
+// The entries that the places name, up to the word count.
+pub fn rels_in(entries: &[u8], insns: [HintInsn; 3], n: usize) -> Rels
+    requires { ⌜ InEntries (length (now entries)) (take n insns) ⌝ }
+    ensures { λ r. ⌜ r ≡ relsIn (now (entries .entry)) (take n insns) ⌝ }
 {
     let r0 = rel_in(entries, insns, n, 0);
     let r1 = rel_in(entries, insns, n, 1);
     let r2 = rel_in(entries, insns, n, 2);
-    has_page_pair(Rels { r0, r1, r2 }, 3, got)
+    Rels { r0, r1, r2 }
+}
+
+// Whether the first two words carry the halves of one reference, and a third carries no entry.
+pub fn page_pair_in(entries: &[u8], insns: [HintInsn; 3], n: usize, got: bool) -> bool
+    requires { ⌜ InEntries (length (now entries)) (take n insns) ⌝ }
+    ensures { λ b. ⌜ b ≡ hasPagePair (relsIn (now (entries .entry)) (take n insns)) n got ⌝ }
+{
+    // all three places are asked: one past the word count has no entry
+    has_page_pair(rels_in(entries, insns, n), 3, got)
 }

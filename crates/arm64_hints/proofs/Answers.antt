@@ -25,10 +25,10 @@ use Rattle.arm64_insn.specs.declared.adrp.Adrp.{Adrp}
 use Rattle.arm64_insn.specs.declared.adrp.AdrpWord.the-variants as W
 use Rattle.arm64_rules.specs.Rels.{relAt, isPageRel, bothPages}
 use Rattle.arm64_rules.specs.Plans.{dropped}
-use Rattle.arm64_rules.specs.Two.{samePage, adrpAdrp}
-use Rattle.arm64_rules.specs.Decide.{admits, ruleOf, decide}
+use Rattle.arm64_adrp_rules.specs.Two.{samePage, adrpAdrp}
+use Rattle.arm64_decide.specs.Decide.{decide}
 use Rattle.arm64_rules.specs.Kinds.{wordsOf}
-use Rattle.arm64_rules.proofs.Hinted.{counts}
+use Rattle.rule_laws.proofs.Hinted.{counts}
 use Rattle.arm64_rules.specs.declared.answer.Insns.{Insns}
 use Rattle.arm64_rules.specs.declared.answer.Decision.{Decision}
 use Rattle.arm64_rules.specs.declared.answer.Decision.the-variants.{Nine}
@@ -37,6 +37,7 @@ use Rattle.order.specs.Lists.{runList}
 use Rattle.order.specs.Steps.{Work}
 use Rattle.order.specs.Plan.{wordsAt, putWords, answered, written, stepOf}
 use Rattle.order.specs.Cursor.{hintCount, orderOf}
+use Rattle.order.proofs.Plan.{puts-none}
 use Rattle.order.proofs.Walk.{order-length}
 use Rattle.arm64_hints.specs.Hint.{hintOf, isSkipped, insnsIn, placesOf, insnsOf, relsOf, outcomeOf, newsIn, newsOf}
 use Rattle.arm64_hints.specs.Hint.{addDecision, addOutcome, total, planOf}
@@ -48,7 +49,7 @@ use Rattle.arm64_hints.specs.declared.outcome.Tally.{Tally}
 use Rattle.arm64_hints.specs.declared.check.Check.{Check}
 use Rattle.arm64_hints.specs.declared.check.Check.the-variants as C
 use Rattle.arm64_hints.specs.declared.run.RunAnswer.the-variants as A
-use Rattle.arm64_hints.proofs.Places.{insns-two, rels-two, puts-none}
+use Rattle.arm64_hints.proofs.Places.{insns-two, rels-two}
 use Rattle.arm64_hints.proofs.Steps.{total-add}
 
 both-fail : (a : Bool) {b : Bool} → b ≡ false → (a && b) ≡ false
@@ -145,7 +146,7 @@ module _ (hints entries : List ℕ) (k : ℕ) (w : Work Tally) (s : Insns) (nine
 -- two ADRPs of one page into one register
 drops : (s : Insns) (r : Rels) (a : Adrp) → bothPages r ≡ true → adrpOf (s .w0) ≡ W.Adrp a → adrpOf (s .w1) ≡ W.Adrp a → s .p1 ≡ s .p0
     → decide MCLOH-AdrpAdrp s r ≡ dropped
-unfolding decide admits ruleOf adrpAdrp samePage choose
+unfolding decide adrpAdrp samePage choose
 drops s r a pages first second p =
     rw (pages, first, second, p, eq-eqb (a .rd) (a .rd) refl, eq-eqb (adrpPage (a .imm) (s .p0)) (adrpPage (a .imm) (s .p0)) refl)
 

@@ -2,7 +2,7 @@
 use mathlib.Core.Path.{_≡_, refl, sym, ap, _∙_}
 use mathlib.Core.Logic.{⊎-elim}
 use mathlib.Core.Bool.{Bool, true, false, _&&_, _||_}
-use mathlib.Core.List.{List}
+use mathlib.Core.List.{List, [], _∷_}
 use Prim.Native.Nat.{ℕ, zero, suc, _+_, _*_, _/_, _%_, _^_, _≤_, _<_}
 use native.Mathlib.Omega.{arith}
 use native.Mathlib.Nat.{not-suc-le-zero, eq-or-lt-of-le, le-of-suc-le-suc}
@@ -16,12 +16,15 @@ use Rattle.macho.specs.declared.hint.HintInsn.{HintInsn}
 use Rattle.macho.specs.declared.hint.HintRecord.{HintRecord}
 use Rattle.macho.specs.declared.refusal.Refusal.{Refusal}
 use Rattle.macho.specs.declared.refusal.Refusal.the-variants.{Lengths}
+use Rattle.order.specs.Lists.{empty, more}
 use Rattle.order.specs.Cursor.{hintCount}
+use Rattle.arm64_held.specs.Place.{InBytes}
+use Rattle.arm64_held.specs.Entry.{InEntries}
 use Rattle.arm64_hints.specs.Hint.{hintOf, isSkipped, insnsIn, Inside, Named}
 use Rattle.arm64_hints.specs.Check.{isList, checkLists, partPast, endsPast, namesAbsent, anyOf, checkHint, first, checkTo, checkAll}
 use Rattle.arm64_hints.specs.declared.check.Check.{Check}
 use Rattle.arm64_hints.specs.declared.check.Check.the-variants.{Fine, Refused}
-use Rattle.arm64_hints.proofs.Places.{insns-three, insns-two, by-count}
+use Rattle.arm64_hints.proofs.Places.{neither, insns-three, insns-two, by-count}
 
 never : {x : Refusal} → Refused x ≡ Fine → ⊥
 never q = let z : _≡_ {A = ℕ} 0 1 = cc in omega arith
@@ -46,16 +49,25 @@ module _ (h : HintRecord) (e : isSkipped h ≡ false) (test : HintInsn → Bool)
     pub any-none : test (h .insn1) ≡ false → (h .n ≡ 3 → ⊥) → false ≡ anyOf test (insnsIn h)
     any-none b n = rw (insns-two h e n, a, b)
 
-  -- no place passes
-  pub none-pass : anyOf test (insnsIn h) ≡ false → (test (h .insn0) ≡ false) × (test (h .insn1) ≡ false) × (h .n ≡ 3 → test (h .insn2) ≡ false)
-  none-pass =
-      by-count h e (λ l. anyOf test l ≡ false → (test (h .insn0) ≡ false) × (test (h .insn1) ≡ false) × (h .n ≡ 3 → test (h .insn2) ≡ false))
-      (λ n q. let a = neither _ _ q in let b = neither _ _ (a .1) in (a .0, b .0, λ m. neither _ _ (b .1) .0))
-      (λ n q. let a = neither _ _ q in (a .0, neither _ _ (a .1) .0, λ m. absurd (n m)))
-    where
-      neither : (s t : Bool) → (s || t) ≡ false → (s ≡ false) × (t ≡ false)
-      neither false t q = (refl, q)
-      neither true t q = let z : _≡_ {A = ℕ} 0 1 = cc in absurd (omega arith)
+-- ---- no place passes
+
+-- words inside a part
+none-past : (len : ℕ) (insns : List HintInsn) → anyOf (endsPast len) insns ≡ false → InBytes len insns
+none-past len [] q = empty
+none-past len (i ∷ insns) q = let t = neither _ _ q in more (ltb-false len (i .off + 4) (t .0)) (none-past len insns (t .1))
+
+-- entries below a count
+none-absent : (count bytes : ℕ) → count ≡ bytes / 24 → (insns : List HintInsn) → anyOf (namesAbsent count) insns ≡ false → InEntries bytes insns
+none-absent count bytes e [] q = empty
+none-absent count bytes e (i ∷ insns) q =
+    let t = neither _ _ q in
+    more (λ n. below n (t .0)) (none-absent count bytes e insns (t .1))
+  where
+    below : (i .rel ≡ noEntry → ⊥) → namesAbsent count i ≡ false → 24 * i .rel + 24 ≤ bytes
+    below n t =
+        let s : leb count (i .rel) ≡ false = rw (ne-eqb (i .rel) noEntry n) at t in
+        let l : i .rel < count = leb-false count (i .rel) s in
+        omega arith
 
 -- ---- a hint that is not skipped, and not turned down
 
@@ -77,31 +89,11 @@ module _ (len count : ℕ) (h : HintRecord) (e : isSkipped h ≡ false) (fine : 
 
   -- its words are inside its part
   words-inside : Inside h (h .len)
-  words-inside =
-      let t = none-pass h e (endsPast (h .len)) (tests .1) in
-      record {
-        worked = e;
-        first = ltb-false (h .len) (h .insn0 .off + 4) (t .0);
-        second = ltb-false (h .len) (h .insn1 .off + 4) (t .1);
-        third = λ n. ltb-false (h .len) (h .insn2 .off + 4) (t .2 n);
-      }
+  words-inside = record { worked = e; words = none-past (h .len) (insnsIn h) (tests .1) }
 
   -- and the entries that it names are in a list of so many
   entries-inside : (bytes : ℕ) → count ≡ bytes / 24 → Named h bytes
-  entries-inside bytes q =
-      let t = none-pass h e (namesAbsent count) (tests .2) in
-      record {
-        worked = e;
-        first = λ n. below (h .insn0) n (t .0);
-        second = λ n. below (h .insn1) n (t .1);
-        third = λ m n. below (h .insn2) n (t .2 m);
-      }
-    where
-      below : (i : HintInsn) → (i .rel ≡ noEntry → ⊥) → namesAbsent count i ≡ false → 24 * i .rel + 24 ≤ bytes
-      below i n t =
-          let s : leb count (i .rel) ≡ false = rw (ne-eqb (i .rel) noEntry n) at t in
-          let l : i .rel < count = leb-false count (i .rel) s in
-          omega arith
+  entries-inside bytes q = record { worked = e; entries = none-absent count bytes q (insnsIn h) (tests .2) }
 
 -- all three
 pub record Ready (len bytes : ℕ) (h : HintRecord) : Type 0 where

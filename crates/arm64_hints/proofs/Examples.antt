@@ -1,5 +1,5 @@
--- Runs that are computed, on image bytes, hint records and entry records: bench pieces 6 to 8, the numbers 1, 3 and 12 of document 01's table
--- "Turned-down input" with their order, one hint of each count, a hint of kind 1 that stands first and is worked last, and one word named twice.
+-- Runs that are computed, on image bytes, hint records and entry records: bench pieces 6 to 8, and the numbers 1, 3 and 12 of document 01's table
+-- "Turned-down input" with their order. Runs of several hints are computed in demand3 (`ExampleRuns`).
 use mathlib.Core.Path.{_≡_, refl}
 use mathlib.Core.List.{List, [], _∷_, _++_}
 use Prim.Native.Nat.{ℕ, _+_, _*_}
@@ -8,7 +8,7 @@ use Rattle.util.specs.Choice.{choose}
 use Rattle.util.specs.Word.{le, put, bytes}
 use Rattle.util.specs.Wrap.{inRange}
 use Rattle.macho.specs.Record.{bytesOf}
-use Rattle.macho.specs.Types.{MCLOH-AdrpAdrp, MCLOH-AdrpLdr, MCLOH-AdrpAddStr, MCLOH-AdrpAdd, ARM64-RELOC-PAGE21, ARM64-RELOC-PAGEOFF12}
+use Rattle.macho.specs.Types.{MCLOH-AdrpLdr, MCLOH-AdrpAddStr, MCLOH-AdrpAdd, ARM64-RELOC-PAGE21, ARM64-RELOC-PAGEOFF12}
 use Rattle.macho.specs.Reloc.{relocAt, relocBytes}
 use Rattle.macho.specs.Hint.{insnAt, noEntry, hintAt, hintBytes, wordCount}
 use Rattle.macho.specs.declared.hint.HintInsn.{HintInsn}
@@ -20,10 +20,10 @@ use Rattle.arm64_insn.specs.Add.{addOf}
 use Rattle.arm64_insn.specs.LoadStore.{accessOf, loadStoreOf}
 use Rattle.arm64_insn.specs.Literal.{hasLiteralForm, literalOpc, literalV, literalWord, baseWord}
 use Rattle.arm64_rules.specs.Answer.{sumOf, fitsLiteral}
-use Rattle.arm64_rules.specs.Rels.{relAt, isPageRel, isPageoffRel, sameReference, isAbsent, hasPagePair, bothPages}
-use Rattle.arm64_rules.specs.Two.{samePage, adrpAdrp, ldrSecond, ldrAtPage, adrpLdr, adrTo, addAtPage, adrpAdd}
-use Rattle.arm64_rules.specs.Three.{addAccess, through, foldThird, adrOrFold, adrpAddStr}
-use Rattle.arm64_rules.specs.Decide.{admits, ruleOf, decide}
+use Rattle.arm64_rules.specs.Rels.{relAt, isPageRel, isPageoffRel, sameReference, isAbsent, hasPagePair}
+use Rattle.arm64_adrp_rules.specs.Two.{ldrSecond, ldrAtPage, adrpLdr, adrTo, addAtPage, adrpAdd}
+use Rattle.arm64_adrp_rules.specs.Three.{addAccess, through, foldThird, adrOrFold, adrpAddStr}
+use Rattle.arm64_decide.specs.Decide.{decide}
 use Rattle.arm64_hints.specs.Hint.{isSkipped, insnsIn, insnsOf, relsOf, outcomeOf}
 use Rattle.arm64_hints.specs.Check.{isList, checkLists, checkHint, checkTo, checkAll}
 use Rattle.arm64_hints.specs.Run.{worked, runOf, imageOf, numberOf}
@@ -74,44 +74,9 @@ pub pieces : Rewrites MCLOH-AdrpLdr (0x90000000 ∷ 0xf9400401 ∷ []) (0xd50320
     × Rewrites MCLOH-AdrpAddStr (0x90001000 ∷ 0x91004000 ∷ 0xf9000001 ∷ []) (0x90001000 ∷ 0xd503201f ∷ 0xf9000801 ∷ [])
 unfolding choose le put bytes inRange bytesOf relocAt relocBytes insnAt hintAt hintBytes wordCount rowOf pageOf adrpPage within1mb adrpOf adrWord addOf
     accessOf loadStoreOf hasLiteralForm literalOpc literalV literalWord baseWord sumOf fitsLiteral relAt isPageRel isPageoffRel sameReference isAbsent
-    hasPagePair ldrSecond ldrAtPage adrpLdr adrTo addAtPage adrpAdd addAccess through foldThird adrOrFold adrpAddStr admits ruleOf decide isSkipped insnsIn
+    hasPagePair ldrSecond ldrAtPage adrpLdr adrTo addAtPage adrpAdd addAccess through foldThird adrOrFold adrpAddStr decide isSkipped insnsIn
     insnsOf relsOf outcomeOf isList checkLists checkHint checkTo checkAll worked runOf imageOf
 pieces = ((refl, refl), (refl, refl), (refl, refl))
-
--- ---- one of each count: rewritten is position 0, of object 2; skipped, declined and turned down by 9 are the positions 1 to 3, of object 1
-
-pub one-of-each :
-    Runs pair
-    (plain MCLOH-AdrpLdr 2 2 0 0x1000 ++ plain 9 2 1 0 0x1000 ++ plain MCLOH-AdrpAdd 2 1 8 0x1000 ++ plain MCLOH-AdrpLdr 2 1 16 0xfffffffffffff000)
-    (0x90000000 ∷ 0xf9400401 ∷ 0x90008000 ∷ 0x91000000 ∷ 0x90000001 ∷ 0xbd29d025 ∷ [])
-    (counts 1 1 1 1)
-    (0xd503201f ∷ 0x58000021 ∷ 0x90008000 ∷ 0x91000000 ∷ 0x90000001 ∷ 0xbd29d025 ∷ [])
-unfolding choose le put bytes inRange bytesOf relocAt relocBytes insnAt hintAt hintBytes wordCount rowOf pageOf adrpPage within1mb adrpOf adrWord addOf
-    accessOf loadStoreOf hasLiteralForm literalOpc literalV literalWord sumOf fitsLiteral relAt isPageRel isPageoffRel sameReference isAbsent
-    hasPagePair ldrSecond ldrAtPage adrpLdr adrTo addAtPage adrpAdd admits ruleOf decide isSkipped insnsIn
-    insnsOf relsOf outcomeOf isList checkLists checkHint checkTo checkAll worked runOf imageOf
-one-of-each = (refl, refl)
-
--- ---- a hint of kind 1 that stands first and is worked last: the second ADRP is an ADR by then, and stays
-
-pub kind-1-last :
-    Runs pair
-    (hint MCLOH-AdrpAdrp 2 7 0 12 (place 0 0 0x1000) (place 4 0 0x1004) (place 0 0 0)
-    ++ hint MCLOH-AdrpAdd 2 7 0 12 (place 4 0 0x1004) (place 8 1 0x1008) (place 0 0 0))
-    (0x90000000 ∷ 0x90000000 ∷ 0x91000c00 ∷ [])
-    (counts 1 0 1 0)
-    (0x90000000 ∷ 0x70ffffe0 ∷ 0xd503201f ∷ [])
-unfolding choose le put bytes inRange bytesOf relocAt relocBytes insnAt hintAt hintBytes wordCount pageOf adrpPage within1mb adrpOf adrWord addOf
-    relAt isPageRel isPageoffRel sameReference isAbsent hasPagePair bothPages samePage adrpAdrp adrTo addAtPage adrpAdd sumOf admits ruleOf decide
-    isSkipped insnsIn insnsOf relsOf outcomeOf isList checkLists checkHint checkTo checkAll worked runOf imageOf
-kind-1-last = (refl, refl)
-
--- ---- ADRP_ADRP on one word twice
-
-pub twice : Runs pair (hint MCLOH-AdrpAdrp 2 0 0 4 (place 0 0 0x1000) (place 0 0 0x1000) (place 0 0 0)) (0x90000000 ∷ []) (counts 1 0 0 0) (0xd503201f ∷ [])
-unfolding choose le put bytes bytesOf relocAt relocBytes insnAt hintAt hintBytes wordCount pageOf adrpPage adrpOf relAt isPageRel bothPages samePage
-    adrpAdrp admits ruleOf decide isSkipped insnsIn insnsOf relsOf outcomeOf isList checkLists checkHint checkTo checkAll worked runOf imageOf
-twice = (refl, refl)
 
 -- ---- the numbers
 

@@ -3,7 +3,7 @@
 use mathlib.Core.Path.{_≡_, refl, sym, ap, _∙_}
 use mathlib.Core.Logic.{inl, inr}
 use mathlib.Core.Bool.{Bool, true, false}
-use mathlib.Core.List.{List, map}
+use mathlib.Core.List.{List}
 use Prim.Native.Nat.{ℕ, zero, suc, _+_, _*_, _/_, _≤_, _<_}
 use native.Mathlib.Omega.{arith}
 use borrow.Author.Tests.{eqb-false}
@@ -17,7 +17,7 @@ use Rattle.macho.specs.Hint.{noEntry}
 use Rattle.macho.specs.declared.hint.HintRecord.{HintRecord}
 use Rattle.macho.specs.declared.reloc.Reloc.{Reloc}
 use Rattle.arm64_rules.specs.Rels.{relAt, isPageRel, isPageoffRel, sameReference, isAbsent, hasPagePair, bothPages}
-use Rattle.arm64_rules.specs.Decide.{ruleOf, decide}
+use Rattle.arm64_decide.specs.Decide.{decide}
 use Rattle.arm64_rules.specs.declared.answer.Insns.{Insns}
 use Rattle.arm64_rules.specs.declared.answer.Decision.{Decision}
 use Rattle.arm64_rules.specs.declared.rels.Rel.{Rel}
@@ -30,7 +30,7 @@ use Rattle.order.specs.Cursor.{hintCount, objectAt, lateAt, orderOf}
 use Rattle.order.proofs.Lists.{less-or, once-inside}
 use Rattle.order.proofs.Own.{own-once}
 use Rattle.order.proofs.Same.{run-same}
-use Rattle.arm64_hints.specs.Hint.{hintOf, isSkipped, placesOf, insnsOf, relOf, relsOf, outcomeOf, newsOf, addOutcome, planOf, Named}
+use Rattle.arm64_hints.specs.Hint.{hintOf, isSkipped, placesOf, insnsOf, relsOf, outcomeOf, newsOf, addOutcome, planOf, Named}
 use Rattle.arm64_hints.specs.Check.{checkAll}
 use Rattle.arm64_hints.specs.Run.{start, worked, answerBy, imageBy, runOf, imageOf}
 use Rattle.arm64_hints.specs.declared.outcome.Outcome.{Outcome}
@@ -38,7 +38,6 @@ use Rattle.arm64_hints.specs.declared.outcome.Outcome.the-variants.{Skip
 use Rattle.arm64_hints.specs.declared.outcome.Tally.{Tally}
 use Rattle.arm64_hints.specs.declared.check.Check.{Check}
 use Rattle.arm64_hints.specs.declared.check.Check.the-variants.{Fine, Refused}
-use Rattle.arm64_hints.proofs.Places.{by-count}
 use Rattle.arm64_hints.proofs.Checks.{ready, each-fine}
 use Rattle.arm64_hints.proofs.Ignored.{le-set}
 
@@ -87,7 +86,7 @@ module _ (r q : Rels) (first : SameRel (r .r0) (q .r0)) (second : SameRel (r .r1
   same-pages = rw (same-page first false, same-page second false)
 
   same-decision : (kind : ℕ) (s : Insns) → decide kind s r ≡ decide kind s q
-  unfolding decide ruleOf
+  unfolding decide
   same-decision kind s = rw (same-pages, same-pair 2 false, same-pair 3 false, same-pair 3 true, same-pair 2 true)
 
 -- ---- lists of entries
@@ -108,21 +107,11 @@ module _ (entries entries′ : List ℕ) (sized : length entries ≡ length entr
           rw (choose-false (eqb m noEntry) Absent (named entries) e, choose-false (eqb m noEntry) Absent (named entries′) e)
           (both (alike m (let l = there (eqb-false m noEntry e) in omega arith)))
 
-  same-at : {l : List ℕ} → All (λ m. SameRel (relAt entries m) (relAt entries′ m)) l → (i : ℕ)
+  same-at : {l : List ℕ} → All (λ k. (k ≡ noEntry → ⊥) → 24 * k + 24 ≤ length entries) l → (i : ℕ)
       → SameRel (relAt entries (getD l i noEntry)) (relAt entries′ (getD l i noEntry))
   same-at empty i = same-rel noEntry (λ ne. absurd (ne refl))
-  same-at (more h rest) zero = h
+  same-at (more {k = m} h rest) zero = same-rel m h
   same-at (more h rest) (suc i) = same-at rest i
-
-  -- the entries that a hint names, place by place
-  same-named : (h : HintRecord) → Named h (length entries) → (i : ℕ) → SameRel (relAt entries (relOf h i)) (relAt entries′ (relOf h i))
-  same-named h named i =
-      let first = same-rel (h .insn0 .rel) (named .first) in
-      let second = same-rel (h .insn1 .rel) (named .second) in
-      by-count h (named .worked)
-      (λ l. SameRel (relAt entries (getD (map (λ j. j .rel) l) i noEntry)) (relAt entries′ (getD (map (λ j. j .rel) l) i noEntry)))
-      (λ n. same-at (more first (more second (more (same-rel (h .insn2 .rel) (named .third n)) empty))) i)
-      (λ n. same-at (more first (more second empty)) i)
 
   same-outcome : (h : HintRecord) (words : List ℕ) → (isSkipped h ≡ false → Named h (length entries)) → outcomeOf entries h words ≡ outcomeOf entries′ h words
   unfolding outcomeOf relsOf
@@ -131,7 +120,7 @@ module _ (entries entries′ : List ℕ) (sized : length entries ≡ length entr
       go : (t : Bool) → isSkipped h ≡ t → outcomeOf entries h words ≡ outcomeOf entries′ h words
       go true e = choose-true (isSkipped h) Skipped _ e ∙ sym (choose-true (isSkipped h) Skipped _ e)
       go false e =
-          let n = same-named h (named e) in
+          let n = same-at (named e .entries) in
           ap (λ (d : Decision). choose (isSkipped h) Skipped (Worked d (insnsOf h words)))
           (same-decision (relsOf entries h) (relsOf entries′ h) (n 0) (n 1) (n 2) (h .kind) (insnsOf h words))
 

@@ -1,5 +1,7 @@
 -- Laws that belong to no one function, and the theorems.
 pub mod Places
+pub mod Held
+pub mod Rulings
 pub mod Sections
 pub mod Rules
 pub mod Checks

@@ -14,7 +14,7 @@ use Rattle.order.proofs.Plan.{words-inside}
 use Rattle.arm64_hints.specs.Hint.{hintOf, isSkipped, placesOf, planOf, Inside}
 use Rattle.arm64_hints.specs.Check.{checkAll}
 use Rattle.arm64_hints.specs.declared.check.Check.the-variants.{Fine}
-use Rattle.arm64_hints.proofs.Places.{insns-none, offs-inside}
+use Rattle.arm64_hints.proofs.Places.{insns-none}
 use Rattle.arm64_hints.proofs.Checks.{ready, each-fine}
 
 -- offsets inside a part are places inside the part of the image
@@ -24,7 +24,7 @@ moved start len empty = empty
 moved start len (more {k = at} h rest) = more {k = start + at} (omega arith, omega arith) (moved start len rest)
 
 pub places-inside : (h : HintRecord) → Inside h (h .len) → All (λ at. (h .start ≤ at) × (at + 4 ≤ h .start + h .len)) (placesOf h)
-places-inside h i = moved (h .start) (h .len) (offs-inside h (h .len) i)
+places-inside h i = moved (h .start) (h .len) (i .words)
 
 -- a byte of a hint's words: the hint is not skipped, and the byte is one of its part
 pub in-part : (image hints entries : List ℕ) → checkAll (length image) hints (length entries) ≡ Fine → (k : ℕ) → k < hintCount hints → (b : ℕ)

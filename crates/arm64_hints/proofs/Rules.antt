@@ -1,35 +1,31 @@
 -- A rule at work on its section: what the eight functions and the choice over the kind share. Carried by equal arguments.
-use mathlib.Core.Path.{_≡_, sym, ap, ap₂, _∙_, subst}
+use mathlib.Core.Path.{_≡_, sym, ap, _∙_, subst}
 use mathlib.Core.Bool.{true, false, true≢false}
 use mathlib.Core.List.{List}
 use Prim.Native.Nat.{ℕ}
 use borrow.Author.Tests.{ne-eqb}
 use denote.Ref.{RefT}
-use lib.ListN.{length}
+use lib.ListN.{length, take}
 use Rattle.util.specs.Choice.{choose}
 use Rattle.macho.specs.Hint.{wordCount}
+use Rattle.macho.specs.declared.hint.HintInsn.{HintInsn}
 use Rattle.macho.specs.declared.hint.HintRecord.{HintRecord}
-use Rattle.arm64_rules.specs.Decide.{decide}
-use Rattle.arm64_rules.specs.declared.answer.Insns.{Insns}
-use Rattle.arm64_rules.specs.declared.answer.Decision.{Decision}
 use Rattle.arm64_rules.specs.declared.rels.Rels.{Rels}
-use Rattle.order.specs.Plan.{wordsAt, putWords}
-use Rattle.arm64_hints.specs.Hint.{isSkipped, offsOf, insnsOf, newsIn, ruledIn, sectionAfter, Inside}
+use Rattle.arm64_hints.specs.Hint.{isSkipped, insnsAll, ruledAt, sectionBy, ruledIn, sectionAfter, Inside}
 use Rattle.arm64_hints.specs.declared.outcome.Outcome.{Outcome}
-use Rattle.arm64_hints.specs.declared.outcome.Outcome.the-variants.{Worked}
+use Rattle.arm64_hints.proofs.Held.{held-ruled}
 
 -- the part of all that was lent has the words that were lent
 pub inside-same : (h : HintRecord) {a b : RefT (List ℕ)} → a ≡ b → Inside h (length (b .now)) → Inside h (length (a .now))
 inside-same h e i = subst (λ (l : ℕ). Inside h l) (sym (ap (λ (r : RefT (List ℕ)). length (r .now)) e)) i
 
 module _ (h : HintRecord) (r : Rels) where
-  -- words read in ys, which is the section xs, and a decision stored in ys, which leaves zs
-  pub loh-is : (kind : ℕ) {xs ys zs : List ℕ} {s : Insns} {d : Decision} → ys ≡ xs → s ≡ insnsOf h (wordsAt (offsOf h) ys) → d ≡ decide kind s r
-      → zs ≡ putWords (offsOf h) (newsIn d) ys → (Worked d s ≡ ruledIn kind h r xs) × (zs ≡ sectionAfter kind h r xs)
-  loh-is kind e read told stored =
-      let s = read ∙ ap (λ (y : List ℕ). insnsOf h (wordsAt (offsOf h) y)) e in
-      let d = told ∙ ap (λ (x : Insns). decide kind x r) s in
-      (ap₂ Worked d s, stored ∙ ap₂ (λ (x : Decision) (y : List ℕ). putWords (offsOf h) (newsIn x) y) d e)
+  -- the rule of a kind at the places of the array, in the section xs that was lent
+  pub loh-is : (kind : ℕ) {insns : List HintInsn} {xs ys zs : List ℕ} {o : Outcome} → insns ≡ insnsAll h → isSkipped h ≡ false → ys ≡ xs
+      → (o ≡ ruledAt kind (take (h .n) insns) r ys) × (zs ≡ sectionBy kind (take (h .n) insns) r ys)
+      → (o ≡ ruledIn kind h r xs) × (zs ≡ sectionAfter kind h r xs)
+  loh-is kind {zs = zs} {o = o} all worked e told =
+      subst (λ (l : List ℕ). (o ≡ ruledIn kind h r l) × (zs ≡ sectionAfter kind h r l)) e (held-ruled h all worked kind r _ told)
 
   -- the rule of the hint's own kind
   pub by-kind : (xs : List ℕ) {kind : ℕ} {zs : List ℕ} {o : Outcome} → h .kind ≡ kind → (o ≡ ruledIn kind h r xs) × (zs ≡ sectionAfter kind h r xs)

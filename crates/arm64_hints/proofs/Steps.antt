@@ -31,7 +31,7 @@ use Rattle.arm64_hints.specs.declared.outcome.Tally.{Tally}
 use Rattle.arm64_hints.specs.declared.check.Check.{Check}
 use Rattle.arm64_hints.specs.declared.check.Check.the-variants as C
 use Rattle.arm64_hints.specs.declared.run.RunAnswer.the-variants as A
-use Rattle.arm64_hints.proofs.Places.{insns-none, offs-inside}
+use Rattle.arm64_hints.proofs.Places.{insns-none}
 use Rattle.arm64_hints.proofs.Sections.{words-part, puts-part}
 
 -- ---- one hint
@@ -64,7 +64,7 @@ module _ (hints entries image : List ℕ) (k : ℕ) (h : HintRecord) (told : h �
     unfolding outcomeOf
     same-answer =
         ap (λ (x : Rels). ruledIn (h .kind) h x (part image (h .start) j)) named
-        ∙ ap (ruled (h .kind) h (relsOf entries h)) (words-part image (h .start) j (offs-inside h j inside))
+        ∙ ap (ruled (h .kind) h (relsOf entries h)) (words-part image (h .start) j (inside .words))
         ∙ sym (choose-false (isSkipped h) Skipped _ (inside .worked))
 
     pub worked-step : {o : Outcome} {zs : List ℕ} → o ≡ ruledIn (h .kind) h r (part image (h .start) j)
@@ -74,7 +74,7 @@ module _ (hints entries image : List ℕ) (k : ℕ) (h : HintRecord) (told : h �
         subst (λ (g : HintRecord). (o ≡ answerOf entries g image) × (splice image (h .start) j zs ≡ imageAfter entries g image)) told (
           answers ∙ same-answer,
           ap (splice image (h .start) j) stores
-              ∙ puts-part image (h .start) j fits (offs-inside h j inside) (newsOf (ruledIn (h .kind) h r (part image (h .start) j)))
+              ∙ puts-part image (h .start) j fits (inside .words) (newsOf (ruledIn (h .kind) h r (part image (h .start) j)))
               ∙ ap (λ (x : Outcome). putWords (placesOf h) (newsOf x) image) same-answer,
         )
 

@@ -1,25 +1,24 @@
 -- A lent hint: its words, what is decided of them, and the tally (document 01, "Records lent by the linker" and "Fix-up and hint rules";
 -- arch/arm64.rs, `Hint` and `apply_hints`).
-use Prim.Native.Nat.{ℕ, _+_, _*_, _≤_}
+use Prim.Native.Nat.{ℕ, _+_, _*_}
 use mathlib.Core.Path.{_≡_}
 use mathlib.Core.Bool.{Bool, false, _||_, not}
 use mathlib.Core.List.{List, [], _∷_, map}
-use mathlib.Core.Option.{Option, none, some}
+use mathlib.Core.Option.{Option}
 use lib.Dec.{eqb}
-use lib.ListN.{getD}
+use lib.ListN.{getD, take}
 use Rattle.util.specs.Choice.{choose}
-use Rattle.macho.specs.Hint.{hintAt, noEntry, wordCount}
+use Rattle.macho.specs.Hint.{hintAt, wordCount}
 use Rattle.macho.specs.declared.hint.HintInsn.{HintInsn}
 use Rattle.macho.specs.declared.hint.HintRecord.{HintRecord}
-use Rattle.arm64_rules.specs.Rels.{relAt}
-use Rattle.arm64_rules.specs.Decide.{decide}
+use Rattle.arm64_decide.specs.Decide.{decide}
 use Rattle.arm64_rules.specs.declared.answer.Insns.{Insns}
-use Rattle.arm64_rules.specs.declared.answer.NewWord.{NewWord}
-use Rattle.arm64_rules.specs.declared.answer.NewWord.the-variants.{Keep, Set}
 use Rattle.arm64_rules.specs.declared.answer.Decision.{Decision}
 use Rattle.arm64_rules.specs.declared.answer.Decision.the-variants.{Declined, Nine, Rewritten}
 use Rattle.arm64_rules.specs.declared.rels.Rels.{Rels}
 use Rattle.order.specs.Plan.{wordsAt, putWords, Plan}
+use Rattle.arm64_held.specs.Place.{offsets, addresses, newOf, InBytes}
+use Rattle.arm64_held.specs.Entry.{relsIn, InEntries}
 use Rattle.arm64_hints.specs.declared.outcome.Outcome.{Outcome}
 use Rattle.arm64_hints.specs.declared.outcome.Outcome.the-variants.{Skipped, Worked}
 use Rattle.arm64_hints.specs.declared.outcome.Tally.{Tally}
@@ -32,13 +31,17 @@ hintOf hints k = hintAt hints (64 * k)
 unfoldable pub isSkipped : HintRecord → Bool
 isSkipped h = eqb (wordCount (h .kind)) 0 || not (eqb (h .n) (wordCount (h .kind)))
 
--- the places of a hint's words, two or three by its word count; none of a hint that is skipped
+-- the three places of a hint
+abbrev pub insnsAll : HintRecord → List HintInsn
+insnsAll h = h .insn0 ∷ h .insn1 ∷ h .insn2 ∷ []
+
+-- the places of its words, up to its word count; none of a hint that is skipped
 unfoldable pub insnsIn : HintRecord → List HintInsn
-insnsIn h = choose (isSkipped h) [] (choose (eqb (h .n) 3) (h .insn0 ∷ h .insn1 ∷ h .insn2 ∷ []) (h .insn0 ∷ h .insn1 ∷ []))
+insnsIn h = choose (isSkipped h) [] (take (h .n) (insnsAll h))
 
 -- the offsets of its words in its part
 abbrev pub offsOf : HintRecord → List ℕ
-offsOf h = map (λ i. i .off) (insnsIn h)
+offsOf h = offsets (insnsIn h)
 
 -- and where they stand in the image
 abbrev pub placesOf : HintRecord → List ℕ
@@ -46,27 +49,31 @@ placesOf h = map (λ at. h .start + at) (offsOf h)
 
 -- the words' own addresses
 abbrev pub addrsOf : HintRecord → List ℕ
-addrsOf h = map (λ i. i .addr) (insnsIn h)
+addrsOf h = addresses (insnsIn h)
 
--- words with their addresses, in the order of the places; zeros past the word count
-unfoldable pub insnsOf : HintRecord → List ℕ → Insns
-insnsOf h words =
+-- words with their addresses, in the order of the places; zeros past them
+abbrev pub insnsWith : List HintInsn → List ℕ → Insns
+insnsWith insns words =
     record {
       w0 = getD words 0 0;
       w1 = getD words 1 0;
       w2 = getD words 2 0;
-      p0 = getD (addrsOf h) 0 0;
-      p1 = getD (addrsOf h) 1 0;
-      p2 = getD (addrsOf h) 2 0;
+      p0 = getD (addresses insns) 0 0;
+      p1 = getD (addresses insns) 1 0;
+      p2 = getD (addresses insns) 2 0;
     }
 
--- the number of the entry that place i names, none past the word count
-abbrev pub relOf : HintRecord → ℕ → ℕ
-relOf h i = getD (map (λ i. i .rel) (insnsIn h)) i noEntry
+-- the words that stand at the places
+abbrev pub wordsIn : List ℕ → List HintInsn → Insns
+wordsIn bytes insns = insnsWith insns (wordsAt (offsets insns) bytes)
+
+-- and a hint's, up to its word count
+unfoldable pub insnsOf : HintRecord → List ℕ → Insns
+insnsOf h words = insnsWith (insnsIn h) words
 
 -- the entries that the places name
 unfoldable pub relsOf : List ℕ → HintRecord → Rels
-relsOf entries h = record { r0 = relAt entries (relOf h 0); r1 = relAt entries (relOf h 1); r2 = relAt entries (relOf h 2) }
+relsOf entries h = relsIn entries (insnsIn h)
 
 -- what the rule of a kind answers to a hint's words
 abbrev pub ruled : ℕ → HintRecord → Rels → List ℕ → Outcome
@@ -75,11 +82,6 @@ ruled kind h r words = Worked (decide kind (insnsOf h words) r) (insnsOf h words
 -- a hint's outcome, by its own kind and the entries that it names
 unfoldable pub outcomeOf : List ℕ → HintRecord → List ℕ → Outcome
 outcomeOf entries h words = choose (isSkipped h) Skipped (ruled (h .kind) h (relsOf entries h) words)
-
--- a place's new word
-abbrev pub newOf : NewWord → Option ℕ
-newOf Keep = none
-newOf (Set word) = some word
 
 -- the new words of a decision, place by place
 abbrev pub newsIn : Decision → List (Option ℕ)
@@ -91,6 +93,14 @@ newsIn (Rewritten p) = newOf (p .w0) ∷ newOf (p .w1) ∷ newOf (p .w2) ∷ []
 abbrev pub newsOf : Outcome → List (Option ℕ)
 newsOf Skipped = []
 newsOf (Worked d s) = newsIn d
+
+-- what the rule of a kind answers to the words of places in a section
+abbrev pub ruledAt : ℕ → List HintInsn → Rels → List ℕ → Outcome
+ruledAt kind insns r section = Worked (decide kind (wordsIn section insns) r) (wordsIn section insns)
+
+-- and the section that it leaves
+abbrev pub sectionBy : ℕ → List HintInsn → Rels → List ℕ → List ℕ
+sectionBy kind insns r section = putWords (offsets insns) (newsOf (ruledAt kind insns r section)) section
 
 -- what the rule of a kind answers in a hint's section
 abbrev pub ruledIn : ℕ → HintRecord → Rels → List ℕ → Outcome
@@ -127,13 +137,9 @@ planOf hints entries = record {
 -- a hint that is not skipped, whose words stand inside a part of len bytes
 pub record Inside (h : HintRecord) (len : ℕ) : Type 0 where
   pub worked : isSkipped h ≡ false
-  pub first : h .insn0 .off + 4 ≤ len
-  pub second : h .insn1 .off + 4 ≤ len
-  pub third : h .n ≡ 3 → h .insn2 .off + 4 ≤ len
+  pub words : InBytes len (insnsIn h)
 
 -- a hint that is not skipped, whose entries stand inside a list of len bytes
 pub record Named (h : HintRecord) (len : ℕ) : Type 0 where
   pub worked : isSkipped h ≡ false
-  pub first : (h .insn0 .rel ≡ noEntry → ⊥) → 24 * h .insn0 .rel + 24 ≤ len
-  pub second : (h .insn1 .rel ≡ noEntry → ⊥) → 24 * h .insn1 .rel + 24 ≤ len
-  pub third : h .n ≡ 3 → (h .insn2 .rel ≡ noEntry → ⊥) → 24 * h .insn2 .rel + 24 ≤ len
+  pub entries : InEntries len (insnsIn h)

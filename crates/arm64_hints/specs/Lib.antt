@@ -1,4 +1,5 @@
 -- The definitions that the contracts of arm64_hints cite.
 pub mod Hint
+pub mod Rule
 pub mod Check
 pub mod Run

@@ -14,6 +14,7 @@ use Rattle.arm64_hints.specs.declared.check.Check.{Check}
 use Rattle.arm64_hints.specs.declared.check.Check.the-variants as C
 use Rattle.arm64_hints.specs.declared.run.RunAnswer.{RunAnswer}
 use Rattle.arm64_hints.specs.declared.run.RunAnswer.the-variants as A
+use Rattle.arm64_hints.specs.declared.tally.RunEnd.{RunEnd}
 
 -- four zeros
 abbrev pub zeros : Tally
@@ -49,3 +50,12 @@ imageOf image hints entries = imageBy (checkAll (length image) hints (length ent
 abbrev pub numberOf : RunAnswer → ℕ
 numberOf (A.Done t) = 0
 numberOf (A.Refused x) = Refusal.numberOf x
+
+-- a lent tally after an answer: the new counts, or the old ones
+abbrev pub tallyAfter : Tally → RunAnswer → Tally
+tallyAfter old (A.Done t) = t
+tallyAfter old (A.Refused x) = old
+
+-- tally and number after an answer
+abbrev pub endOf : Tally → RunAnswer → RunEnd
+endOf old a = record { tally = tallyAfter old a; number = numberOf a }

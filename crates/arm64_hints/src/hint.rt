@@ -1,12 +1,12 @@
-// A hint: whether it is skipped, and the entries of its places.
-use arm64_rules::rels::Rel;
+// A hint: whether it is skipped, its places, and the entries that they name.
+use arm64_held::place::rels_in;
 use arm64_rules::rels::Rels;
-use arm64_rules::rels::rel_at;
+use macho::hint::HintInsn;
 use macho::hint::HintRecord;
 use macho::hint::word_count;
 ghost use mathlib.Core.Path.{_≡_};
 ghost use lib.ListN.{length};
-ghost use Rattle.arm64_hints.specs.Hint.{isSkipped, relsOf, Named};
+ghost use Rattle.arm64_hints.specs.Hint.{isSkipped, insnsAll, relsOf, Named};
 
 // Whether a hint is skipped: there is no such kind, or its word count is not the kind's.
 pub fn is_skipped(h: HintRecord) -> bool
@@ -16,17 +16,20 @@ pub fn is_skipped(h: HintRecord) -> bool
     n == 0 || h.n != n
 }
 
+// The three places of a hint.
+pub fn insns_all(h: HintRecord) -> [HintInsn; 3]
+    ensures { λ r. ⌜ r ≡ insnsAll h ⌝ }
+{
+    let i0 = h.insn0;
+    let i1 = h.insn1;
+    let i2 = h.insn2;
+    [i0, i1, i2]
+}
+
 // The entries that the places name, up to the word count.
 pub fn rels_of(entries: &[u8], h: HintRecord) -> Rels
     requires { ⌜ Named h (length (now entries)) ⌝ }
     ensures { λ r. ⌜ r ≡ relsOf (now (entries .entry)) h ⌝ }
 {
-    let r0 = rel_at(entries, h.insn0.rel);
-    let r1 = rel_at(entries, h.insn1.rel);
-    if h.n == 3 {
-        let r2 = rel_at(entries, h.insn2.rel);
-        return Rels { r0, r1, r2 };
-    }
-    let r2 = Rel::Absent;
-    Rels { r0, r1, r2 }
+    rels_in(entries, insns_all(h), h.n as usize)
 }

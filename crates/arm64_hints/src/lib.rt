@@ -4,6 +4,7 @@ pub mod hint;
 pub mod loh;
 pub mod outcome;
 pub mod part;
+pub mod rule;
 pub mod run;
-pub mod words;
+pub mod tally;
 pub mod work;

@@ -1,17 +1,10 @@
-// The eight hint rules at work: each gets its section as the part of what is lent, reads its words there, and stores what is decided through it.
+// The eight hint rules at work: each gets its section as the part of what is lent, and rules by its kind there.
+use crate::hint::insns_all;
 use crate::outcome::Outcome;
 use crate::part::part;
-use crate::words::insns_in;
-use crate::words::store;
-use arm64_rules::decide::decide_adrp_add;
-use arm64_rules::decide::decide_adrp_add_ldr;
-use arm64_rules::decide::decide_adrp_add_str;
-use arm64_rules::decide::decide_adrp_adrp;
-use arm64_rules::decide::decide_adrp_ldr;
-use arm64_rules::decide::decide_adrp_ldr_got;
-use arm64_rules::decide::decide_adrp_ldr_got_ldr;
-use arm64_rules::decide::decide_adrp_ldr_got_str;
+use crate::rule::rule;
 use arm64_rules::rels::Rels;
+use macho::consts;
 use macho::hint::HintRecord;
 ghost use mathlib.Core.Path.{_≡_};
 ghost use lib.ListN.{length};
@@ -27,10 +20,13 @@ pub fn loh_adrp_adrp(section: &mut [u8], h: HintRecord, r: Rels) -> Outcome
 {
     let len = section.len();
     let buf = part(section, 0, len);
-    let s = insns_in(buf, h);
-    let d = decide_adrp_adrp(s, r);
-    store(buf, h, d);
-    Outcome::Worked(d, s)
+    rule(
+        buf,
+        insns_all(h),
+        h.n as usize,
+        consts::LOH_ARM64_ADRP_ADRP,
+        r,
+    )
 }
 
 // A load from within 1 MiB of itself becomes a literal load.
@@ -41,10 +37,13 @@ pub fn loh_adrp_ldr(section: &mut [u8], h: HintRecord, r: Rels) -> Outcome
 {
     let len = section.len();
     let buf = part(section, 0, len);
-    let s = insns_in(buf, h);
-    let d = decide_adrp_ldr(s, r);
-    store(buf, h, d);
-    Outcome::Worked(d, s)
+    rule(
+        buf,
+        insns_all(h),
+        h.n as usize,
+        consts::LOH_ARM64_ADRP_LDR,
+        r,
+    )
 }
 
 // An address within 1 MiB of the ADRP becomes an ADR.
@@ -55,10 +54,13 @@ pub fn loh_adrp_add(section: &mut [u8], h: HintRecord, r: Rels) -> Outcome
 {
     let len = section.len();
     let buf = part(section, 0, len);
-    let s = insns_in(buf, h);
-    let d = decide_adrp_add(s, r);
-    store(buf, h, d);
-    Outcome::Worked(d, s)
+    rule(
+        buf,
+        insns_all(h),
+        h.n as usize,
+        consts::LOH_ARM64_ADRP_ADD,
+        r,
+    )
 }
 
 // A load through ADRP and ADD: a literal load, an ADR, or the fold.
@@ -69,10 +71,13 @@ pub fn loh_adrp_add_ldr(section: &mut [u8], h: HintRecord, r: Rels) -> Outcome
 {
     let len = section.len();
     let buf = part(section, 0, len);
-    let s = insns_in(buf, h);
-    let d = decide_adrp_add_ldr(s, r);
-    store(buf, h, d);
-    Outcome::Worked(d, s)
+    rule(
+        buf,
+        insns_all(h),
+        h.n as usize,
+        consts::LOH_ARM64_ADRP_ADD_LDR,
+        r,
+    )
 }
 
 // A store through ADRP and ADD: an ADR, or the fold.
@@ -83,10 +88,13 @@ pub fn loh_adrp_add_str(section: &mut [u8], h: HintRecord, r: Rels) -> Outcome
 {
     let len = section.len();
     let buf = part(section, 0, len);
-    let s = insns_in(buf, h);
-    let d = decide_adrp_add_str(s, r);
-    store(buf, h, d);
-    Outcome::Worked(d, s)
+    rule(
+        buf,
+        insns_all(h),
+        h.n as usize,
+        consts::LOH_ARM64_ADRP_ADD_STR,
+        r,
+    )
 }
 
 // A GOT load: a literal load of the slot, or an ADR where it was relaxed.
@@ -97,10 +105,13 @@ pub fn loh_adrp_ldr_got(section: &mut [u8], h: HintRecord, r: Rels) -> Outcome
 {
     let len = section.len();
     let buf = part(section, 0, len);
-    let s = insns_in(buf, h);
-    let d = decide_adrp_ldr_got(s, r);
-    store(buf, h, d);
-    Outcome::Worked(d, s)
+    rule(
+        buf,
+        insns_all(h),
+        h.n as usize,
+        consts::LOH_ARM64_ADRP_LDR_GOT,
+        r,
+    )
 }
 
 // A load through a GOT load.
@@ -111,10 +122,13 @@ pub fn loh_adrp_ldr_got_ldr(section: &mut [u8], h: HintRecord, r: Rels) -> Outco
 {
     let len = section.len();
     let buf = part(section, 0, len);
-    let s = insns_in(buf, h);
-    let d = decide_adrp_ldr_got_ldr(s, r);
-    store(buf, h, d);
-    Outcome::Worked(d, s)
+    rule(
+        buf,
+        insns_all(h),
+        h.n as usize,
+        consts::LOH_ARM64_ADRP_LDR_GOT_LDR,
+        r,
+    )
 }
 
 // A store through a GOT load.
@@ -125,8 +139,11 @@ pub fn loh_adrp_ldr_got_str(section: &mut [u8], h: HintRecord, r: Rels) -> Outco
 {
     let len = section.len();
     let buf = part(section, 0, len);
-    let s = insns_in(buf, h);
-    let d = decide_adrp_ldr_got_str(s, r);
-    store(buf, h, d);
-    Outcome::Worked(d, s)
+    rule(
+        buf,
+        insns_all(h),
+        h.n as usize,
+        consts::LOH_ARM64_ADRP_LDR_GOT_STR,
+        r,
+    )
 }

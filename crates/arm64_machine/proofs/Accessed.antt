@@ -14,7 +14,7 @@ use Rattle.util.proofs.Below.{every}
 use Rattle.util.proofs.Choice.{both, choose-true}
 use Rattle.arm64_insn.specs.Fix.{scaleOf}
 use Rattle.arm64_insn.specs.Literal.{hasLiteralForm, literalWord, baseWord}
-use Rattle.arm64_insn.specs.LoadStore.{loadStoreOf}
+use Rattle.arm64_insn.specs.LoadStore.{loadStoreOf, takenWord, loadStoreFrom}
 use Rattle.arm64_insn.specs.LoadStoreTable.{Row, load, store, prefetch, unallocated, Mnemonic, general, vector, Widening, rowOf, movedBy, moves, isStore}
 use Rattle.arm64_insn.specs.Manual.{allocated, imm12In, sizeIn, vIn, opcIn, rowIn}
 use Rattle.arm64_insn.specs.ManualTargets.{accessAddress}
@@ -22,7 +22,7 @@ use Rattle.arm64_insn.specs.declared.ldst.LoadStore as L
 use Rattle.arm64_insn.specs.declared.ldst.LoadStoreWord.the-variants as LoadStoreWord
 use Rattle.arm64_insn.proofs.Cells.{each-cell}
 use Rattle.arm64_insn.proofs.Decoded.{decoded-load-store}
-use Rattle.arm64_insn.proofs.Decodes.{takenWord, loadStoreFrom, decodes-load-store, load-store-decodes, taken-decodes, load-store-scale}
+use Rattle.arm64_insn.proofs.Decodes.{decodes-load-store, load-store-decodes, taken-decodes, load-store-scale}
 use Rattle.arm64_insn.proofs.Encodes.{based-made, literal-made, literal-row}
 use Rattle.arm64_insn.proofs.Scale.{scale-le}
 use Rattle.arm64_machine.specs.Machine.{access, literal, action}

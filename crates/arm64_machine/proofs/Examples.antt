@@ -1,11 +1,11 @@
 -- The machine on closed words: each fact is computed.
-use mathlib.Core.Path.{_≡_, refl}
+use mathlib.Core.Path.{_≡_, refl, ap}
 use mathlib.Core.List.{[], _∷_}
 use Prim.Native.Nat.{ℕ, _+_, _%_}
 use Rattle.util.specs.Choice.{choose}
 use Rattle.arm64_insn.specs.LoadStoreTable.{rowOf, literalRowOf}
 use Rattle.arm64_insn.specs.Manual.{decode}
-use Rattle.arm64_insn.specs.ManualTargets.{adrTarget, literalTarget, accessAddress}
+use Rattle.arm64_insn.specs.ManualTargets.{adrTarget, literalTarget, accessAddress, addValue}
 use Rattle.arm64_insn.specs.Page.{pageOf, adrpPage}
 use Rattle.arm64_insn.specs.Manual as Manual
 use Rattle.arm64_machine.specs.Premises.{Each, links31, adds31, storesMade, Fair}
@@ -13,7 +13,7 @@ use Rattle.arm64_machine.specs.SameRun.{SameRun}
 use Rattle.arm64_machine.proofs.FairLaws.{load-literal, add-adr, chain}
 use Rattle.arm64_machine.proofs.FairTest.{fair-by}
 use Rattle.arm64_machine.proofs.Rewrites.{folded}
-use Rattle.arm64_machine.proofs.Different.{literal-elsewhere}
+use Rattle.arm64_machine.proofs.Different.{access-dropped, literal-elsewhere, adrp-dropped, adrp-dropped-before, other-replaced, sign-lost}
 use lib.Dec.{lit<}
 use native.Mathlib.Omega.{arith}
 use Rattle.arm64_machine.specs.Machine.{Kind, load, store, Access, State, Other, placed, other, action}
@@ -72,7 +72,8 @@ pub record Examples : Type 0 where
   others : Each (λ w. action w ≡ other) (0xf9800000 ∷ 0x91400420 ∷ 0x11000420 ∷ 0x14000001 ∷ 0x94000001 ∷ 0xd61f0200 ∷ 0xd2800000 ∷ 0xbd800000 ∷ [])
 
 examples : Examples
-unfolding action decode choose rowOf literalRowOf pageOf adrpPage adrTarget literalTarget accessAddress base moved read write setX setSP setV setMemory listed
+unfolding action decode choose rowOf literalRowOf pageOf adrpPage adrTarget literalTarget accessAddress addValue base moved read write setX setSP setV
+    setMemory listed
 examples = record {
   adr = refl;
   adrp-up = refl;
@@ -111,7 +112,7 @@ unfolding Manual.allocated links31 adds31 storesMade action decode choose
 fair-7 = fair-by refl refl refl refl refl
 
 pub piece-7 : SameRun (placed 0x90000000 0x1000 ∷ placed 0x91000c00 0x1004 ∷ []) (placed 0x70000000 0x1000 ∷ placed 0xd503201f 0x1004 ∷ [])
-unfolding action decode choose pageOf adrpPage adrTarget
+unfolding action decode choose pageOf adrpPage adrTarget addValue
 piece-7 = add-adr fair-7 refl refl refl refl refl
 
 pub fair-8 : Fair (placed 0x90001000 0x1000 ∷ placed 0x91004000 0x1004 ∷ placed 0xf9000001 0x1008 ∷ [])
@@ -120,10 +121,56 @@ fair-8 = fair-by refl refl refl refl refl
 
 pub piece-8 : SameRun (placed 0x90001000 0x1000 ∷ placed 0x91004000 0x1004 ∷ placed 0xf9000001 0x1008 ∷ [])
     (placed 0x90001000 0x1000 ∷ placed 0xd503201f 0x1004 ∷ placed 0xf9000801 0x1008 ∷ [])
-unfolding action decode choose rowOf pageOf adrpPage accessAddress
+unfolding action decode choose rowOf pageOf adrpPage accessAddress addValue
 piece-8 = folded (chain fair-8 refl refl refl) refl refl refl
 
 -- piece 6 with the literal load 4 bytes off
 pub off-by-4 : SameRun (placed 0x90000000 0x1000 ∷ placed 0xf9400401 0x1004 ∷ []) (placed 0xd503201f 0x1000 ∷ placed 0x58000041 0x1004 ∷ []) → ⊥
 unfolding action decode choose rowOf literalRowOf pageOf adrpPage literalTarget accessAddress
 off-by-4 = literal-elsewhere 0x90000000 0xf9400401 0xd503201f 0x58000041 refl refl refl refl (lit< tt) (λ e. omega arith)
+
+-- wrong rewrites of closed words, each refuted
+pub record Refuted : Type 0 where
+  -- ldr x1, [x0, #8]; str w1, [x0, #8]; adrp x0: each by NOP
+  load-dropped : SameRun (placed 0xf9400401 0x1004 ∷ []) (placed 0xd503201f 0x1004 ∷ []) → ⊥
+  store-dropped : SameRun (placed 0xb9000801 0x1004 ∷ []) (placed 0xd503201f 0x1004 ∷ []) → ⊥
+  adrp-dropped : SameRun (placed 0x90000000 0x1000 ∷ []) (placed 0xd503201f 0x1000 ∷ []) → ⊥
+  -- adrp x0 before prfm, by NOP
+  adrp-before : SameRun (placed 0x90000000 0x1000 ∷ placed 0xf9800000 0x1004 ∷ []) (placed 0xd503201f 0x1000 ∷ placed 0xf9800000 0x1004 ∷ []) → ⊥
+  -- br x16 by mov x0, #0, both other words
+  other-word : SameRun (placed 0xd61f0200 0x1000 ∷ []) (placed 0xd2800000 0x1000 ∷ []) → ⊥
+  -- adrp x0; ldrsw x1, [x0, #4], by NOP and ldr w1 of the same word
+  no-sign : SameRun (placed 0x90000000 0x1000 ∷ placed 0xb9800401 0x1004 ∷ []) (placed 0xd503201f 0x1000 ∷ placed 0x18000001 0x1004 ∷ []) → ⊥
+
+pub refuted : Refuted
+unfolding action decode choose rowOf literalRowOf pageOf adrpPage literalTarget accessAddress
+refuted = record {
+  load-dropped = access-dropped 0xf9400401 0xd503201f refl refl;
+  store-dropped = access-dropped 0xb9000801 0xd503201f refl refl;
+  adrp-dropped = adrp-dropped 0x90000000 0xd503201f refl refl (lit< tt);
+  adrp-before = adrp-dropped-before 0x90000000 0xd503201f 0xf9800000 refl refl refl (lit< tt);
+  other-word = other-replaced 0xd61f0200 0xd2800000 refl refl (λ e. omega arith);
+  no-sign = sign-lost 0x90000000 0xb9800401 0xd503201f 0x18000001 refl refl refl refl (lit< tt);
+}
+
+-- vector registers count: ldr s1, [x0] and ldr s2, [x0] list the same access
+pub other-vector : SameRun (placed 0xbd400001 0x1004 ∷ []) (placed 0xbd400002 0x1004 ∷ []) → ⊥
+unfolding action decode choose rowOf accessAddress base moved read setV listed
+other-vector same = let z : _≡_ {A = ℕ} 0xf3f2f1f0 0x10f1 = same .agree idle start .v 1 in omega arith
+
+-- memory counts: other words that put themselves in every byte, and list nothing
+abbrev filling : Other
+filling w p x sp v memory = record { x = x; sp = sp; v = v; memory = λ a. w; log = [] }
+
+pub other-memory : SameRun (placed 0xd61f0200 0x1000 ∷ []) (placed 0xd2800000 0x1000 ∷ []) → ⊥
+unfolding action decode choose
+other-memory same =
+    let z : _≡_ {A = ℕ} 0xd61f0200 0xd2800000 = ap (λ (m : ℕ → ℕ). m 0) (same .agree filling start .memory) in
+    omega arith
+
+-- and so it does after a store: str w1, [x0, #8] and NOP
+pub store-memory : SameRun (placed 0xb9000801 0x1004 ∷ []) (placed 0xd503201f 0x1004 ∷ []) → ⊥
+unfolding action decode choose rowOf accessAddress base moved write setMemory listed
+store-memory same =
+    let z : _≡_ {A = ℕ} 0x10 0xf9 = ap (λ (m : ℕ → ℕ). m 0x10f9) (same .agree idle start .memory) in
+    omega arith

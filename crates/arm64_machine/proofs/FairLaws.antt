@@ -7,10 +7,9 @@ use Prim.Native.Nat.{ℕ, _<_}
 use native.Mathlib.Omega.{arith}
 use lib.Dec.{eqb, ltb}
 use borrow.Author.Tests.{eqb-false}
-use Rattle.util.specs.Wrap.{sum}
 use Rattle.arm64_insn.specs.LoadStoreTable.{Row, load, store, prefetch, unallocated, Mnemonic, general, vector, Widening}
 use Rattle.arm64_insn.specs.Manual as Manual
-use Rattle.arm64_insn.specs.ManualTargets.{adrTarget, literalTarget, accessAddress}
+use Rattle.arm64_insn.specs.ManualTargets.{adrTarget, literalTarget, accessAddress, addValue}
 use Rattle.arm64_insn.specs.Page.{adrpPage}
 use Rattle.arm64_machine.specs.Machine.{Action, adr, adrp, add, access, literal, nop, action, State, Placed, placed, Other}
 use Rattle.arm64_machine.specs.SameRun.{writesOr, SameRun}
@@ -68,7 +67,7 @@ load-literal {a} {b} {d = d} h ea eb en el e =
 
 -- ADRP, ADD: ADR and NOP
 pub add-adr : {a b a′ n p q d k e i j : ℕ} → Fair (placed a p ∷ placed b q ∷ []) → action a ≡ adrp d k → action b ≡ add e d i
-    → action a′ ≡ adr e j → action n ≡ nop → sum (adrpPage k p) i ≡ adrTarget j p
+    → action a′ ≡ adr e j → action n ≡ nop → addValue 1 0 (adrpPage k p) i ≡ adrTarget j p
     → SameRun (placed a p ∷ placed b q ∷ []) (placed a′ p ∷ placed n q ∷ [])
 add-adr {a} {b} {d = d} h ea eb er en e =
     Rewrites.add-adr ea eb er en (linked-low a b d (h .no-31-link .0) ea (rw eb)) (added-low b (h .no-31-added .1 .0) eb) e

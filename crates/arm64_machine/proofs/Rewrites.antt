@@ -8,10 +8,9 @@ use native.Mathlib.Omega.{arith}
 use lib.Dec.{eqb}
 use borrow.Author.Tests.{eq-eqb, ne-eqb}
 use Rattle.util.specs.Choice.{choose}
-use Rattle.util.specs.Wrap.{sum}
 use Rattle.util.proofs.Choice.{choose-true, choose-false}
 use Rattle.arm64_insn.specs.LoadStoreTable.{Row, load, Mnemonic, general, Widening}
-use Rattle.arm64_insn.specs.ManualTargets.{adrTarget, literalTarget, accessAddress}
+use Rattle.arm64_insn.specs.ManualTargets.{adrTarget, literalTarget, accessAddress, addValue}
 use Rattle.arm64_insn.specs.Page.{adrpPage}
 use Rattle.arm64_machine.specs.Machine.{adr, adrp, add, access, literal, nop, action}
 use Rattle.arm64_machine.specs.Machine.{State, Placed, placed, Other, setX, base, moved, run}
@@ -60,7 +59,7 @@ load-literal {p = p} {d = d} {k = k} {t = t} {row = row} ea eb en el hd ht kept 
 
 -- ADRP, ADD: ADR and NOP
 pub add-adr : {a b a′ n p q d k e i j : ℕ} → action a ≡ adrp d k → action b ≡ add e d i → action a′ ≡ adr e j → action n ≡ nop
-    → d < 31 → e < 31 → sum (adrpPage k p) i ≡ adrTarget j p
+    → d < 31 → e < 31 → addValue 1 0 (adrpPage k p) i ≡ adrTarget j p
     → SameRun (placed a p ∷ placed b q ∷ []) (placed a′ p ∷ placed n q ∷ [])
 unfolding choose
 add-adr {p = p} {d = d} {k = k} {e = e} ea eb er en hd he h =
@@ -96,7 +95,8 @@ pub record Chain (a b c d k e i t j : ℕ) (row : Row) : Type 0 where
 module _ {a b c d k e i t j : ℕ} {row : Row} (h : Chain a b c d k e i t j row) where
   -- by words that make the same access from a state that differs in the two registers only
   by-access : {p q r : ℕ} {new : List Placed} (z : State → State)
-      → ((o : Other) (s : State) → run o new s ≡ moved row t (accessAddress row (sum (adrpPage k p) i) j) (z s)) → ((s : State) → Agree (made d e) s (z s))
+      → ((o : Other) (s : State) → run o new s ≡ moved row t (accessAddress row (addValue 1 0 (adrpPage k p) i) j) (z s))
+      → ((s : State) → Agree (made d e) s (z s))
       → SameRun (placed a p ∷ placed b q ∷ placed c r ∷ []) new
   unfolding choose
   by-access {p = p} z g y =
@@ -108,19 +108,19 @@ module _ {a b c d k e i t j : ℕ} {row : Row} (h : Chain a b c d k e i t j row)
         h .access-c,
         base-set d (adrpPage k p) s (h .low-d),
         not-31 e (h .low-e),
-        base-set e (sum (adrpPage k p) i) (setX d (adrpPage k p) s) (h .low-e),
+        base-set e (addValue 1 0 (adrpPage k p) i) (setX d (adrpPage k p) s) (h .low-e),
         g o s,
       )
       (accesses (made d e) row t _ (h .low-t) (h .kept) (left (made d e) e _ (made-e d e) (left (made d e) d _ (made-d d e) (y s)))))
 
   -- NOP, NOP and a literal load
-  pub add-literal : {n c′ p q r l : ℕ} → action n ≡ nop → action c′ ≡ literal row t l → accessAddress row (sum (adrpPage k p) i) j ≡ literalTarget l r
+  pub add-literal : {n c′ p q r l : ℕ} → action n ≡ nop → action c′ ≡ literal row t l → accessAddress row (addValue 1 0 (adrpPage k p) i) j ≡ literalTarget l r
       → SameRun (placed a p ∷ placed b q ∷ placed c r ∷ []) (placed n p ∷ placed n q ∷ placed c′ r ∷ [])
   add-literal en el w = by-access (λ s. s) (λ o s. rw (en, el, w)) (λ s. same _ s)
 
   -- ADR, NOP and the access through ADR's register
   pub add-adr-access : {a′ n c′ p q r l j′ : ℕ} → action a′ ≡ adr e l → action n ≡ nop → action c′ ≡ access row t e j′
-      → accessAddress row (sum (adrpPage k p) i) j ≡ accessAddress row (adrTarget l p) j′
+      → accessAddress row (addValue 1 0 (adrpPage k p) i) j ≡ accessAddress row (adrTarget l p) j′
       → SameRun (placed a p ∷ placed b q ∷ placed c r ∷ []) (placed a′ p ∷ placed n q ∷ placed c′ r ∷ [])
   add-adr-access {p = p} {l = l} er en el w =
       by-access (λ s. setX e (adrTarget l p) s) (λ o s. rw (er, en, el, base-set e (adrTarget l p) s (h .low-e), w))
@@ -128,7 +128,7 @@ module _ {a b c d k e i t j : ℕ} {row : Row} (h : Chain a b c d k e i t j row)
 
   -- ADRP, NOP and the access through ADRP's register
   pub folded : {n c′ p q r j′ : ℕ} → action n ≡ nop → action c′ ≡ access row t d j′
-      → accessAddress row (sum (adrpPage k p) i) j ≡ accessAddress row (adrpPage k p) j′
+      → accessAddress row (addValue 1 0 (adrpPage k p) i) j ≡ accessAddress row (adrpPage k p) j′
       → SameRun (placed a p ∷ placed b q ∷ placed c r ∷ []) (placed a p ∷ placed n q ∷ placed c′ r ∷ [])
   folded {p = p} en el w =
       by-access (λ s. setX d (adrpPage k p) s) (λ o s. rw (h .adrp-a, en, el, base-set d (adrpPage k p) s (h .low-d), w))

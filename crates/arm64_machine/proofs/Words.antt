@@ -16,7 +16,7 @@ use Rattle.arm64_insn.specs.Literal.{hasLiteralForm, literalWord, baseWord}
 use Rattle.arm64_insn.specs.LoadStore.{loadStoreOf}
 use Rattle.arm64_insn.specs.LoadStoreTable.{Row}
 use Rattle.arm64_insn.specs.Manual.{imm12In, rowIn}
-use Rattle.arm64_insn.specs.ManualTargets.{adrTarget, literalTarget, accessAddress}
+use Rattle.arm64_insn.specs.ManualTargets.{adrTarget, literalTarget, accessAddress, addValue}
 use Rattle.arm64_insn.specs.Page.{pageOf, adrpPage}
 use Rattle.arm64_insn.specs.Reach.{within1mb}
 use Rattle.arm64_insn.specs.declared.adrp.Adrp as A
@@ -27,7 +27,7 @@ use Rattle.arm64_insn.specs.declared.ldst.LoadStore as L
 use Rattle.arm64_insn.specs.declared.ldst.LoadStoreWord.the-variants as LoadStoreWord
 use Rattle.arm64_insn.proofs.Decodes.{adrp-decodes, add-decodes}
 use Rattle.arm64_insn.proofs.Encodes.{adr-made, nop-made}
-use Rattle.arm64_insn.proofs.Meaning.{adr-means, literal-means}
+use Rattle.arm64_insn.proofs.Meaning.{adr-means, literal-means, add-value}
 use Rattle.arm64_machine.specs.Machine.{adr, adrp, add, access, literal, nop, action, placed}
 use Rattle.arm64_machine.specs.SameRun.{SameRun}
 use Rattle.arm64_machine.specs.Premises.{Fair}
@@ -83,7 +83,7 @@ module _ {a b p q : ℕ} {x : A.Adrp} (fair : Fair (placed a p ∷ placed b q �
       → within1mb p to ≡ true → SameRun (placed a p ∷ placed b q ∷ []) (placed (adrWord (d .rd) to p) p ∷ placed nopWord q ∷ [])
   adr-first {d = d} to eb r e lt near =
       let w = add-does b eb in
-      let z : sum (adrpPage (x .imm) p) (d .imm) ≡ to = omega arith in
+      let z : addValue 1 0 (adrpPage (x .imm) p) (d .imm) ≡ to = add-value (adrpPage (x .imm) p) (d .imm) ∙ omega arith in
       FairLaws.add-adr fair (adrp-does a ea) (w ∙ ap (λ (n : ℕ). add (d .rd) n (d .imm)) r)
       (adr-does (d .rd) to p (ranged b w .0) refl) nop-does
       (z ∙ sym (adr-means to p lt hp near))
@@ -104,7 +104,7 @@ module _ {a b c p q r : ℕ} {x : A.Adrp} {d : D.Add} {l : L.LoadStore} (fair : 
       → within1mb r to ≡ true
       → SameRun (placed a p ∷ placed b q ∷ placed c r ∷ []) (placed nopWord p ∷ placed nopWord q ∷ placed (literalWord l to r) r ∷ [])
   literal-third to f e lt four hr near =
-      let z : sum (sum (adrpPage (x .imm) p) (d .imm)) (l .offset) ≡ to = omega arith in
+      let z : sum (addValue 1 0 (adrpPage (x .imm) p) (d .imm)) (l .offset) ≡ to = rw add-value (omega arith) in
       Rewrites.add-literal chain nop-does (third .literals f to r)
       (third .address _ ∙ z ∙ sym (literal-means to r lt hr near four (fair .aligned .1 .1 .0)))
 
@@ -114,7 +114,7 @@ module _ {a b c p q r : ℕ} {x : A.Adrp} {d : D.Add} {l : L.LoadStore} (fair : 
       (placed (adrWord (l .base) to p) p ∷ placed nopWord q ∷ placed (baseWord l (l .base) 0) r ∷ [])
   adr-third to e lt hp near =
       let low : l .base < 32 = ranged c (third .does) .1 in
-      let z : sum (sum (adrpPage (x .imm) p) (d .imm)) (l .offset) ≡ to = omega arith in
+      let z : sum (addValue 1 0 (adrpPage (x .imm) p) (d .imm)) (l .offset) ≡ to = rw add-value (omega arith) in
       let y : sum (adrTarget (field (diff to p) 0 21) p) 0 ≡ to = rw (adr-means to p lt hp near) (omega arith) in
       Rewrites.add-adr-access chain (adr-does (l .base) to p low second) nop-does
       (based-on (baseWord l (l .base) 0) second (third .based (l .base) 0 low (lit< tt)))
@@ -124,7 +124,7 @@ module _ {a b c p q r : ℕ} {x : A.Adrp} {d : D.Add} {l : L.LoadStore} (fair : 
   pub adr-kept : (to : ℕ) → to ≡ adrpPage (x .imm) p + d .imm → to < 2 ^ 64 → p < 2 ^ 64 → within1mb p to ≡ true
       → SameRun (placed a p ∷ placed b q ∷ placed c r ∷ []) (placed (adrWord (l .base) to p) p ∷ placed nopWord q ∷ placed c r ∷ [])
   adr-kept to e lt hp near =
-      let z : sum (adrpPage (x .imm) p) (d .imm) ≡ to = omega arith in
+      let z : addValue 1 0 (adrpPage (x .imm) p) (d .imm) ≡ to = add-value (adrpPage (x .imm) p) (d .imm) ∙ omega arith in
       Rewrites.add-adr-access chain (adr-does (l .base) to p (ranged c (third .does) .1) second) nop-does (based-on c second (third .does))
       (ap (λ (u : ℕ). accessAddress (rowIn c) u (imm12In c)) (z ∙ sym (adr-means to p lt hp near)))
 
@@ -133,7 +133,7 @@ module _ {a b c p q r : ℕ} {x : A.Adrp} {d : D.Add} {l : L.LoadStore} (fair : 
       → SameRun (placed a p ∷ placed b q ∷ placed c r ∷ []) (placed a p ∷ placed nopWord q ∷ placed (baseWord l (d .rn) off) r ∷ [])
   folded off e lt h =
       let g : off % l .size ≡ 0 = ap (λ (n : ℕ). n % l .size) e ∙ divides third (adrpPage (x .imm) p) (d .imm) (page-whole (x .imm) p) h in
-      let z : sum (sum (adrpPage (x .imm) p) (d .imm)) (l .offset) ≡ sum (adrpPage (x .imm) p) off = omega arith in
+      let z : sum (addValue 1 0 (adrpPage (x .imm) p) (d .imm)) (l .offset) ≡ sum (adrpPage (x .imm) p) off = rw add-value (omega arith) in
       Rewrites.folded chain nop-does
       (based-on (baseWord l (d .rn) off) first (third .based (d .rn) off (ranged b (add-does b eb) .1) lt))
       (third .address _ ∙ z ∙ sym (third .based-address _ off g))

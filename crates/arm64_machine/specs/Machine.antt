@@ -10,7 +10,7 @@ use Rattle.util.specs.Wrap.{sum}
 use Rattle.arm64_insn.specs.LoadStoreTable as Table
 use Rattle.arm64_insn.specs.LoadStoreTable.{Row, Registers, general, vector, widened, rowOf, literalRowOf}
 use Rattle.arm64_insn.specs.Manual.{ADR, ADRP, ADD, LDST, PRFM, LDR-literal, B, BL, BR, NOP, MOVZ, Decoded, form, none, decode}
-use Rattle.arm64_insn.specs.ManualTargets.{adrTarget, literalTarget, accessAddress}
+use Rattle.arm64_insn.specs.ManualTargets.{adrTarget, literalTarget, accessAddress, addValue}
 use Rattle.arm64_insn.specs.Page.{adrpPage}
 
 -- whether an access is a load or a store
@@ -141,7 +141,7 @@ after s t = record { x = t .x; sp = t .sp; v = t .v; memory = t .memory; log = s
 abbrev pub act : Other → Action → ℕ → ℕ → State → State
 act o (adr rd imm21) w p s = setX rd (adrTarget imm21 p) s
 act o (adrp rd imm21) w p s = setX rd (adrpPage imm21 p) s
-act o (add rd rn imm12) w p s = choose (eqb rd 31) (setSP (sum (base rn s) imm12) s) (setX rd (sum (base rn s) imm12) s)
+act o (add rd rn imm12) w p s = let u = addValue 1 0 (base rn s) imm12 in choose (eqb rd 31) (setSP u s) (setX rd u s)
 act o (access row rt rn imm12) w p s = moved row rt (accessAddress row (base rn s) imm12) s
 act o (literal row rt imm19) w p s = moved row rt (literalTarget imm19 p) s
 act o nop w p s = s

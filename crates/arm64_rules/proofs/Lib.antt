@@ -1,6 +1,2 @@
--- Laws that belong to no one function, and what is proved of every decision.
+-- Laws that belong to no one function.
 pub mod Ways
-pub mod Cases
-pub mod Written
-pub mod Hinted
-pub mod Examples

@@ -1,21 +1,17 @@
 -- LLVM's linker optimization hint kinds (llvm/MC/MCLinkerOptimizationHint.h, `MCLOHType`). Numbers and names are macho's; each kind has a row of
 -- words, as "Adrp _v@Page -> Add _v@PageOff -> Ldr" for AdrpAddLdr.
 use Prim.Native.Nat.{ℕ}
-use mathlib.Core.Bool.{Bool, true, false, _&&_, _||_, not}
+use mathlib.Core.Path.{_≡_}
+use mathlib.Core.Logic.{_⊎_}
+use mathlib.Core.Bool.{Bool, true, false, _&&_}
 use mathlib.Core.List.{List, [], _∷_}
 use lib.Dec.{eqb}
 use Rattle.util.specs.Choice.{choose}
 use Rattle.macho.specs.Types.{MCLOH-AdrpAdrp, MCLOH-AdrpLdr, MCLOH-AdrpAddLdr, MCLOH-AdrpLdrGotLdr}
 use Rattle.macho.specs.Types.{MCLOH-AdrpAddStr, MCLOH-AdrpLdrGotStr, MCLOH-AdrpAdd, MCLOH-AdrpLdrGot}
-use Rattle.arm64_insn.specs.Adrp.{adrpOf}
-use Rattle.arm64_insn.specs.Add.{addOf}
-use Rattle.arm64_insn.specs.LoadStore.{loadStoreOf}
-use Rattle.arm64_insn.specs.declared.adrp.AdrpWord.{AdrpWord}
-use Rattle.arm64_insn.specs.declared.adrp.AdrpWord.the-variants as A
-use Rattle.arm64_insn.specs.declared.add.AddWord.{AddWord}
-use Rattle.arm64_insn.specs.declared.add.AddWord.the-variants as D
-use Rattle.arm64_insn.specs.declared.ldst.LoadStoreWord.{LoadStoreWord}
-use Rattle.arm64_insn.specs.declared.ldst.LoadStoreWord.the-variants as L
+use Rattle.arm64_insn.specs.LoadStoreTable.{rowOf, isStore}
+use Rattle.arm64_insn.specs.Manual.{ADRP, ADD, LDST, form, decode, allocated, sizeIn, vIn, opcIn}
+use Rattle.arm64_insn.specs.LoadStore.{takenAsLoad}
 use Rattle.arm64_rules.specs.Rels.{isPageRel, isPageoffRel, isAbsent}
 use Rattle.arm64_rules.specs.declared.rels.Rel.{Rel}
 
@@ -60,35 +56,54 @@ wordsIn (k ∷ ks) n = choose (eqb n (k .number)) (k .words) (wordsIn ks n)
 unfoldable pub wordsOf : ℕ → List Word
 wordsOf n = wordsIn kinds n
 
--- whether a word decodes as an ADRP
-abbrev pub isAdrp : AdrpWord → Bool
-isAdrp (A.Adrp a) = true
-isAdrp A.Other = false
+-- an ADRP of the manual
+pub record IsAdrp (w : ℕ) : Type 0 where
+  pub rd : ℕ
+  pub imm21 : ℕ
+  pub is : decode w ≡ form (ADRP rd imm21)
 
--- as a 64-bit unshifted ADD
-abbrev pub isAdd : AddWord → Bool
-isAdd (D.Add d) = true
-isAdd D.Other = false
+-- an ADD of 64 bits with an unshifted immediate
+pub record IsAdd (w : ℕ) : Type 0 where
+  pub rd : ℕ
+  pub rn : ℕ
+  pub imm12 : ℕ
+  pub is : decode w ≡ form (ADD 1 0 rd rn imm12)
 
--- as a load
-abbrev pub isLoad : LoadStoreWord → Bool
-isLoad (L.LoadStore l) = not (l .«is_store»)
-isLoad L.Other = false
+-- a load, or a store, of the manual's table
+pub record IsAccess (w : ℕ) (stores : Bool) : Type 0 where
+  pub size : ℕ
+  pub v : ℕ
+  pub opc : ℕ
+  pub rt : ℕ
+  pub rn : ℕ
+  pub imm12 : ℕ
+  pub is : decode w ≡ form (LDST size v opc rt rn imm12)
+  pub row : isStore (rowOf size v opc) ≡ stores
 
--- as a store
-abbrev pub isStore : LoadStoreWord → Bool
-isStore (L.LoadStore l) = l .«is_store»
-isStore L.Other = false
+-- an unallocated word that the rules take as a load (document 01, `parse_ldst`)
+abbrev pub IsTaken : ℕ → Type 0
+IsTaken w = (allocated w ≡ false) × (takenAsLoad (sizeIn w) (vIn w) (opcIn w) ≡ true)
 
--- whether w is what its kind says. A GOT slot's load may have been relaxed to an ADD, and a last Ldr may be a store (document 01, "Hints")
-abbrev pub isWord : Word → ℕ → Bool
-isWord Adrp-Page w = isAdrp (adrpOf w)
-isWord Adrp-GotPage w = isAdrp (adrpOf w)
-isWord Add-PageOff w = isAdd (addOf w)
-isWord Ldr-PageOff w = isLoad (loadStoreOf w)
-isWord Ldr-GotPageOff w = isLoad (loadStoreOf w) || isAdd (addOf w)
-isWord Ldr w = isLoad (loadStoreOf w) || isStore (loadStoreOf w)
-isWord Str w = isStore (loadStoreOf w)
+-- w is what its kind says
+abbrev pub IsWord : Word → ℕ → Type 0
+IsWord Adrp-Page w = IsAdrp w
+IsWord Adrp-GotPage w = IsAdrp w
+IsWord Add-PageOff w = IsAdd w
+IsWord Ldr-PageOff w = IsAccess w false
+IsWord Ldr-GotPageOff w = IsAccess w false
+IsWord Ldr w = IsAccess w false
+IsWord Str w = IsAccess w true
+
+-- w is what may stand there instead (document 01, "Hints"): the ADD that a GOT slot's load was relaxed to, a store for a last load, and for a load
+-- that is not a GOT slot's an unallocated word that is taken as one
+abbrev pub IsInstead : Word → ℕ → Type 0
+IsInstead Adrp-Page w = ⊥
+IsInstead Adrp-GotPage w = ⊥
+IsInstead Add-PageOff w = ⊥
+IsInstead Ldr-PageOff w = IsTaken w
+IsInstead Ldr-GotPageOff w = IsAdd w
+IsInstead Ldr w = IsAccess w true ⊎ IsTaken w
+IsInstead Str w = ⊥
 
 -- whether an entry is what its word carries
 abbrev pub isCarried : Word → Rel → Bool
@@ -100,13 +115,13 @@ isCarried Ldr-GotPageOff r = isPageoffRel r true
 isCarried Ldr r = isAbsent r
 isCarried Str r = isAbsent r
 
--- whether words are what a kind says
-abbrev pub areWords : List Word → List ℕ → Bool
-areWords [] ws = true
-areWords (k ∷ ks) [] = false
-areWords (k ∷ ks) (w ∷ ws) = isWord k w && areWords ks ws
+-- words are what a kind says, or what may stand there instead
+abbrev pub AreWords : List Word → List ℕ → Type 0
+AreWords [] ws = Unit {0}
+AreWords (k ∷ ks) [] = ⊥
+AreWords (k ∷ ks) (w ∷ ws) = (IsWord k w ⊎ IsInstead k w) × AreWords ks ws
 
--- whether entries are
+-- whether entries are what a kind's words carry
 abbrev pub areCarried : List Word → List Rel → Bool
 areCarried [] rs = true
 areCarried (k ∷ ks) [] = false

@@ -3,8 +3,4 @@ pub mod Rels
 pub mod Answer
 pub mod Operands
 pub mod Plans
-pub mod Two
-pub mod Three
-pub mod Got
-pub mod Decide
 pub mod Kinds

@@ -1,8 +1,4 @@
-// The eight hint rules as pure decisions: words, addresses and entries in, an answer out (arch/arm64.rs, `is_page_rel` to `loh_adrp_ldr_got_str`).
+// What a hint rule is told and what it answers: words, addresses and entries in, a rewrite out (arch/arm64.rs, `is_page_rel` to `has_page_pair`).
 pub mod answer;
-pub mod decide;
-pub mod got;
 pub mod plans;
 pub mod rels;
-pub mod three;
-pub mod two;

@@ -7,7 +7,7 @@ use Rattle.macho.specs.Record.{bytesOf, listBytes}
 use Rattle.macho.specs.Reloc.{relocAt, relocBytes}
 use Rattle.macho.specs.Hint.{insnAt, hintAt, hintBytes, wordCount}
 use Rattle.arm64_insn.specs.Manual.{decode, allocated}
-use Rattle.arm64_insn.specs.ManualTargets.{adrTarget, literalTarget, accessAddress}
+use Rattle.arm64_insn.specs.ManualTargets.{adrTarget, literalTarget, accessAddress, addValue}
 use Rattle.arm64_insn.specs.Page.{pageOf, adrpPage}
 use Rattle.arm64_insn.specs.Reach.{within1mb}
 use Rattle.arm64_insn.specs.Adrp.{adrpOf, adrWord}
@@ -17,11 +17,11 @@ use Rattle.arm64_insn.specs.LoadStoreTable.{rowOf, literalRowOf}
 use Rattle.arm64_insn.specs.Literal.{hasLiteralForm, literalOpc, literalV, literalWord, baseWord}
 use Rattle.arm64_rules.specs.Rels.{relAt, isPageRel, isPageoffRel, sameReference, isAbsent, hasPagePair, bothPages}
 use Rattle.arm64_rules.specs.Answer.{sumOf, fitsLiteral}
-use Rattle.arm64_rules.specs.Two.{samePage, adrpAdrp, ldrSecond, ldrAtPage, adrpLdr, adrTo, addAtPage, adrpAdd}
-use Rattle.arm64_rules.specs.Three.{addAccess, through, foldThird, adrOrFold, loadThrough, adrpAddLdr, adrpAddStr}
-use Rattle.arm64_rules.specs.Got.{loadsSlot, slotLoad, relaxedLoad, gotLoad, adrpLdrGot, slotTo, gotLiteral, foldLoad, adrOrFoldLoad, relaxedTo}
-use Rattle.arm64_rules.specs.Got.{relaxedLdr, adrpLdrGotLdr, relaxedStr, adrpLdrGotStr}
-use Rattle.arm64_rules.specs.Decide.{admits, ruleOf, decide}
+use Rattle.arm64_adrp_rules.specs.Two.{samePage, adrpAdrp, ldrSecond, ldrAtPage, adrpLdr, adrTo, addAtPage, adrpAdd}
+use Rattle.arm64_adrp_rules.specs.Three.{addAccess, through, foldThird, adrOrFold, loadThrough, adrpAddLdr, adrpAddStr}
+use Rattle.arm64_got_rules.specs.Got.{loadsSlot, slotLoad, relaxedLoad, gotLoad, adrpLdrGot, slotTo, gotLiteral, foldLoad, adrOrFoldLoad, relaxedTo}
+use Rattle.arm64_got_rules.specs.Got.{relaxedLdr, adrpLdrGotLdr, relaxedStr, adrpLdrGotStr}
+use Rattle.arm64_decide.specs.Decide.{decide}
 use Rattle.arm64_machine.specs.Machine.{action, read, write, setX, setSP, setV, setMemory, listed, base, moved}
 use Rattle.arm64_machine.specs.Premises.{links31, adds31, storesMade}
 use Rattle.arm64_hints.specs.Hint.{isSkipped, insnsIn, insnsOf, relsOf, outcomeOf}
@@ -43,7 +43,7 @@ unfoldable pub rules : Unit {0}
 unfolding
     isPageRel isPageoffRel sameReference isAbsent hasPagePair bothPages sumOf fitsLiteral samePage adrpAdrp ldrSecond ldrAtPage adrpLdr
     adrTo addAtPage adrpAdd addAccess through foldThird adrOrFold loadThrough adrpAddLdr adrpAddStr loadsSlot slotLoad relaxedLoad gotLoad
-    adrpLdrGot slotTo gotLiteral foldLoad adrOrFoldLoad relaxedTo relaxedLdr adrpLdrGotLdr relaxedStr adrpLdrGotStr admits ruleOf decide
+    adrpLdrGot slotTo gotLiteral foldLoad adrOrFoldLoad relaxedTo relaxedLdr adrpLdrGotLdr relaxedStr adrpLdrGotStr decide
 rules = tt
 
 -- the run
@@ -54,6 +54,6 @@ runs = tt
 -- the machine and its premises
 unfoldable pub machine : Unit {0}
 unfolding
-    decode allocated literalRowOf adrTarget literalTarget accessAddress action read write setX setSP setV setMemory listed base moved
+    decode allocated literalRowOf adrTarget literalTarget accessAddress addValue action read write setX setSP setV setMemory listed base moved
     links31 adds31 storesMade
 machine = tt

@@ -9,7 +9,7 @@ use Rattle.macho.specs.Hint.{wordCount}
 use Rattle.arm64_insn.specs.Page.{adrpPage}
 use Rattle.arm64_insn.specs.declared.add.Add.{Add}
 use Rattle.arm64_insn.specs.declared.ldst.LoadStore.{LoadStore}
-use Rattle.arm64_rules.specs.Decide.{decide}
+use Rattle.arm64_decide.specs.Decide.{decide}
 use Rattle.arm64_rules.specs.declared.answer.Insns.{Insns}
 use Rattle.arm64_rules.specs.declared.answer.NewWord.{NewWord}
 use Rattle.arm64_rules.specs.declared.answer.NewWord.the-variants.{Keep, Set}
@@ -18,9 +18,9 @@ use Rattle.arm64_rules.specs.declared.answer.Rewrite.the-variants as R
 use Rattle.arm64_rules.specs.declared.answer.Decision.{Decision}
 use Rattle.arm64_rules.specs.declared.answer.Decision.the-variants.{Declined, Nine, Rewritten}
 use Rattle.arm64_rules.specs.declared.rels.Rels.{Rels}
-use Rattle.arm64_rules.proofs.Ways.{Adds}
-use Rattle.arm64_rules.proofs.Cases as Cases
-use Rattle.arm64_rules.proofs.Cases.{EachRule}
+use Rattle.arm64_adrp_rules.proofs.Adds.{Adds}
+use Rattle.rule_laws.proofs.Cases as Cases
+use Rattle.rule_laws.proofs.Cases.{EachRule}
 use Rattle.arm64_machine.specs.Machine.{Placed, placed}
 use Rattle.arm64_machine.specs.SameRun.{SameRun}
 use Rattle.arm64_machine.specs.Premises.{Fair}

@@ -1,82 +1,47 @@
 -- Demand 3: the theorems. Carried by the law of a hint's step and by order's laws of lists of planned steps.
 use mathlib.Core.Path.{_≡_, refl, sym, ap, _∙_, subst}
-use mathlib.Core.Bool.{Bool, true, false, true≢false}
-use mathlib.Core.List.{List, [], _∷_, _++_, map}
-use Prim.Native.Nat.{ℕ, _+_, _<_}
+use mathlib.Core.Bool.{true, false}
+use mathlib.Core.List.{List, [], _∷_, _++_}
+use Prim.Native.Nat.{ℕ, _<_}
 use native.Mathlib.Omega.{arith}
 use lib.ListN.{length}
 use Rattle.macho.specs.declared.hint.HintRecord.{HintRecord}
-use Rattle.order.specs.Lists.{All, empty, more, count, Once}
+use Rattle.order.specs.Lists.{count, Once}
 use Rattle.order.specs.Steps.{Work}
 use Rattle.order.specs.Plan.{wordsAt, written, stepOf}
 use Rattle.order.specs.Cursor.{hintCount, objectAt, lateAt, orderOf}
-use Rattle.order.proofs.Lists.{run-append, count-append, count-here, less-or}
+use Rattle.order.proofs.Lists.{all-map, run-append, count-append, count-here, less-or}
 use Rattle.order.proofs.Own.{own-once}
-use Rattle.order.proofs.Plan.{words-inside}
 use Rattle.order.proofs.Runs as Runs
 use Rattle.arm64_machine.specs.Machine.{Other, State}
 use Rattle.arm64_machine.specs.SameRun.{SameRun}
 use Rattle.arm64_machine.proofs.FairLaws as FairLaws
-use Rattle.arm64_hints.specs.Hint.{hintOf, isSkipped, placesOf, planOf, Inside}
-use Rattle.arm64_hints.specs.Check.{checkAll}
-use Rattle.arm64_hints.specs.Run.{start, worked, answerBy, runOf, imageOf}
+use Rattle.arm64_hints.specs.Hint.{hintOf, isSkipped, placesOf, planOf}
+use Rattle.arm64_hints.specs.Run.{start, worked, runOf, imageOf}
 use Rattle.arm64_hints.specs.declared.outcome.Tally.{Tally}
-use Rattle.arm64_hints.specs.declared.check.Check.{Check}
-use Rattle.arm64_hints.specs.declared.check.Check.the-variants as C
+use Rattle.arm64_hints.specs.declared.run.RunAnswer.{RunAnswer}
 use Rattle.arm64_hints.specs.declared.run.RunAnswer.the-variants as A
-use Rattle.arm64_hints.proofs.Places.{insns-none, offs-inside}
 use Rattle.arm64_hints.proofs.Checks.{Ready, ready, each-fine}
-use Rattle.arm64_hints.proofs.Steps.{add-swap, run-done}
-use Rattle.demand3.specs.Demand3.{Bytes, codes, partBytes, wordBytes, Kept, PartsApart, Alone, Fair, Same, Demand3, Premises, Literally}
+use Rattle.arm64_hints.proofs.Parts.{places-inside, in-part}
+use Rattle.arm64_hints.proofs.Answers.{done-fine, run-is}
+use Rattle.arm64_hints.proofs.Steps.{add-swap}
+use Rattle.demand3.specs.Demand3.{codes, partBytes, wordBytes, Kept, PartsApart, Alone, Fair, Same, Demand3, Premises, Literally}
 use Rattle.demand3.proofs.Step.{codes-same, addresses, step-same}
-
-never : {P : Type 0} → _≡_ {A = ℕ} 0 1 → P
-never z = absurd (omega arith)
-
--- ---- the run
-
-done : (c : Check) (u t : Tally) → answerBy c u ≡ A.Done t → (c ≡ C.Fine) × (u ≡ t)
-done C.Fine u t e = (refl, cc)
-done (C.Refused x) u t e = never (cc)
-
-fine : (image hints entries : List ℕ) (t : Tally) → runOf image hints entries ≡ A.Done t
-    → (checkAll (length image) hints (length entries) ≡ C.Fine) × (worked image hints entries (orderOf hints) .tally ≡ t)
-unfolding runOf
-fine image hints entries t = done (checkAll (length image) hints (length entries)) (worked image hints entries (orderOf hints) .tally) t
-
--- a run that returns no number leaves the image and the tally of its own list
-pub run-is : (image hints entries : List ℕ) (t : Tally) → runOf image hints entries ≡ A.Done t
-    → worked image hints entries (orderOf hints) ≡ record { image = imageOf image hints entries; tally = t }
-run-is image hints entries t e =
-    let f = fine image hints entries t e in
-    let i = run-done image hints entries (f .0) refl refl .1 in
-    λ d. record { image = i d; tally = f .1 d }
 
 -- the run's own list has each hint once, and keeps each object's own order
 pub own-list : (hints : List ℕ) → Once (hintCount hints) (orderOf hints) × Kept hints (orderOf hints)
 own-list hints = (own-once (objectAt hints) (lateAt hints) (hintCount hints), λ o. refl)
 
--- words at offsets in a part, as places of the image
-places-all : {P Q : ℕ → Type 0} (a : ℕ) → ((at : ℕ) → P at → Q (a + at)) → {l : List ℕ} → All P l → All Q (map (λ at. a + at) l)
-places-all a f empty = empty
-places-all a f (more h rest) = more (f _ h) (places-all a f rest)
-
--- a hint's words lie in its part
-inside-part : (h : HintRecord) → (isSkipped h ≡ false → Inside h (h .len)) → (b : ℕ) → wordBytes h b ≡ true → partBytes h b ≡ true
-inside-part h inside b w = go (isSkipped h) refl
-  where
-    go : (t : Bool) → isSkipped h ≡ t → partBytes h b ≡ true
-    go true e = absurd (true≢false (sym w ∙ rw (insns-none h e)))
-    go false e =
-        rw e
-        (words-inside (h .start) (h .len) (places-all (h .start) (λ at l. (omega arith, omega arith)) (offs-inside h (h .len) (inside e))) b w)
-
-module _ (image hints entries : List ℕ) (bytes : Bytes hints) (t : Tally) (e : runOf image hints entries ≡ A.Done t) where
+module _ (image hints entries : List ℕ) (t : Tally) (e : runOf image hints entries ≡ A.Done t) where
   -- every hint that is not skipped has its part inside the image, and its words inside its part
   checked : (k : ℕ) → k < hintCount hints → isSkipped (hintOf hints k) ≡ false → Ready (length image) (length entries) (hintOf hints k)
   checked k l s =
       ready (length image) (length entries) (hintOf hints k) (hintOf hints k) refl
-      (each-fine (length image) hints (length entries) (fine image hints entries t e .0) k l) s
+      (each-fine (length image) hints (length entries) (done-fine image hints entries t e) k l) s
+
+  -- a byte of a hint's words is one of its part
+  inside-part : (k : ℕ) → k < hintCount hints → (b : ℕ) → wordBytes (hintOf hints k) b ≡ true → partBytes (hintOf hints k) b ≡ true
+  inside-part k l b w = let q = in-part image hints entries (done-fine image hints entries t e) k l b w in rw (q .0) (q .1)
 
   -- a hint's step on an image as long as the lent one
   step : (k : ℕ) → k < hintCount hints → isSkipped (hintOf hints k) ≡ false → (x : List ℕ) → length x ≡ length image → Fair (hintOf hints k) x
@@ -84,8 +49,7 @@ module _ (image hints entries : List ℕ) (bytes : Bytes hints) (t : Tally) (e :
   step k l s x size fair =
       let h = hintOf hints k in
       let r = checked k l s in
-      step-same entries h s (addresses hints bytes k) x
-      (places-all (h .start) (λ at w. omega (arith, r .part)) (offs-inside h (h .len) (r .words))) fair
+      step-same entries h s (addresses hints k) x (all-map (λ at w. omega (arith, r .part)) (places-inside h (r .words))) fair
 
   module _ (l : List ℕ) (once : Once (hintCount hints) l) where
     ordered : PartsApart hints → Kept hints l → worked image hints entries l ≡ record { image = imageOf image hints entries; tally = t }
@@ -95,7 +59,7 @@ module _ (image hints entries : List ℕ) (bytes : Bytes hints) (t : Tally) (e :
         own =
             unfold worked in
             Runs.parts (planOf hints entries) (hintCount hints) add-swap (λ k. partBytes (hintOf hints k))
-            (λ k h. inside-part (hintOf hints k) (λ s. checked k h s .words)) (objectAt hints) (lateAt hints) apart l once kept (start image)
+            inside-part (objectAt hints) (lateAt hints) apart l once kept (start image)
 
     -- a member of the list is a hint's position
     position : (a : List ℕ) (k : ℕ) (b : List ℕ) → l ≡ a ++ k ∷ b → k < hintCount hints
@@ -131,13 +95,13 @@ module _ (image hints entries : List ℕ) (bytes : Bytes hints) (t : Tally) (e :
             ∙ Runs.ends (planOf hints entries) (hintCount hints) k h alone l once image
 
 -- DEMAND 3, of every list of a run's hint steps with each hint once
-pub demand-3 : (image hints entries : List ℕ) (t : Tally) → Bytes hints → runOf image hints entries ≡ A.Done t
+pub demand-3 : (image hints entries : List ℕ) (t : Tally) → runOf image hints entries ≡ A.Done t
     → (l : List ℕ) → Once (hintCount hints) l → Demand3 image hints entries l t
-demand-3 image hints entries t bytes e l once =
+demand-3 image hints entries t e l once =
     record {
-      order = ordered image hints entries bytes t e l once;
-      turn = turned image hints entries bytes t e l once;
-      ends = ended image hints entries bytes t e l once;
+      order = ordered image hints entries t e l once;
+      turn = turned image hints entries t e l once;
+      ends = ended image hints entries t e l once;
     }
 
 -- the premises of the demand give those that are needed
@@ -152,3 +116,20 @@ literally image hints entries l t d =
       turn = λ a k b q s o z p. d .turn a k b q s (literal _ _ o z p) .agree o z;
       ends = λ apart k h s o z data′ p. d .ends k h s (apart k h) (literal _ _ o z p) .agree o z;
     }
+
+-- DEMAND 3 of the compiled run: `answer` is what arm64_hints' `run` returns and `left` the image that it leaves, each with the promise that it makes.
+-- Where it is done, its own list ends with what it left, is one of those spoken of, and of each of them the demand holds word by word
+pub of-the-run : (image hints entries left : List ℕ) (answer : RunAnswer) → answer ≡ runOf image hints entries → left ≡ imageOf image hints entries
+    → (t : Tally) → answer ≡ A.Done t
+    → (worked image hints entries (orderOf hints) ≡ record { image = left; tally = t })
+    × (Once (hintCount hints) (orderOf hints))
+    × (Kept hints (orderOf hints))
+    × ((l : List ℕ) → Once (hintCount hints) l → Literally image hints entries l t)
+of-the-run image hints entries left answer says leaves t done =
+    let e = sym says ∙ done in
+    let own = own-list hints in (
+      run-is image hints entries t e ∙ ap (λ (image : List ℕ). record { image = image; tally = t }) (sym leaves),
+      own .0,
+      own .1,
+      λ l once. literally image hints entries l t (demand-3 image hints entries t e l once),
+    )

@@ -1,18 +1,24 @@
--- Runs of several hints: one with one of each count, and one whose order within an object shows. Each fact is computed, or demand 3.
-use mathlib.Core.Path.{_≡_, refl, ap, _∙_}
+-- Runs of several hints: one with one of each count, two hints in one part, and one whose order within an object shows; and a hint whose places
+-- fall. Each fact is computed, or demand 3.
+use mathlib.Core.Path.{_≡_, refl, ap, _∙_, subst}
 use mathlib.Core.List.{List, [], _∷_}
 use Prim.Native.Nat.{ℕ}
 use native.Mathlib.Omega.{arith}
+use lib.Dec.{lit<}
 use Rattle.macho.specs.declared.hint.HintRecord.{HintRecord}
 use Rattle.order.specs.Lists.{Once}
+use Rattle.order.specs.Steps.{Work}
 use Rattle.order.specs.Cursor.{hintCount, orderOf}
+use Rattle.arm64_hints.specs.Hint.{hintOf}
 use Rattle.arm64_hints.specs.Run.{worked, runOf, imageOf}
+use Rattle.arm64_hints.specs.declared.outcome.Tally.{Tally}
 use Rattle.arm64_hints.specs.declared.run.RunAnswer.the-variants.{Done}
-use Rattle.demand3.specs.Demand3.{Kept, PartsApart}
-use Rattle.demand3.proofs.Computing.{records, runs}
-use Rattle.demand3.proofs.Tests.{hint-bytes, parts-by, once-by, kept-by}
+use Rattle.arm64_hints.proofs.Examples.{words as code, place}
+use Rattle.demand3.specs.Demand3.{Kept, PartsApart, Alone, Fair, Same}
+use Rattle.demand3.proofs.Computing.{records, runs, machine}
+use Rattle.demand3.proofs.Tests.{fair-when, alone-by, parts-by, once-by, kept-by}
 use Rattle.demand3.proofs.Demand3.{demand-3}
-use Rattle.demand3.proofs.Examples.{code, place, none-at, hint, lent, plain, counts}
+use Rattle.demand3.proofs.Examples.{none-at, hint, lent, plain, counts}
 
 -- ---- one of each
 
@@ -62,8 +68,80 @@ apart = parts-by (lent four) refl
 -- so it leaves the run's image and tally, by demand 3
 pub other-list : worked old (lent four) plain other ≡ record { image = new; tally = counts 1 1 1 1 }
 other-list =
-    demand-3 old (lent four) plain (counts 1 1 1 1) (hint-bytes four) one-of-each other once .order apart kept
+    demand-3 old (lent four) plain (counts 1 1 1 1) one-of-each other once .order apart kept
     ∙ ap (λ (image : List ℕ). record { image = image; tally = counts 1 1 1 1 }) left
+
+-- and the words of position 0, which no other hint shares, run in its last image as in the first
+fair-first : Fair (hintOf (lent four) 0) old
+unfolding runs machine
+fair-first = fair-when (hintOf (lent four) 0) old refl
+
+alone-first : Alone (lent four) 0
+unfolding runs
+alone-first = alone-by (lent four) 0 refl
+
+pub other-ends : Same (hintOf (lent four) 0) old new
+unfolding runs
+other-ends =
+    subst (Same (hintOf (lent four) 0) old) (ap (λ (w : Work Tally). w .image) other-list)
+    (demand-3 old (lent four) plain (counts 1 1 1 1) one-of-each other once .ends 0 (lit< tt) refl alone-first fair-first)
+
+-- ---- two hints in one part, whose words share no byte
+
+-- adrp x0; ldr x1, [x0, #8]; adrp x0; add x0, x0, #3
+abbrev beside : List HintRecord
+beside =
+    hint 2 0 0 16 (place 0 0 0x1000) (place 4 1 0x1004) none-at
+    ∷ hint 7 0 0 16 (place 8 0 0x1008) (place 12 1 0x100c) none-at
+    ∷ []
+
+abbrev words : List ℕ
+words = code (0x90000000 ∷ 0xf9400401 ∷ 0x90000000 ∷ 0x91000c00 ∷ [])
+
+abbrev rewords : List ℕ
+rewords = code (0xd503201f ∷ 0x58000021 ∷ 0x70ffffc0 ∷ 0xd503201f ∷ [])
+
+pub both-done : runOf words (lent beside) plain ≡ Done (counts 2 0 0 0)
+unfolding runs
+both-done = refl
+
+-- the list 1, 0, which does not keep the object's own order, ends with both rewritten
+turned-round : worked words (lent beside) plain (1 ∷ 0 ∷ []) .image ≡ rewords
+unfolding runs
+turned-round = refl
+
+-- and each hint's words run there as in the first image
+pub both-end : Same (hintOf (lent beside) 0) words rewords × Same (hintOf (lent beside) 1) words rewords
+unfolding runs machine
+both-end =
+    let d = demand-3 words (lent beside) plain (counts 2 0 0 0) both-done (1 ∷ 0 ∷ []) (once-by 2 (1 ∷ 0 ∷ []) refl refl) in (
+      subst (Same (hintOf (lent beside) 0) words) turned-round
+          (d .ends 0 (lit< tt) refl (alone-by (lent beside) 0 refl) (fair-when (hintOf (lent beside) 0) words refl)),
+      subst (Same (hintOf (lent beside) 1) words) turned-round
+          (d .ends 1 (lit< tt) refl (alone-by (lent beside) 1 refl) (fair-when (hintOf (lent beside) 1) words refl)),
+    )
+
+-- ---- a hint whose places fall: its first word stands after its second
+
+-- ldr x1, [x0, #8]; adrp x0, which is the hint's first word
+abbrev falling : List HintRecord
+falling = hint 2 0 0 8 (place 4 0 0x1004) (place 0 1 0x1000) none-at ∷ []
+
+fall-done : runOf (code (0xf9400401 ∷ 0x90000000 ∷ [])) (lent falling) plain ≡ Done (counts 1 0 0 0)
+unfolding runs
+fall-done = refl
+
+fall-leaves : worked (code (0xf9400401 ∷ 0x90000000 ∷ [])) (lent falling) plain (0 ∷ []) .image ≡ code (0x58000041 ∷ 0xd503201f ∷ [])
+unfolding runs
+fall-leaves = refl
+
+pub falling-ends : Same (hintOf (lent falling) 0) (code (0xf9400401 ∷ 0x90000000 ∷ [])) (code (0x58000041 ∷ 0xd503201f ∷ []))
+unfolding runs machine
+falling-ends =
+    let image = code (0xf9400401 ∷ 0x90000000 ∷ []) in
+    let d = demand-3 image (lent falling) plain (counts 1 0 0 0) fall-done (0 ∷ []) (once-by 1 (0 ∷ []) refl refl) in
+    subst (Same (hintOf (lent falling) 0) image) fall-leaves
+    (d .ends 0 (lit< tt) refl (alone-by (lent falling) 0 refl) (fair-when (hintOf (lent falling) 0) image refl))
 
 -- ---- an object whose hint of kind 1 stands first, and is worked last
 
@@ -83,6 +161,23 @@ pub late-run : (runOf (code (0x90000000 ∷ 0x90000000 ∷ 0xf9400401 ∷ [])) (
     × (imageOf (code (0x90000000 ∷ 0x90000000 ∷ 0xf9400401 ∷ [])) (lent two) plain ≡ code (0x90000000 ∷ 0xd503201f ∷ 0x58000001 ∷ []))
 unfolding runs
 late-run = (refl, refl)
+
+-- each hint at its turn, in that order and in the other, though they share a word: the words run after its step as before it
+abbrev first : List ℕ
+first = code (0x90000000 ∷ 0x90000000 ∷ 0xf9400401 ∷ [])
+
+-- position 1 on the first image; position 0, which declines, on what it left; position 0 on the first image, where it drops the second ADRP
+pub each-turn : Same (hintOf (lent two) 1) first (code (0x90000000 ∷ 0xd503201f ∷ 0x58000001 ∷ []))
+    × Same (hintOf (lent two) 0) (code (0x90000000 ∷ 0xd503201f ∷ 0x58000001 ∷ [])) (code (0x90000000 ∷ 0xd503201f ∷ 0x58000001 ∷ []))
+    × Same (hintOf (lent two) 0) first (code (0x90000000 ∷ 0xd503201f ∷ 0xf9400401 ∷ []))
+unfolding runs machine
+each-turn =
+    let own = demand-3 first (lent two) plain (counts 1 0 1 0) (late-run .0) (1 ∷ 0 ∷ []) (once-by 2 (1 ∷ 0 ∷ []) refl refl) in
+    let round = demand-3 first (lent two) plain (counts 1 0 1 0) (late-run .0) (0 ∷ 1 ∷ []) (once-by 2 (0 ∷ 1 ∷ []) refl refl) in (
+      own .turn [] 1 (0 ∷ []) refl refl (fair-when (hintOf (lent two) 1) first refl),
+      own .turn (1 ∷ []) 0 [] refl refl (fair-when (hintOf (lent two) 0) (code (0x90000000 ∷ 0xd503201f ∷ 0x58000001 ∷ [])) refl),
+      round .turn [] 0 (1 ∷ []) refl refl (fair-when (hintOf (lent two) 0) first refl),
+    )
 
 -- the list 0, 1 does not keep the object's own order, and leaves another image
 pub by-position : worked (code (0x90000000 ∷ 0x90000000 ∷ 0xf9400401 ∷ [])) (lent two) plain (0 ∷ 1 ∷ [])

@@ -7,7 +7,6 @@ use Prim.Native.Nat.{ℕ, _+_, _*_}
 use native.Mathlib.Omega.{arith}
 use lib.Dec.{lit<}
 use lib.ListN.{length}
-use Rattle.util.specs.Word.{bytes}
 use Rattle.util.proofs.Choice.{split}
 use Rattle.macho.specs.Record.{listBytes}
 use Rattle.macho.specs.Reloc.{relocBytes}
@@ -28,19 +27,12 @@ use Rattle.arm64_hints.specs.declared.outcome.Outcome.{Outcome}
 use Rattle.arm64_hints.specs.declared.outcome.Outcome.the-variants.{Skipped, Worked}
 use Rattle.arm64_hints.specs.declared.outcome.Tally.{Tally}
 use Rattle.arm64_hints.specs.declared.run.RunAnswer.the-variants.{Done}
+use Rattle.arm64_hints.proofs.Answers.{run-is}
+use Rattle.arm64_hints.proofs.Examples.{words as code, place}
 use Rattle.demand3.specs.Demand3.{Same, Premises}
-use Rattle.demand3.proofs.Demand3.{demand-3, own-list, run-is}
+use Rattle.demand3.proofs.Demand3.{demand-3, own-list}
 use Rattle.demand3.proofs.Computing.{records, runs, machine}
-use Rattle.demand3.proofs.Tests.{hint-bytes, disjoint-by, tests, fair-when}
-
--- words one after another
-abbrev pub code : List ℕ → List ℕ
-code [] = []
-code (w ∷ ws) = bytes 4 w ++ code ws
-
--- a place: offset, entry number, address
-abbrev pub place : ℕ → ℕ → ℕ → HintInsn
-place off rel addr = record { off = off; rel = rel; addr = addr }
+use Rattle.demand3.proofs.Tests.{disjoint-by, tests, fair-when}
 
 -- a place that is not looked at
 abbrev pub none-at : HintInsn
@@ -110,7 +102,7 @@ unfolding records
 shows-same {entries} {kind} {p} {ws} {r} {new} s =
     let hints = lent (single kind p (length ws)) in
     let h = hintOf hints 0 in
-    let d = demand-3 (code ws) hints entries (counts 1 0 0 0) (hint-bytes (single kind p (length ws))) (s .done) (orderOf hints) (own-list hints .0) in
+    let d = demand-3 (code ws) hints entries (counts 1 0 0 0) (s .done) (orderOf hints) (own-list hints .0) in
     let i : worked (code ws) hints entries (orderOf hints) .image ≡ code new =
     ap (λ (w : Work Tally). w .image) (run-is (code ws) hints entries (counts 1 0 0 0) (s .done)) ∙ s .leaves in
     subst (Same h (code ws)) i
@@ -220,5 +212,26 @@ meets-all = record {
     no-31-added = (refl, (refl, tt));
     no-vector-link = ((λ d k e. (refl, tt)), ((λ d k e. (refl, tt)), tt));
     no-store = ((refl, tt), (tt, tt));
+  };
+}
+
+-- bench piece 8: three words, of which the last stores 8 bytes at 0x201010
+pub meets-all-three : Premises (hintOf (lent (single 5 0x1000 3)) 0) (code (0x90001000 ∷ 0x91004000 ∷ 0xf9000001 ∷ [])) idle start
+unfolding runs machine linksVector
+meets-all-three = record {
+  disjoint = disjoint-by (0 ∷ 4 ∷ 8 ∷ []) refl;
+  words = record {
+    empty-at-first = refl;
+    allocated = (refl, (refl, (refl, tt)));
+    none-data = (
+      ((refl, (refl, (refl, (refl, tt)))), ((refl, (refl, (refl, (refl, tt)))), ((refl, (refl, (refl, (refl, tt)))), tt))),
+      tt,
+    );
+    aligned = (refl, (refl, (refl, tt)));
+    no-sum-passes = (refl, (refl, (refl, tt)));
+    no-31-link = (refl, (refl, tt));
+    no-31-added = (refl, (refl, (refl, tt)));
+    no-vector-link = ((λ d k e. (refl, (refl, tt))), ((λ d k e. (refl, (refl, tt))), ((λ d k e. (refl, (refl, tt))), tt)));
+    no-store = ((refl, (refl, tt)), ((refl, tt), (tt, tt)));
   };
 }

@@ -9,7 +9,7 @@ use Rattle.util.specs.Word.{le, put}
 use Rattle.util.proofs.Word.{length-put, le-ext, le-put}
 use Rattle.arm64_rules.specs.declared.answer.NewWord.{NewWord}
 use Rattle.arm64_rules.specs.declared.answer.NewWord.the-variants.{Keep, Set}
-use Rattle.arm64_rules.proofs.Written.{Fits}
+use Rattle.rule_laws.proofs.Written.{Fits}
 use Rattle.order.specs.Lists.{All, more}
 use Rattle.order.specs.Local.{Apart}
 use Rattle.order.specs.Plan.{span, inWords, wordsAt, putWords}
@@ -17,7 +17,7 @@ use Rattle.order.proofs.Lists.{all-map}
 use Rattle.order.proofs.Local.{apart-sym, leaves}
 use Rattle.order.proofs.Plan.{span-in, put-writes, puts-write, words-read}
 use Rattle.arm64_machine.specs.Premises.{Each}
-use Rattle.arm64_hints.specs.Hint.{newOf}
+use Rattle.arm64_held.specs.Place.{newOf}
 use Rattle.demand3.specs.Demand3.{Disjoint}
 use Rattle.demand3.proofs.Decisions.{wordAfter}
 

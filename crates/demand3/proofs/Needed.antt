@@ -7,15 +7,17 @@ use native.Mathlib.Omega.{arith}
 use lib.Dec.{lit<}
 use Rattle.macho.specs.Hint.{noEntry}
 use Rattle.macho.specs.declared.hint.HintRecord.{HintRecord}
-use Rattle.order.specs.Cursor.{orderOf}
+use Rattle.order.specs.Lists.{Once}
+use Rattle.order.specs.Cursor.{hintCount, orderOf}
 use Rattle.arm64_machine.specs.Machine.{Access}
-use Rattle.arm64_hints.specs.Hint.{hintOf}
+use Rattle.arm64_hints.specs.Hint.{hintOf, placesOf}
 use Rattle.arm64_hints.specs.Run.{worked, runOf, imageOf}
 use Rattle.arm64_hints.specs.declared.run.RunAnswer.the-variants.{Done}
-use Rattle.demand3.specs.Demand3.{Alone, Kept, Same}
+use Rattle.arm64_hints.proofs.Examples.{words as code, place}
+use Rattle.demand3.specs.Demand3.{Disjoint, Alone, Kept, PartsApart, Same}
 use Rattle.demand3.proofs.Computing.{runs, machine}
 use Rattle.demand3.proofs.Tests.{tests, once-by, kept-by}
-use Rattle.demand3.proofs.Examples.{code, place, none-at, hint, lent, plain, got, counts, all-true, start, idle}
+use Rattle.demand3.proofs.Examples.{none-at, hint, lent, plain, got, counts, all-true, start, idle}
 
 -- one more than the address of the first access, and its value; 0 where there is none
 abbrev address : List Access → ℕ
@@ -26,8 +28,8 @@ abbrev value : List Access → ℕ
 value [] = 0
 value (a ∷ log) = a .value
 
--- a run of one hint h with the words ws: the premises hold or not as `holds` says (disjoint, allocated, aligned, no link by 31, no ADD to 31,
--- no store of what was made), the hint is rewritten, and the new words do not run as the old ones
+-- a run of one hint h with the words ws: the tests of the premises come out as `holds` says (disjoint, allocated, aligned, no link by 31, no ADD
+-- to 31, no store of what was made), the hint is rewritten, and the new words do not run as the old ones
 pub record Fails (entries : List ℕ) (h : HintRecord) (ws : List ℕ) (holds : List Bool) (new : List ℕ) : Type 0 where
   pub premises : tests (hintOf (lent (h ∷ [])) 0) (code ws) ≡ holds
   pub done : runOf (code ws) (lent (h ∷ [])) entries ≡ Done (counts 1 0 0 0)
@@ -44,6 +46,11 @@ one-word-twice = record {
   leaves = refl;
   differ = λ same. let z : _≡_ {A = ℕ} 0x1000 0x10f0 = same .agree idle start .x 0 (lit< tt) refl in omega arith;
 }
+
+-- its two words are one
+pub one-word-shared : Disjoint (placesOf (hintOf (lent (hint 1 0 0 4 (place 0 0 0x1000) (place 0 0 0x1000) none-at ∷ [])) 0)) → ⊥
+unfolding runs
+one-word-shared d = d .0 0 refl refl
 
 -- allocated: an unallocated word is taken as ldr s0, [x1, #8]
 pub unallocated : Fails plain (hint 2 0 0 8 (place 0 0 0x9ff019ccdecb92c) (place 4 1 0x9ff019ccdecb930) none-at) (0xb0fffbe1 ∷ 0xbd800820 ∷ [])
@@ -130,16 +137,22 @@ not-alone = record {
 
 -- parts of different objects: the list 0, 1 keeps each object's own order, and leaves another image than the run, which is 1 and then 0
 pub record Meeting : Type 0 where
+  pub done : runOf shared (lent (sharing 2 1)) plain ≡ Done (counts 1 0 1 0)
   pub own : orderOf (lent (sharing 2 1)) ≡ 1 ∷ 0 ∷ []
   pub leaves : imageOf shared (lent (sharing 2 1)) plain ≡ code (0x70000002 ∷ 0xf9400401 ∷ 0xd503201f ∷ [])
   pub other : worked shared (lent (sharing 2 1)) plain (0 ∷ 1 ∷ []) .image ≡ code (0xd503201f ∷ 0x58000021 ∷ 0x91000c02 ∷ [])
+  pub once : Once (hintCount (lent (sharing 2 1))) (0 ∷ 1 ∷ [])
   pub kept : Kept (lent (sharing 2 1)) (0 ∷ 1 ∷ [])
+  pub meet : PartsApart (lent (sharing 2 1)) → ⊥
 
 pub parts-meet : Meeting
 unfolding runs
 parts-meet = record {
+  done = refl;
   own = refl;
   leaves = refl;
   other = refl;
+  once = once-by 2 (0 ∷ 1 ∷ []) refl refl;
   kept = kept-by (lent (sharing 2 1)) (0 ∷ 1 ∷ []) (once-by 2 (0 ∷ 1 ∷ []) refl refl) refl;
+  meet = λ apart. apart 0 1 (lit< tt) (lit< tt) (λ e. let z : _≡_ {A = ℕ} 2 1 = e in omega arith) 0 refl refl;
 }

@@ -1,31 +1,31 @@
 -- One hint's step keeps what its words do. Carried by the law of the decisions, and by words read back at places that share no byte.
 use mathlib.Core.Path.{_≡_, refl, sym, ap, _∙_, subst, subst₂}
-use mathlib.Core.Bool.{Bool, true, false, not, _||_, true≢false}
+use mathlib.Core.Bool.{false}
 use mathlib.Core.List.{List, [], _∷_, map}
 use Prim.Native.Nat.{ℕ, _+_, _^_, _≤_, _<_}
-use borrow.Author.Tests.{eqb-true, eqb-false, not-false}
-use lib.Dec.{eqb, lit<}
+use lib.Dec.{lit<}
 use lib.ListN.{length}
 use Rattle.util.specs.Word.{le}
-use Rattle.util.proofs.Choice.{chosen, choose-false}
+use Rattle.util.proofs.Choice.{choose-false}
 use Rattle.util.proofs.Word.{le-lt}
 use Rattle.macho.specs.Hint.{insnAt, hintAt, wordCount}
 use Rattle.macho.specs.declared.hint.HintInsn.{HintInsn}
 use Rattle.macho.specs.declared.hint.HintRecord.{HintRecord}
-use Rattle.arm64_rules.specs.Decide.{decide}
+use Rattle.arm64_decide.specs.Decide.{decide}
 use Rattle.arm64_rules.specs.declared.answer.Plan.{Plan}
 use Rattle.arm64_rules.specs.declared.answer.Decision.{Decision}
 use Rattle.arm64_rules.specs.declared.answer.Decision.the-variants.{Declined, Nine, Rewritten}
-use Rattle.arm64_rules.proofs.Written.{AllFit, all-fit}
+use Rattle.rule_laws.proofs.Written.{AllFit, all-fit}
 use Rattle.order.specs.Lists.{All}
 use Rattle.order.specs.Plan.{wordsAt, putWords}
 use Rattle.order.proofs.Lists.{same-or}
+use Rattle.order.proofs.Plan.{puts-none}
 use Rattle.arm64_machine.specs.Machine.{Placed, placed}
 use Rattle.arm64_machine.specs.SameRun.{SameRun}
 use Rattle.arm64_machine.specs.Premises as Machine
 use Rattle.arm64_hints.specs.Hint.{hintOf, isSkipped, insnsIn, placesOf, addrsOf, insnsOf, relsOf, ruled, outcomeOf, newsIn, newsOf}
-use Rattle.arm64_hints.proofs.Places.{puts-none, insns-three, insns-two}
-use Rattle.demand3.specs.Demand3.{Bytes, codes, Disjoint, Fair, Same}
+use Rattle.arm64_hints.proofs.Places.{count-is, count-two, insns-three, insns-two}
+use Rattle.demand3.specs.Demand3.{codes, Disjoint, Fair, Same}
 use Rattle.demand3.proofs.Decisions.{placedOf, Addressed, after, decided}
 use Rattle.demand3.proofs.Image.{wordsAfter, reads-back}
 
@@ -49,40 +49,15 @@ codes-paired h x = go (insnsIn h)
 pub codes-same : (h : HintRecord) (x y : List ℕ) → wordsAt (placesOf h) x ≡ wordsAt (placesOf h) y → codes h x ≡ codes h y
 codes-same h x y e = codes-paired h x ∙ ap (λ (ws : List ℕ). paired ws (addrsOf h)) e ∙ sym (codes-paired h y)
 
--- ---- word counts
-
-of-count : (P : ℕ → Type 0) → P 0 → P 2 → P 3 → (kind : ℕ) → P (wordCount kind)
-unfolding wordCount
-of-count P none two three kind =
-    chosen P _ 2 _ two (chosen P _ 2 _ two (chosen P _ 3 _ three (chosen P _ 3 _ three
-    (chosen P _ 3 _ three (chosen P _ 3 _ three (chosen P _ 2 _ two (chosen P _ 2 0 two none)))))))
-
-neither : (a b : Bool) → (a || b) ≡ false → (a ≡ false) × (b ≡ false)
-neither true b e = absurd (true≢false e)
-neither false b e = (refl, e)
-
 module _ (h : HintRecord) (e : isSkipped h ≡ false) where
-  tests : (eqb (wordCount (h .kind)) 0 ≡ false) × (not (eqb (h .n) (wordCount (h .kind))) ≡ false)
-  unfolding isSkipped
-  tests = neither (eqb (wordCount (h .kind)) 0) (not (eqb (h .n) (wordCount (h .kind)))) e
-
-  -- the kind's word count is the hint's
-  count-is : wordCount (h .kind) ≡ h .n
-  count-is = sym (eqb-true (h .n) (wordCount (h .kind)) (not-false (eqb (h .n) (wordCount (h .kind))) (tests .1)))
-
-  count-two : (h .n ≡ 3 → ⊥) → wordCount (h .kind) ≡ 2
-  count-two n =
-      of-count (λ m. (m ≡ 0 → ⊥) → (m ≡ 3 → ⊥) → m ≡ 2) (λ z t. absurd (z refl)) (λ z t. refl) (λ z t. absurd (t refl)) (h .kind)
-      (eqb-false (wordCount (h .kind)) 0 (tests .0)) (λ q. n (sym count-is ∙ q))
-
   -- ---- the words that the decision was asked of, and those that it leaves
 
   old-codes : (x : List ℕ) → placedOf (wordCount (h .kind)) (insnsOf h (wordsAt (placesOf h) x)) ≡ codes h x
   unfolding insnsOf
   old-codes x =
       same-or (h .n) 3
-      (λ n. rw (count-is ∙ n, insns-three h e n))
-      (λ n. rw (count-two n, insns-two h e n))
+      (λ n. rw (count-is h e ∙ n, insns-three h e n))
+      (λ n. rw (count-two h e n, insns-two h e n))
 
   rewritten-codes : (p : Plan) (x : List ℕ)
       → placedOf (wordCount (h .kind)) (after (Rewritten p) (insnsOf h (wordsAt (placesOf h) x)))
@@ -90,8 +65,8 @@ module _ (h : HintRecord) (e : isSkipped h ≡ false) where
   unfolding insnsOf
   rewritten-codes p x =
       same-or (h .n) 3
-      (λ n. rw (count-is ∙ n, insns-three h e n))
-      (λ n. rw (count-two n, insns-two h e n))
+      (λ n. rw (count-is h e ∙ n, insns-three h e n))
+      (λ n. rw (count-two h e n, insns-two h e n))
 
   new-codes : (d : Decision) (x : List ℕ) → Disjoint (placesOf h) → All (λ at. at + 4 ≤ length x) (placesOf h) → AllFit d
       → placedOf (wordCount (h .kind)) (after d (insnsOf h (wordsAt (placesOf h) x))) ≡ codes h (putWords (placesOf h) (newsIn d) x)
@@ -114,9 +89,9 @@ pub record Addresses (h : HintRecord) : Type 0 where
   pub second : h .insn1 .addr < 2 ^ 64
   pub third : h .insn2 .addr < 2 ^ 64
 
-pub addresses : (hints : List ℕ) → Bytes hints → (k : ℕ) → Addresses (hintOf hints k)
+pub addresses : (hints : List ℕ) (k : ℕ) → Addresses (hintOf hints k)
 unfolding hintAt insnAt
-addresses hints bytes k = record { first = le-lt 8 hints _ bytes; second = le-lt 8 hints _ bytes; third = le-lt 8 hints _ bytes }
+addresses hints k = record { first = le-lt 8 hints _; second = le-lt 8 hints _; third = le-lt 8 hints _ }
 
 addressed : (h : HintRecord) → isSkipped h ≡ false → Addresses h → (words : List ℕ) → Addressed (insnsOf h words)
 unfolding insnsOf

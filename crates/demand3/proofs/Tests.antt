@@ -2,17 +2,13 @@
 use mathlib.Core.Path.{_≡_, refl, sym, ap, ap₂, _∙_}
 use mathlib.Core.Logic.{inl, inr}
 use mathlib.Core.Bool.{Bool, true, false, not, _&&_, _||_, true≢false}
-use mathlib.Core.List.{List, [], _∷_, _++_}
-use Prim.Native.Nat.{ℕ, zero, suc, _+_, _*_, _/_, _%_, _^_, _<_}
-use native.Mathlib.Omega.{arith}
+use mathlib.Core.List.{List, [], _∷_}
+use Prim.Native.Nat.{ℕ, _+_, _%_, _<_}
 use borrow.Author.Tests.{ltb-true, leb-true, eqb-true, not-true}
-use lib.Dec.{eqb, ltb, leb, lit<}
+use lib.Dec.{eqb, ltb, leb}
 use lib.ListN.{getD}
 use Rattle.util.proofs.Choice.{both}
 use Rattle.util.proofs.Below.{every, every-at}
-use Rattle.util.specs.Word.{bytes}
-use Rattle.macho.specs.Record.{Field, _of_, unused, bytesOf, listBytes}
-use Rattle.macho.specs.Hint.{hintFields, hintBytes}
 use Rattle.macho.specs.declared.hint.HintRecord.{HintRecord}
 use Rattle.order.specs.Lists.{All, empty, more, count, ofObj, Once, passes, bound}
 use Rattle.order.specs.Local.{Apart}
@@ -25,58 +21,56 @@ use Rattle.arm64_insn.specs.Manual.{allocated}
 use Rattle.arm64_machine.specs.Premises.{links31, adds31, storesMade}
 use Rattle.arm64_machine.proofs.FairTest.{each, next, later, fair-by}
 use Rattle.arm64_hints.specs.Hint.{hintOf, isSkipped, placesOf}
-use Rattle.demand3.specs.Demand3.{Bytes, codes, Disjoint, Kept, PartsApart, Fair}
+use Rattle.demand3.specs.Demand3.{codes, Disjoint, Kept, PartsApart, Alone, Fair}
 
--- ---- bytes
+-- ---- words that share no byte
 
-byte-append : (xs ys : List ℕ) → Bytes xs → Bytes ys → Bytes (xs ++ ys)
-byte-append [] ys f g i = g i
-byte-append (x ∷ xs) ys f g zero = f 0
-byte-append (x ∷ xs) ys f g (suc i) = byte-append xs ys (λ i. f (suc i)) g i
+either : {G : Type 0} (a b : Bool) → (a || b) ≡ true → (a ≡ true → G) → (b ≡ true → G) → G
+either true b e f g = f refl
+either false b e f g = g e
 
-word-bytes : (n v : ℕ) → Bytes (bytes n v)
-unfolding bytes
-word-bytes zero v i = lit< tt
-word-bytes (suc n) v i = byte-append (bytes n v) _ (word-bytes n v) last i
-  where
-    last : Bytes (v / 2 ^ (8 * n) % 256 ∷ [])
-    last zero = omega arith
-    last (suc i) = lit< tt
+-- whether the words at two places do not meet
+abbrev pub far : ℕ → ℕ → Bool
+far at q = leb (at + 4) q || leb (q + 4) at
 
-field-bytes : (fs : List Field) → Bytes (bytesOf fs)
-unfolding bytesOf
-field-bytes [] i = lit< tt
-field-bytes (n of v ∷ fs) i = byte-append (bytes n v) (bytesOf fs) (word-bytes n v) (field-bytes fs) i
-field-bytes (unused ∷ fs) zero = lit< tt
-field-bytes (unused ∷ fs) (suc i) = field-bytes fs i
-
--- the bytes of hints
-pub hint-bytes : (hs : List HintRecord) → Bytes (listBytes hintBytes hs)
-unfolding listBytes hintBytes
-hint-bytes [] i = lit< tt
-hint-bytes (h ∷ hs) i = byte-append (hintBytes h) (listBytes hintBytes hs) (field-bytes (hintFields h)) (hint-bytes hs) i
-
--- ---- places that rise by a word or more
-
+-- whether no two of the words at some places meet
 abbrev pub spaced : List ℕ → Bool
 spaced [] = true
-spaced (at ∷ places) = each (λ q. leb (at + 4) q) places && spaced places
+spaced (at ∷ places) = each (far at) places && spaced places
 
-word-apart : (at : ℕ) (places : List ℕ) → each (λ q. leb (at + 4) q) places ≡ true → Apart (span at 4) (inWords places)
+far-apart : (at q : ℕ) → far at q ≡ true → Apart (span at 4) (span q 4)
+far-apart at q e =
+    either (leb (at + 4) q) (leb (q + 4) at) e
+    (λ l. spans-apart at 4 q 4 (inl (leb-true (at + 4) q l)))
+    (λ l. spans-apart at 4 q 4 (inr (leb-true (q + 4) at l)))
+
+word-apart : (at : ℕ) (places : List ℕ) → each (far at) places ≡ true → Apart (span at 4) (inWords places)
 word-apart at [] e b p q = true≢false (sym q)
 word-apart at (next ∷ places) e b p q =
-    let f = both (leb (at + 4) next) (each (λ q. leb (at + 4) q) places) e in
-    go (λ r. word-apart at places (f .1) b p r) (λ s. spans-apart at 4 next 4 (inl (leb-true (at + 4) next (f .0))) b p s) (span next 4 b) refl q
-  where
-    go : (inWords places b ≡ true → ⊥) → (span next 4 b ≡ true → ⊥) → (t : Bool) → span next 4 b ≡ t → (t || inWords places b) ≡ true → ⊥
-    go rest here true s r = here s
-    go rest here false s r = rest r
+    let f = both (far at next) (each (far at) places) e in
+    either (span next 4 b) (inWords places b) q (far-apart at next (f .0) b p) (word-apart at places (f .1) b p)
 
 pub disjoint-by : (places : List ℕ) → spaced places ≡ true → Disjoint places
 disjoint-by [] e = tt
 disjoint-by (at ∷ places) e =
-    let f = both (each (λ q. leb (at + 4) q) places) (spaced places) e in
+    let f = both (each (far at) places) (spaced places) e in
     (word-apart at places (f .0), disjoint-by places (f .1))
+
+-- no word of some places meets one of others
+words-apart : (ps qs : List ℕ) → each (λ at. each (far at) qs) ps ≡ true → Apart (inWords ps) (inWords qs)
+words-apart [] qs e b p q = true≢false (sym p)
+words-apart (at ∷ ps) qs e b p q =
+    let f = both (each (far at) qs) (each (λ at. each (far at) qs) ps) e in
+    either (span at 4 b) (inWords ps b) p (λ h. word-apart at qs (f .0) b h q) (λ h. words-apart ps qs (f .1) b h q)
+
+-- hint k shares no byte with another
+pub alone-by : (hints : List ℕ) (k : ℕ)
+    → every (λ j. eqb j k || each (λ at. each (far at) (placesOf (hintOf hints k))) (placesOf (hintOf hints j))) (hintCount hints) ≡ true
+    → Alone hints k
+alone-by hints k e j l ne b p q =
+    let away : Bool = each (λ at. each (far at) (placesOf (hintOf hints k))) (placesOf (hintOf hints j)) in
+    let t = every-at (λ j. eqb j k || each (λ at. each (far at) (placesOf (hintOf hints k))) (placesOf (hintOf hints j))) (hintCount hints) e j l in
+    either (eqb j k) away t (λ s. ne (eqb-true j k s)) (λ f. words-apart (placesOf (hintOf hints j)) (placesOf (hintOf hints k)) f b p q)
 
 -- ---- a hint's words
 
@@ -105,10 +99,6 @@ clear hints i j =
     eqb (objectAt hints i) (objectAt hints j) || isSkipped (hintOf hints i) || isSkipped (hintOf hints j)
     || leb (hintOf hints i .start + hintOf hints i .len) (hintOf hints j .start)
     || leb (hintOf hints j .start + hintOf hints j .len) (hintOf hints i .start)
-
-either : {G : Type 0} (a b : Bool) → (a || b) ≡ true → (a ≡ true → G) → (b ≡ true → G) → G
-either true b e f g = f refl
-either false b e f g = g e
 
 pub parts-by : (hints : List ℕ) → every (λ i. every (clear hints i) (hintCount hints)) (hintCount hints) ≡ true → PartsApart hints
 parts-by hints e i j hi hj ne b p q =

@@ -4,7 +4,6 @@ use mathlib.Core.Path.{_≡_}
 use mathlib.Core.Bool.{Bool, false, _&&_, not}
 use mathlib.Core.List.{List, [], _∷_, _++_, map}
 use Prim.Native.Nat.{ℕ, _+_, _<_}
-use lib.ListN.{getD}
 use Rattle.util.specs.Wrap.{sum}
 use Rattle.util.specs.Word.{le}
 use Rattle.macho.specs.declared.hint.HintRecord.{HintRecord}
@@ -22,10 +21,6 @@ use Rattle.arm64_hints.specs.Run.{worked, imageOf}
 use Rattle.arm64_hints.specs.declared.outcome.Tally.{Tally}
 
 -- ---- hints and their bytes
-
--- a list of bytes, as lent
-abbrev pub Bytes : List ℕ → Type 0
-Bytes s = (i : ℕ) → getD s i 0 < 256
 
 -- what the machine is fed: the words of a hint's places in an image, each with its lent address
 abbrev pub codes : HintRecord → List ℕ → List Placed

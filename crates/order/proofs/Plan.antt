@@ -92,6 +92,17 @@ module _ (foot : ℕ → Bool) where
         makes = λ x y l a. g .makes (put 4 x at w) (put 4 y at w) (f .size x ∙ l ∙ sym (f .size y)) (f .makes x y l a);
       }
 
+-- no new words
+pub puts-none : (places x : List ℕ) → x ≡ putWords places [] x
+puts-none [] x = refl
+puts-none (at ∷ places) x = refl
+
+-- the first place's word is stored first
+pub puts-first : (at : ℕ) (places : List ℕ) (new : Option ℕ) (news : List (Option ℕ)) (x : List ℕ)
+    → putWords places news (putWords (at ∷ []) (new ∷ []) x) ≡ putWords (at ∷ places) (new ∷ news) x
+puts-first at places none news x = refl
+puts-first at places (some w) news x = refl
+
 -- words that stand in the footprint alone
 pub words-read : (places : List ℕ) → Reads (inWords places) (wordsAt places)
 words-read [] x y a = refl

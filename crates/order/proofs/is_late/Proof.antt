@@ -2,11 +2,11 @@
 use mathlib.Core.Path.{_≡_, sym, ap}
 use Prim.Native.Nat.{ℕ, _+_, _*_}
 use native.Mathlib.Omega.{arith}
-use native.Mathlib.Nat.{add-zero}
 use borrow.Author.Needs.{needs}
 use lib.Dec.{eqb}
 use lib.ListN.{getD}
 use Rattle.util.specs.Word.{le}
+use Rattle.util.proofs.Word.{le-one}
 use Rattle.order.proofs.is_late.Statement.{statement}
 use Rattle.order.proofs.is_late.Tie as tie
 
@@ -17,11 +17,10 @@ shared-slice-read-result : tie.Need-shared-slice-read-result
 shared-slice-read-result c = search needs
 
 returns : tie.Need-returns
-unfolding le
 returns c =
     let s = c .before .args .hints .now in
     let at : ℕ = 64 * c .before .args .k in
-    let e : le 1 s at ≡ getD s at 0 = simp add-zero (omega arith) in
+    let e : le 1 s at ≡ getD s at 0 = le-one s at (omega (arith, c .shared-slice-known .given at)) in
     ap (λ (b : ℕ). eqb b 1) (sym e)
 
 pub is-late-spec : {M : Type 1} → statement M

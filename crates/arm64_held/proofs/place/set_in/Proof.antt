@@ -1,48 +1,37 @@
+-- `set_in`: by the cases of the new word, and of the word count.
 use mathlib.Core.Path.{sym, ap, _∙_}
 use borrow.Author.Tests.{lt-ltb, le-ltb}
 use Rattle.util.proofs.Choice.{choose-true, choose-false}
 use Rattle.arm64_rules.specs.declared.answer.NewWord.{NewWord}
 use Rattle.arm64_held.specs.Place.{setIn}
-use mathlib.Core.Path.{sym, ap, _∙_}
 use borrow.Author.Needs.{needs}
 use Rattle.arm64_held.proofs.place.set_in.Statement.{statement}
 use Rattle.arm64_held.proofs.place.set_in.Tie as tie
-use Rattle.arm64_held.proofs.place.set_in.Reads as reads
-use Rattle.arm64_held.proofs.place.set_in.Lts as lts
-use Rattle.util.proofs.write32.Reads as write32-reads
 
 enum-told : tie.Need-enum-told
 enum-told c = search needs
 
--- src/place.rt:36:22
 enum-known-w : tie.Need-enum-known-w
 enum-known-w c = search needs
 
--- src/place.rt:38:28
 mul-insn : tie.Need-mul-insn
 mul-insn c = search needs
 
--- src/place.rt:38:28
 array-copy-out-insn : tie.Need-array-copy-out-insn
 array-copy-out-insn c = search needs
 
--- src/place.rt:39:30
 cast-write32 : tie.Need-cast-write32
 cast-write32 c = search needs
 
--- src/place.rt:39:17
 write32-requires : tie.Need-write32-requires
 write32-requires c κs = c .before .before .before .before .before .before .before .before .pre .within (c .before .before .before .if1 .taken)
 
--- src/place.rt:30:1
 returns : tie.Need-returns
 returns c = search needs
 
--- src/place.rt:30:1
 same-length : tie.Need-same-length
 same-length c = search needs
 
--- src/place.rt:30:1
 returns-2 : tie.Need-returns-2
 returns-2 c =
     let k = c .before .before .before .before .before .before .before .before in
@@ -52,7 +41,6 @@ returns-2 c =
     (ap (λ (w : NewWord). setIn (s .buf .now) (s .t2) (s .n) (s .i) w) (k .w .given .1)
     ∙ choose-true _ _ _ (lt-ltb _ _ (c .before .before .before .before .before .before .if1 .taken)))
 
--- src/place.rt:30:1
 returns-3 : tie.Need-returns-3
 returns-3 c =
     let s = c .before .before .before .before .before .args in

@@ -1,9 +1,10 @@
--- `loh_adrp_adrp`: the part is all of the section, so that words are read and stored there.
+-- `loh_adrp_adrp`: the part is all of the section, so that the rule works there.
 use mathlib.Core.Path.{refl, sym, ap, _∙_}
 use mathlib.Core.List.{List}
 use Prim.Native.Nat.{ℕ}
 use denote.Ref.{RefT}
 use Rattle.macho.specs.Types.{MCLOH-AdrpAdrp}
+use Rattle.arm64_hints.proofs.Held.{held-inside}
 use Rattle.arm64_hints.proofs.Rules.{inside-same, loh-is}
 use borrow.Author.Needs.{needs}
 use Rattle.arm64_hints.proofs.loh.loh_adrp_adrp.Statement.{statement}
@@ -12,33 +13,32 @@ use Rattle.arm64_hints.proofs.loh.loh_adrp_adrp.Tie as tie
 part-requires : tie.Need-part-requires
 part-requires c κs = search needs
 
-insns-in-requires : tie.Need-insns-in-requires
-insns-in-requires c κs = inside-same _ (c .before .part .ensures .1 refl refl) (c .before .before .before .before .pre)
+insns-all-requires : tie.Need-insns-all-requires
+insns-all-requires c κs = search needs
 
-decide-adrp-adrp-requires : tie.Need-decide-adrp-adrp-requires
-decide-adrp-adrp-requires c κs = search needs
+cast-rule : tie.Need-cast-rule
+cast-rule c = search needs
 
-store-requires : tie.Need-store-requires
-store-requires c κs = inside-same _ (c .before .before .before .part .ensures .1 refl refl) (c .before .before .before .before .before .before .pre)
+rule-requires : tie.Need-rule-requires
+rule-requires c κs =
+    let p = c .before .before in
+    let s = p .before .before .before in
+    held-inside (s .args .h) (c .before .insns-all .ensures) (inside-same _ (p .part .ensures .1 refl refl) (s .pre))
 
 same-length : tie.Need-same-length
 same-length c = search needs
 
 returns : tie.Need-returns
 returns c =
-    let d = c .before .before .before in
-    let p = d .before .before .before in
+    let i = c .before .before .before .before in
+    let p = i .before in
+    let s = p .before .before .before in
     let same = p .part .ensures .1 refl refl in
-    loh-is _ _ MCLOH-AdrpAdrp (ap (λ (r : RefT (List ℕ)). r .now) same) (d .before .insns-in .ensures) (d .decide-adrp-adrp .ensures)
-    (c .before .section .given .1 .0 (sym (ap (λ (r : RefT (List ℕ)). r .name) same)) ∙ c .before .before .store .ensures)
+    let told = c .before .before .rule .ensures in
+    loh-is _ _ MCLOH-AdrpAdrp (i .insns-all .ensures) (s .pre .worked) (ap (λ (r : RefT (List ℕ)). r .now) same)
+    (told .0, c .before .section .given .1 .0 (sym (ap (λ (r : RefT (List ℕ)). r .name) same)) ∙ told .1)
 
 pub loh-adrp-adrp-spec : {M : Type 1} → statement M
 loh-adrp-adrp-spec =
     tie.close
-    (tie.spec
-    part-requires
-    insns-in-requires
-    decide-adrp-adrp-requires
-    store-requires
-    same-length
-    returns)
+    (tie.spec part-requires insns-all-requires cast-rule rule-requires same-length returns)

@@ -1,0 +1,3 @@
+-- The rules of two and of three words.
+pub mod Two
+pub mod Three

@@ -1,0 +1,23 @@
+-- `decide_adrp_ldr_got_str`: the definition at this kind computes to its rule.
+use Rattle.util.specs.Choice.{choose}
+use Rattle.arm64_decide.specs.Decide.{decide}
+use borrow.Author.Needs.{needs}
+use Rattle.arm64_decide.proofs.decide_adrp_ldr_got_str.Statement.{statement}
+use Rattle.arm64_decide.proofs.decide_adrp_ldr_got_str.Tie as tie
+use Rattle.arm64_decide.proofs.decide_adrp_ldr_got_str.Reads as reads
+use Rattle.arm64_decide.proofs.decide_adrp_ldr_got_str.Lts as lts
+use Rattle.arm64_got_rules.proofs.adrp_ldr_got_str.Reads as adrp-ldr-got-str-reads
+use Rattle.arm64_rules.proofs.rels.has_page_pair.Reads as has-page-pair-reads
+
+has-page-pair-requires : tie.Need-has-page-pair-requires
+has-page-pair-requires c κs = search needs
+
+adrp-ldr-got-str-requires : tie.Need-adrp-ldr-got-str-requires
+adrp-ldr-got-str-requires c κs = search needs
+
+returns : tie.Need-returns
+unfolding decide choose
+returns c = simp (c .adrp-ldr-got-str .ensures, c .before .has-page-pair .ensures)
+
+pub decide-adrp-ldr-got-str-spec : {M : Type 1} → statement M
+decide-adrp-ldr-got-str-spec = tie.close (tie.spec has-page-pair-requires adrp-ldr-got-str-requires returns)

@@ -1,0 +1,2 @@
+-- The rule of each kind.
+pub mod Decide

@@ -1,0 +1,92 @@
+// What is decided of a hint: by its kind, the rule on its words where its entries pair as the rule wants.
+use arm64_adrp_rules::three::adrp_add_ldr;
+use arm64_adrp_rules::three::adrp_add_str;
+use arm64_adrp_rules::two::adrp_add;
+use arm64_adrp_rules::two::adrp_adrp;
+use arm64_adrp_rules::two::adrp_ldr;
+use arm64_got_rules::adrp_ldr_got;
+use arm64_got_rules::adrp_ldr_got_ldr;
+use arm64_got_rules::adrp_ldr_got_str;
+use arm64_rules::answer::Decision;
+use arm64_rules::answer::Insns;
+use arm64_rules::rels::Rels;
+use arm64_rules::rels::both_pages;
+use arm64_rules::rels::has_page_pair;
+use macho::consts;
+ghost use mathlib.Core.Path.{_≡_};
+ghost use Rattle.macho.specs.Types.{MCLOH-AdrpAdrp, MCLOH-AdrpLdr, MCLOH-AdrpAddLdr, MCLOH-AdrpLdrGotLdr};
+ghost use Rattle.macho.specs.Types.{MCLOH-AdrpAddStr, MCLOH-AdrpLdrGotStr, MCLOH-AdrpAdd, MCLOH-AdrpLdrGot};
+ghost use Rattle.arm64_decide.specs.Decide.{decide};
+
+// ADRP_ADRP.
+pub fn decide_adrp_adrp(s: Insns, r: Rels) -> Decision
+    ensures { λ d. ⌜ d ≡ decide MCLOH-AdrpAdrp s r ⌝ }
+{
+    adrp_adrp(s, both_pages(r))
+}
+
+// ADRP_LDR.
+pub fn decide_adrp_ldr(s: Insns, r: Rels) -> Decision
+    ensures { λ d. ⌜ d ≡ decide MCLOH-AdrpLdr s r ⌝ }
+{
+    adrp_ldr(s, has_page_pair(r, 2, false))
+}
+
+// ADRP_ADD_LDR.
+pub fn decide_adrp_add_ldr(s: Insns, r: Rels) -> Decision
+    ensures { λ d. ⌜ d ≡ decide MCLOH-AdrpAddLdr s r ⌝ }
+{
+    adrp_add_ldr(s, has_page_pair(r, 3, false))
+}
+
+// ADRP_LDR_GOT_LDR.
+pub fn decide_adrp_ldr_got_ldr(s: Insns, r: Rels) -> Decision
+    ensures { λ d. ⌜ d ≡ decide MCLOH-AdrpLdrGotLdr s r ⌝ }
+{
+    adrp_ldr_got_ldr(s, has_page_pair(r, 3, true))
+}
+
+// ADRP_ADD_STR.
+pub fn decide_adrp_add_str(s: Insns, r: Rels) -> Decision
+    ensures { λ d. ⌜ d ≡ decide MCLOH-AdrpAddStr s r ⌝ }
+{
+    adrp_add_str(s, has_page_pair(r, 3, false))
+}
+
+// ADRP_LDR_GOT_STR.
+pub fn decide_adrp_ldr_got_str(s: Insns, r: Rels) -> Decision
+    ensures { λ d. ⌜ d ≡ decide MCLOH-AdrpLdrGotStr s r ⌝ }
+{
+    adrp_ldr_got_str(s, has_page_pair(r, 3, true))
+}
+
+// ADRP_ADD.
+pub fn decide_adrp_add(s: Insns, r: Rels) -> Decision
+    ensures { λ d. ⌜ d ≡ decide MCLOH-AdrpAdd s r ⌝ }
+{
+    adrp_add(s, has_page_pair(r, 2, false))
+}
+
+// ADRP_LDR_GOT.
+pub fn decide_adrp_ldr_got(s: Insns, r: Rels) -> Decision
+    ensures { λ d. ⌜ d ≡ decide MCLOH-AdrpLdrGot s r ⌝ }
+{
+    adrp_ldr_got(s, has_page_pair(r, 2, true))
+}
+
+// The decision of the kind. A number that is no kind has none.
+pub fn decide(kind: u8, s: Insns, r: Rels) -> Decision
+    ensures { λ d. ⌜ d ≡ decide kind s r ⌝ }
+{
+    match kind {
+        consts::LOH_ARM64_ADRP_ADRP => decide_adrp_adrp(s, r),
+        consts::LOH_ARM64_ADRP_LDR => decide_adrp_ldr(s, r),
+        consts::LOH_ARM64_ADRP_ADD_LDR => decide_adrp_add_ldr(s, r),
+        consts::LOH_ARM64_ADRP_LDR_GOT_LDR => decide_adrp_ldr_got_ldr(s, r),
+        consts::LOH_ARM64_ADRP_ADD_STR => decide_adrp_add_str(s, r),
+        consts::LOH_ARM64_ADRP_LDR_GOT_STR => decide_adrp_ldr_got_str(s, r),
+        consts::LOH_ARM64_ADRP_ADD => decide_adrp_add(s, r),
+        consts::LOH_ARM64_ADRP_LDR_GOT => decide_adrp_ldr_got(s, r),
+        _ => Decision::Declined,
+    }
+}

@@ -1,0 +1,2 @@
+-- The rules of a GOT load.
+pub mod Got

@@ -1,0 +1,43 @@
+-- A hint's places as `arm64_held` takes them: an array of three, and the word count. Carried by one law, `insns-first`.
+use mathlib.Core.Path.{_≡_, sym, ap, _∙_, subst}
+use mathlib.Core.Bool.{false}
+use mathlib.Core.List.{List}
+use Prim.Native.Nat.{ℕ}
+use lib.ListN.{take}
+use Rattle.macho.specs.declared.hint.HintInsn.{HintInsn}
+use Rattle.macho.specs.declared.hint.HintRecord.{HintRecord}
+use Rattle.arm64_rules.specs.declared.rels.Rels.{Rels}
+use Rattle.arm64_held.specs.Place.{InBytes}
+use Rattle.arm64_held.specs.Entry.{relsIn, InEntries}
+use Rattle.arm64_hints.specs.Hint.{isSkipped, insnsAll, insnsIn, insnsOf, relsOf, ruledAt, sectionBy, ruledIn, sectionAfter, Inside, Named}
+use Rattle.arm64_hints.specs.declared.outcome.Outcome.{Outcome}
+use Rattle.arm64_hints.proofs.Places.{insns-first}
+
+module _ (h : HintRecord) {insns : List HintInsn} (all : insns ≡ insnsAll h) where
+  -- the first of the array are the hint's
+  firsts : isSkipped h ≡ false → insnsIn h ≡ take (h .n) insns
+  firsts e = insns-first h e ∙ ap (take (h .n)) (sym all)
+
+  -- ---- what is asked
+
+  pub held-inside : {len : ℕ} → Inside h len → InBytes len (take (h .n) insns)
+  held-inside {len} i = subst (InBytes len) (firsts (i .worked)) (i .words)
+
+  pub held-named : {len : ℕ} → Named h len → InEntries len (take (h .n) insns)
+  held-named {len} i = subst (InEntries len) (firsts (i .worked)) (i .entries)
+
+  -- ---- what is answered
+
+  module _ (e : isSkipped h ≡ false) where
+    pub held-ruled : (kind : ℕ) (r : Rels) (xs : List ℕ) {o : Outcome} {ys : List ℕ}
+        → (o ≡ ruledAt kind (take (h .n) insns) r xs) × (ys ≡ sectionBy kind (take (h .n) insns) r xs)
+        → (o ≡ ruledIn kind h r xs) × (ys ≡ sectionAfter kind h r xs)
+    unfolding insnsOf
+    held-ruled kind r xs told = (
+      told .0 ∙ ap (λ (l : List HintInsn). ruledAt kind l r xs) (sym (firsts e)),
+      told .1 ∙ ap (λ (l : List HintInsn). sectionBy kind l r xs) (sym (firsts e)),
+    )
+
+    pub held-rels : (entries : List ℕ) {r : Rels} → r ≡ relsIn entries (take (h .n) insns) → r ≡ relsOf entries h
+    unfolding relsOf
+    held-rels entries told = told ∙ ap (relsIn entries) (sym (firsts e))

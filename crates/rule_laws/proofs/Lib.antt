@@ -1,0 +1,5 @@
+-- What is proved of every decision.
+pub mod Cases
+pub mod Written
+pub mod Hinted
+pub mod Examples

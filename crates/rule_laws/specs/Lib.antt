@@ -1,0 +1,1 @@
+-- No definitions: the theorems are about those of the crates below.
