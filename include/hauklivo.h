@@ -2,13 +2,13 @@
  * Hauklivo: the calls that a Mach-O linker makes for arm64.
  *
  * Each call returns 0, or the number of a refusal (enum hauklivo_number). A refused call changes
- * nothing that it was lent: no byte, no slot, no count.
+ * nothing that it was lent: no byte, no slot, no count, no tally.
  *
  * Lists are lent as bytes: a pointer and a length in bytes. Each list holds records of one fixed
  * size with no header, in the layouts of the structs below, little-endian. No pointer may be null,
- * not even one of an empty list. What a call may write (a section, slots, a count) may not overlap
- * anything else that is lent to it. Lists of records need no alignment; `sections` needs that of
- * uint64_t.
+ * not even one of an empty list. What a call may write (a section, slots, a count, a tally) may not
+ * overlap anything else that is lent to it. Lists of records need no alignment; `sections` needs
+ * that of uint64_t, a tally that of uint32_t, a count that of size_t.
  */
 #ifndef HAUKLIVO_H
 #define HAUKLIVO_H
@@ -30,9 +30,10 @@ enum hauklivo_number {
     /* A list's length is not whole records, a list has more than 2^32 - 1 records, or two lists
      * disagree (targets are not one for each entry). */
     HAUKLIVO_LENGTHS = 1,
-    /* The slots have fewer than 24 bytes for each input record. */
+    /* The slots have fewer than 24 bytes for each input record; of a listing, more than 16,384
+     * bytes of words, or fewer than 27 bytes of room for each word. */
     HAUKLIVO_SLOTS = 2,
-    /* A place is past the bytes that it reads or writes. */
+    /* A place is past the bytes that it reads or writes, or a hint's part is past the image. */
     HAUKLIVO_BOUNDS = 3,
     /* An ADDEND record is the last record. */
     HAUKLIVO_LONE_ADDEND = 4,
@@ -107,19 +108,22 @@ HAUKLIVO_ASSERT(sizeof(struct hauklivo_entry) == 24, "an entry has 24 bytes");
 enum hauklivo_flag {
     /* A library's symbol that dyld binds. Looked at for symbols only. */
     HAUKLIVO_IMPORTED = 1 << 0,
+    /* In thread-local storage: a pointer to it gets the distance from `tls_begin`. */
     HAUKLIVO_THREAD_LOCAL = 1 << 1,
     /* Set for every section, and for each symbol that has an address in the image. */
     HAUKLIVO_HAS_ADDRESS = 1 << 2,
     /* A load of its GOT slot can be relaxed to its address. */
     HAUKLIVO_RELAXES_GOT = 1 << 3,
+    /* It has a thunk entry in reach of the place, for a branch that does not reach by itself. Looked
+     * at for symbols only. */
     HAUKLIVO_HAS_THUNK = 1 << 4,
     /* A GOT load of it calls a helper. */
     HAUKLIVO_HAS_HELPER = 1 << 5,
     /* The helper is the site's own: reached by B, not BL. */
     HAUKLIVO_HELPER_OWN = 1 << 6,
-    /* A DTrace probe site: the branch becomes NOP. */
+    /* A DTrace probe site: the branch becomes NOP. Looked at for symbols only. */
     HAUKLIVO_PROBE = 1 << 7,
-    /* A DTrace is-enabled site: the branch becomes MOVZ X0, #0. */
+    /* A DTrace is-enabled site: the branch becomes MOVZ X0, #0. Looked at for symbols only. */
     HAUKLIVO_IS_ENABLED = 1 << 8
 };
 
@@ -167,6 +171,62 @@ struct hauklivo_report {
 };
 HAUKLIVO_ASSERT(sizeof(struct hauklivo_report) == 24, "a report has 24 bytes");
 
+/* Kinds of a linker optimization hint, those of LLVM's MCLinkerOptimizationHint.h. */
+enum hauklivo_hint_kind {
+    HAUKLIVO_ADRP_ADRP = 1,
+    HAUKLIVO_ADRP_LDR = 2,
+    HAUKLIVO_ADRP_ADD_LDR = 3,
+    HAUKLIVO_ADRP_LDR_GOT_LDR = 4,
+    HAUKLIVO_ADRP_ADD_STR = 5,
+    HAUKLIVO_ADRP_LDR_GOT_STR = 6,
+    HAUKLIVO_ADRP_ADD = 7,
+    HAUKLIVO_ADRP_LDR_GOT = 8
+};
+
+/* The entry number of a word that has none. */
+#define HAUKLIVO_WITHOUT_ENTRY UINT32_C(0xffffffff)
+
+/* Where one word of a hint stands. */
+struct hauklivo_place {
+    /* Offset of the word in the hint's part of the image. */
+    uint32_t offset;
+    /* Number of the word's entry, counted from 0, or HAUKLIVO_WITHOUT_ENTRY. */
+    uint32_t entry;
+    /* The word's own address. */
+    uint64_t address;
+};
+HAUKLIVO_ASSERT(sizeof(struct hauklivo_place) == 16, "a place has 16 bytes");
+
+/* A hint. One of another kind, or with another word count than its kind has, is skipped. */
+struct hauklivo_hint {
+    /* enum hauklivo_hint_kind. */
+    uint8_t kind;
+    /* 2 words, or 3 for the kinds 3 to 6. */
+    uint8_t words;
+    /* Not looked at. */
+    uint16_t ignored;
+    /* Number of the object that it comes from. */
+    uint32_t object;
+    /* Its part of the image: the first byte, and how many. */
+    uint32_t start;
+    uint32_t length;
+    /* A third place is not looked at where there are 2 words. */
+    struct hauklivo_place places[3];
+};
+HAUKLIVO_ASSERT(sizeof(struct hauklivo_hint) == 64, "a hint has 64 bytes");
+
+/* What became of the hints of a run. */
+struct hauklivo_tally {
+    uint32_t rewritten;
+    /* Of another kind, or with another word count. */
+    uint32_t skipped;
+    /* Left as they were, for a rule did not fit. */
+    uint32_t declined;
+    /* Left as they were, for an address sum passed 2^64 - 1 (number 9, which no run returns). */
+    uint32_t turned_down;
+};
+HAUKLIVO_ASSERT(sizeof(struct hauklivo_tally) == 16, "a tally has 16 bytes");
+
 /*
  * Reads the relocation records of a section into entries.
  *
@@ -176,7 +236,8 @@ HAUKLIVO_ASSERT(sizeof(struct hauklivo_report) == 24, "a report has 24 bytes");
  *   slots     at least 24 bytes for each record; gets struct hauklivo_entry
  *   count     gets how many entries were filled; slots after them keep their bytes
  *
- * Numbers: 1, 2, then by record 3, 4, 5, 6, 7.
+ * Numbers, in this order: 1, 2, then record by record 3 (its offset), 4, 5, 3 (the word that it must
+ * fit), 6, 3 (a stored addend), 7.
  */
 uint8_t hauklivo_read_relocs(const uint8_t *contents, size_t contents_len, const void *records,
                              size_t records_len, const uint64_t *sections, size_t sections_len,
@@ -193,7 +254,8 @@ uint8_t hauklivo_read_relocs(const uint8_t *contents, size_t contents_len, const
  *   slots      at least 24 bytes for each entry; gets struct hauklivo_report
  *   count      gets how many reports were filled; slots after them keep their bytes
  *
- * Numbers: 1, 2, then by entry 3, 11, 9, 5, 8, 10.
+ * Numbers, in this order: 1, 2, then entry by entry, but for those that a SUBTRACTOR takes, 3 (its
+ * offset), 11, 9, 5, 8, 10, 3 (the bytes that it reads or writes).
  */
 uint8_t hauklivo_apply_reloc_alloc(uint8_t *section, size_t section_len, uint64_t base,
                                    uint64_t tls_begin, const void *entries, size_t entries_len,
@@ -213,6 +275,37 @@ uint8_t hauklivo_write_stub(uint8_t *bytes, size_t bytes_len, uint64_t address, 
  * Number: 3 for fewer than 12 bytes.
  */
 uint8_t hauklivo_write_thunk(uint8_t *bytes, size_t bytes_len, uint64_t address, uint64_t target);
+
+/*
+ * Works hints on an image whose bytes are fixed up: objects by rising number, in each the hints of
+ * the kinds 2 to 8 by their place in the list, then those of kind 1.
+ *
+ *   image    the bytes of every section that a hint's part is in
+ *   hints    struct hauklivo_hint
+ *   entries  struct hauklivo_entry
+ *   tally    gets the four counts; what it held before does not matter
+ *
+ * Numbers, in this order: 1, then hint by hint, but for those that are skipped, 3 (its part, then its
+ * words), 12.
+ */
+uint8_t hauklivo_apply_hints(uint8_t *image, size_t image_len, const void *hints, size_t hints_len,
+                             const void *entries, size_t entries_len, struct hauklivo_tally *tally);
+
+/* The most bytes of text that a word is listed with. */
+#define HAUKLIVO_LINE 27
+
+/*
+ * Lists the 4-byte words of a section, a line for each: its offset and the word in hexadecimal,
+ * then adrp, add, load N, store N (N bytes are moved) or other.
+ *
+ *   words  at most 16,384 bytes
+ *   out    at least HAUKLIVO_LINE bytes for each word; gets ASCII text with no 0 at its end
+ *   count  gets how many bytes that is; bytes of `out` after them stay
+ *
+ * Numbers: 2, then 1 where the words are not whole.
+ */
+uint8_t hauklivo_list(const uint8_t *words, size_t words_len, uint8_t *out, size_t out_len,
+                      size_t *count);
 
 #undef HAUKLIVO_ASSERT
 #ifdef __cplusplus

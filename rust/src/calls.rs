@@ -1,9 +1,10 @@
 //! The calls of libhauklivo.a, as safe functions.
 
-use crate::Refusal;
 use crate::raw::{
-    hauklivo_apply_reloc_alloc, hauklivo_read_relocs, hauklivo_write_stub, hauklivo_write_thunk,
+    hauklivo_apply_hints, hauklivo_apply_reloc_alloc, hauklivo_list, hauklivo_read_relocs,
+    hauklivo_write_stub, hauklivo_write_thunk,
 };
+use crate::{Refusal, Tally};
 
 /// `answer` where the number is 0, else the refusal.
 fn settled<T>(number: u8, answer: T) -> Result<T, Refusal> {
@@ -35,9 +36,10 @@ fn settled<T>(number: u8, answer: T) -> Result<T, Refusal> {
 ///
 /// # Errors
 ///
-/// [`Lengths`](Refusal::Lengths), [`Slots`](Refusal::Slots), then the first of a record:
-/// [`Bounds`](Refusal::Bounds), [`LoneAddend`](Refusal::LoneAddend),
-/// [`Unsupported`](Refusal::Unsupported), [`Unfit`](Refusal::Unfit),
+/// In this order: [`Lengths`](Refusal::Lengths), [`Slots`](Refusal::Slots), then record by record
+/// [`Bounds`](Refusal::Bounds) of its offset, [`LoneAddend`](Refusal::LoneAddend),
+/// [`Unsupported`](Refusal::Unsupported), [`Bounds`](Refusal::Bounds) of the word that it must fit,
+/// [`Unfit`](Refusal::Unfit), [`Bounds`](Refusal::Bounds) of a stored addend,
 /// [`NoSection`](Refusal::NoSection).
 pub fn read_relocs(
     contents: &[u8],
@@ -96,10 +98,11 @@ pub fn read_relocs(
 ///
 /// # Errors
 ///
-/// [`Lengths`](Refusal::Lengths), [`Slots`](Refusal::Slots), then the first of an entry:
-/// [`Bounds`](Refusal::Bounds), [`Flags`](Refusal::Flags), [`Overflow`](Refusal::Overflow),
-/// [`Unsupported`](Refusal::Unsupported), [`LoneSubtractor`](Refusal::LoneSubtractor),
-/// [`NeedsSymbol`](Refusal::NeedsSymbol).
+/// In this order: [`Lengths`](Refusal::Lengths), [`Slots`](Refusal::Slots), then entry by entry, but
+/// for those that a SUBTRACTOR takes, [`Bounds`](Refusal::Bounds) of its offset,
+/// [`Flags`](Refusal::Flags), [`Overflow`](Refusal::Overflow), [`Unsupported`](Refusal::Unsupported),
+/// [`LoneSubtractor`](Refusal::LoneSubtractor), [`NeedsSymbol`](Refusal::NeedsSymbol),
+/// [`Bounds`](Refusal::Bounds) of the bytes that it reads or writes.
 pub fn apply_reloc_alloc(
     section: &mut [u8],
     base: u64,
@@ -167,4 +170,86 @@ pub fn write_thunk(bytes: &mut [u8], address: u64, target: u64) -> Result<(), Re
     // SAFETY: as in read_relocs.
     let number = unsafe { hauklivo_write_thunk(bytes.as_mut_ptr(), bytes.len(), address, target) };
     settled(number, ())
+}
+
+/// Works hints on an image whose bytes are fixed up, and says what became of them: objects by rising
+/// number, in each the hints of the kinds 2 to 8 by their place in the list, then those of kind 1.
+///
+/// `hints` holds [`Hint`](crate::Hint)s, `entries` [`Reloc`](crate::Reloc)s.
+///
+/// ```
+/// use hauklivo::{Hint, Place, Record, Reloc, Tally, apply_hints, kind, ty};
+///
+/// // adrp x0, 0; add x0, x0, #3: the address is near, so one adr does.
+/// let mut image = [0x90000000_u32, 0x91000c00].map(u32::to_le_bytes).concat();
+/// let entries = [
+///     Reloc { offset: 0, ty: ty::PAGE21, size: 4, is_pcrel: 1, target: 5, ..Reloc::default() },
+///     Reloc { offset: 4, ty: ty::PAGEOFF12, size: 4, target: 5, ..Reloc::default() },
+/// ];
+/// let first = Place { offset: 0, entry: 0, address: 0x1000 };
+/// let second = Place { offset: 4, entry: 1, address: 0x1004 };
+/// let places = [first, second, Place::default()];
+/// let hints = [Hint { kind: kind::ADRP_ADD, words: 2, length: 8, places, ..Hint::default() }];
+///
+/// let tally = apply_hints(&mut image, Hint::bytes(&hints), Reloc::bytes(&entries))?;
+/// assert_eq!(tally, Tally { rewritten: 1, ..Tally::default() });
+/// assert_eq!(image, [0x70000000_u32, 0xd503201f].map(u32::to_le_bytes).concat()); // adr x0, 3; nop
+/// # Ok::<(), hauklivo::Refusal>(())
+/// ```
+///
+/// # Errors
+///
+/// In this order: [`Lengths`](Refusal::Lengths), then hint by hint, but for those that are skipped,
+/// [`Bounds`](Refusal::Bounds) of its part and of its words, [`NoEntry`](Refusal::NoEntry).
+pub fn apply_hints(image: &mut [u8], hints: &[u8], entries: &[u8]) -> Result<Tally, Refusal> {
+    let mut tally = Tally::default();
+    // SAFETY: as in read_relocs.
+    let number = unsafe {
+        hauklivo_apply_hints(
+            image.as_mut_ptr(),
+            image.len(),
+            hints.as_ptr(),
+            hints.len(),
+            entries.as_ptr(),
+            entries.len(),
+            &mut tally,
+        )
+    };
+    settled(number, tally)
+}
+
+/// The most bytes of text that [`list()`] has for a word.
+pub const LINE: usize = 27;
+
+/// Lists the 4-byte words of a section at the start of `out`, and says how many bytes that is; bytes
+/// after those stay. A line has the word's offset and the word in hexadecimal, then `adrp`, `add`,
+/// `load N`, `store N` (N bytes are moved) or `other`.
+///
+/// `words` has at most 16,384 bytes, `out` at least [`LINE`] for each word.
+///
+/// ```
+/// let words = [0x90000000_u32, 0x91000400, 0xf9400001, 0xd503201f].map(u32::to_le_bytes).concat();
+/// let mut out = [0; 4 * hauklivo::LINE];
+/// let n = hauklivo::list(&words, &mut out)?;
+/// assert_eq!(
+///     str::from_utf8(&out[..n]),
+///     Ok("00000000 90000000 adrp\n\
+///         00000004 91000400 add\n\
+///         00000008 f9400001 load 8\n\
+///         0000000c d503201f other\n")
+/// );
+/// # Ok::<(), hauklivo::Refusal>(())
+/// ```
+///
+/// # Errors
+///
+/// [`Slots`](Refusal::Slots) for too many words or too little room, then
+/// [`Lengths`](Refusal::Lengths) for words that are not whole.
+pub fn list(words: &[u8], out: &mut [u8]) -> Result<usize, Refusal> {
+    let mut count = 0;
+    // SAFETY: as in read_relocs.
+    let number = unsafe {
+        hauklivo_list(words.as_ptr(), words.len(), out.as_mut_ptr(), out.len(), &mut count)
+    };
+    settled(number, count)
 }

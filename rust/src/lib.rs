@@ -1,5 +1,6 @@
 //! The last step of a Mach-O linker for arm64: relocation records into entries, entries into a
-//! section's bytes, single stub and thunk entries. Each function calls one function of the static
+//! section's bytes, single stub and thunk entries, linker optimization hints, and a listing of a
+//! section's words. Each function calls one function of the static
 //! library `libhauklivo.a`, which is proved to do what the project's definitions say, to touch
 //! nothing outside what it is lent, and to return.
 //!
@@ -42,11 +43,19 @@
 #[cfg(not(all(target_arch = "x86_64", target_endian = "little")))]
 compile_error!("libhauklivo.a is made for x86-64");
 
+/// The example in the README.
+#[cfg(doctest)]
+#[doc = include_str!("../../README.md")]
+struct Readme;
+
 mod calls;
 pub mod raw;
 pub mod records;
 mod refusal;
 
-pub use calls::{apply_reloc_alloc, read_relocs, write_stub, write_thunk};
-pub use records::{MachRel, Record, Reloc, Report, ReportKind, Resolved, Target, flag, ty};
+pub use calls::{LINE, apply_hints, apply_reloc_alloc, list, read_relocs, write_stub, write_thunk};
+pub use records::{
+    Hint, MachRel, Place, Record, Reloc, Report, ReportKind, Resolved, Tally, Target, flag, kind,
+    ty,
+};
 pub use refusal::Refusal;

@@ -4,6 +4,8 @@
 //! A pointer must be one that a slice of the length may have, and what is written may not overlap
 //! anything else that is lent.
 
+use crate::Tally;
+
 unsafe extern "C" {
     /// See [`read_relocs`](crate::read_relocs); `count` is written only where 0 comes back.
     pub fn hauklivo_read_relocs(
@@ -45,4 +47,24 @@ unsafe extern "C" {
 
     /// See [`write_thunk`](crate::write_thunk).
     pub fn hauklivo_write_thunk(bytes: *mut u8, bytes_len: usize, address: u64, target: u64) -> u8;
+
+    /// See [`apply_hints`](crate::apply_hints); `tally` is written only where 0 comes back.
+    pub fn hauklivo_apply_hints(
+        image: *mut u8,
+        image_len: usize,
+        hints: *const u8,
+        hints_len: usize,
+        entries: *const u8,
+        entries_len: usize,
+        tally: *mut Tally,
+    ) -> u8;
+
+    /// See [`list`](crate::list()); `count` is written only where 0 comes back.
+    pub fn hauklivo_list(
+        words: *const u8,
+        words_len: usize,
+        out: *mut u8,
+        out_len: usize,
+        count: *mut usize,
+    ) -> u8;
 }

@@ -1,11 +1,7 @@
 //! The records that lists are made of: relocation records of an object file, entries, resolved
-//! targets, reports.
+//! targets, reports, hints; and the tally of a hint run.
 
 use std::slice;
-
-mod sealed {
-    pub trait Sealed {}
-}
 
 /// A record of fixed size, whose bytes in memory are its bytes in a list.
 ///
@@ -19,14 +15,41 @@ mod sealed {
 /// assert_eq!(MachRel::bytes(&[r, r]).len(), 16);
 /// ```
 ///
-/// Every type that has it is `repr(C)` without padding and takes every pattern of bits.
-pub trait Record: sealed::Sealed + Copy + Default {
+/// A linker may give it to a type of its own with the fields of a record here, and lend slices of
+/// that without a copy:
+///
+/// ```
+/// use hauklivo::{Record, Reloc};
+///
+/// #[repr(C)]
+/// #[derive(Clone, Copy, Default)]
+/// struct Entry {
+///     offset: u32,
+///     form: [u8; 4],
+///     target: u32,
+///     spare: u32,
+///     addend: i64,
+/// }
+///
+/// // SAFETY: repr(C) without padding, and every field is of integers.
+/// unsafe impl Record for Entry {}
+///
+/// assert_eq!(Entry::SIZE, Reloc::SIZE);
+/// assert_eq!(Entry::bytes(&[Entry { addend: -1, ..Entry::default() }])[16..], [0xff; 8]);
+/// ```
+///
+/// # Safety
+///
+/// The type has no padding, so that each of its bytes can be read; every pattern of bits is a value
+/// of it, so that each can be written (no `bool`, no enum, no reference); it holds no `Cell`. A type
+/// whose fields are not where the library has them is safe to lend, but is taken for another record.
+pub unsafe trait Record: Copy + Default {
     /// Bytes of one record.
     const SIZE: usize = size_of::<Self>();
 
     /// A list of records as bytes.
     fn bytes(list: &[Self]) -> &[u8] {
-        // SAFETY: no padding, so every byte is set; u8 needs no alignment.
+        // SAFETY: no padding, so every byte is set, and no cell; u8 needs no alignment.
         unsafe { slice::from_raw_parts(list.as_ptr().cast(), size_of_val(list)) }
     }
 
@@ -61,8 +84,8 @@ pub trait Record: sealed::Sealed + Copy + Default {
 macro_rules! records {
     ($($name:ident: $size:literal,)*) => {$(
         const _: () = assert!(size_of::<$name>() == $size);
-        impl sealed::Sealed for $name {}
-        impl Record for $name {}
+        // SAFETY: repr(C) without padding, and every field is of integers.
+        unsafe impl Record for $name {}
 
         impl From<[u8; $size]> for $name {
             fn from(bytes: [u8; $size]) -> Self {
@@ -78,7 +101,7 @@ macro_rules! records {
     )*};
 }
 
-records! { MachRel: 8, Reloc: 24, Resolved: 48, Report: 24, }
+records! { MachRel: 8, Reloc: 24, Resolved: 48, Report: 24, Place: 16, Hint: 64, Tally: 16, }
 
 /// Relocation types, those of Apple's `<mach-o/arm64/reloc.h>`.
 #[allow(missing_docs)]
@@ -216,21 +239,22 @@ impl Reloc {
 pub mod flag {
     /// A library's symbol that dyld binds. Looked at for symbols only.
     pub const IMPORTED: u32 = 1 << 0;
-    /// In thread-local storage.
+    /// In thread-local storage: a pointer to it gets the distance from `tls_begin`.
     pub const THREAD_LOCAL: u32 = 1 << 1;
     /// Set for every section, and for each symbol that has an address in the image.
     pub const HAS_ADDRESS: u32 = 1 << 2;
     /// A load of its GOT slot can be relaxed to its address.
     pub const RELAXES_GOT: u32 = 1 << 3;
-    /// It has a thunk entry in reach of the place.
+    /// It has a thunk entry in reach of the place, for a branch that does not reach by itself. Looked
+    /// at for symbols only.
     pub const HAS_THUNK: u32 = 1 << 4;
     /// A GOT load of it calls a helper.
     pub const HAS_HELPER: u32 = 1 << 5;
     /// The helper is the site's own: reached by B, not BL.
     pub const HELPER_OWN: u32 = 1 << 6;
-    /// A DTrace probe site: the branch becomes NOP.
+    /// A DTrace probe site: the branch becomes NOP. Looked at for symbols only.
     pub const PROBE: u32 = 1 << 7;
-    /// A DTrace is-enabled site: the branch becomes MOVZ X0, #0.
+    /// A DTrace is-enabled site: the branch becomes MOVZ X0, #0. Looked at for symbols only.
     pub const IS_ENABLED: u32 = 1 << 8;
 }
 
@@ -297,4 +321,70 @@ impl Report {
             _ => None,
         }
     }
+}
+
+/// Kinds of a linker optimization hint, those of LLVM's `MCLinkerOptimizationHint.h`.
+#[allow(missing_docs)]
+pub mod kind {
+    pub const ADRP_ADRP: u8 = 1;
+    pub const ADRP_LDR: u8 = 2;
+    pub const ADRP_ADD_LDR: u8 = 3;
+    pub const ADRP_LDR_GOT_LDR: u8 = 4;
+    pub const ADRP_ADD_STR: u8 = 5;
+    pub const ADRP_LDR_GOT_STR: u8 = 6;
+    pub const ADRP_ADD: u8 = 7;
+    pub const ADRP_LDR_GOT: u8 = 8;
+}
+
+/// Where one word of a hint stands.
+#[repr(C)]
+#[derive(Clone, Copy, Debug, Default, PartialEq, Eq, Hash)]
+pub struct Place {
+    /// Offset of the word in the hint's part of the image.
+    pub offset: u32,
+    /// Number of the word's entry, counted from 0, or [`Place::WITHOUT_ENTRY`].
+    pub entry: u32,
+    /// The word's own address.
+    pub address: u64,
+}
+
+impl Place {
+    /// The entry number of a word that has none.
+    pub const WITHOUT_ENTRY: u32 = u32::MAX;
+}
+
+/// A hint. One of another kind than those of [`kind`], or with another word count than its kind has,
+/// is skipped.
+#[repr(C)]
+#[derive(Clone, Copy, Debug, Default, PartialEq, Eq, Hash)]
+pub struct Hint {
+    /// One of [`kind`].
+    pub kind: u8,
+    /// 2 words, or 3 for the kinds 3 to 6.
+    pub words: u8,
+    /// Not looked at.
+    pub ignored: u16,
+    /// Number of the object that it comes from.
+    pub object: u32,
+    /// Where its part of the image starts.
+    pub start: u32,
+    /// The bytes of its part.
+    pub length: u32,
+    /// Its words; the third is not looked at where there are 2.
+    pub places: [Place; 3],
+}
+
+/// What became of the hints of a run.
+#[repr(C)]
+#[derive(Clone, Copy, Debug, Default, PartialEq, Eq, Hash)]
+pub struct Tally {
+    /// Rewritten.
+    pub rewritten: u32,
+    /// Skipped: of another kind, or with another word count.
+    pub skipped: u32,
+    /// Left as they were, for a rule did not fit.
+    pub declined: u32,
+    /// Left as they were, for an address sum passed 2^64 - 1 ([`Overflow`](crate::Refusal::Overflow),
+    /// which no run returns).
+    pub turned_down: u32,
 }

@@ -11,7 +11,7 @@ use std::fmt;
 /// assert_eq!(Refusal::Bounds.number(), 3);
 /// assert_eq!(Refusal::try_from(3), Ok(Refusal::Bounds));
 /// assert_eq!(Refusal::try_from(13), Err(13));
-/// assert_eq!(Refusal::Bounds.to_string(), "3: a place is past the bytes that it reads or writes");
+/// assert_eq!(Refusal::Unfit.to_string(), "6: a word is unfit for its relocation");
 /// ```
 #[derive(Clone, Copy, Debug, PartialEq, Eq, Hash, PartialOrd, Ord)]
 #[repr(u8)]
@@ -19,9 +19,10 @@ pub enum Refusal {
     /// A list's length is not whole records, a list has more than 2^32 - 1 records, or targets are
     /// not one for each entry.
     Lengths = 1,
-    /// The slots have fewer than 24 bytes for each input record.
+    /// The slots have fewer than 24 bytes for each input record; of a listing, more than 16,384
+    /// bytes of words, or fewer than 27 bytes of room for each word.
     Slots = 2,
-    /// A place is past the bytes that it reads or writes.
+    /// A place is past the bytes that it reads or writes, or a hint's part is past the image.
     Bounds = 3,
     /// An ADDEND record is the last record.
     LoneAddend = 4,
@@ -69,8 +70,8 @@ impl Refusal {
     fn meaning(self) -> &'static str {
         match self {
             Self::Lengths => "a list is not whole records, too long, or disagrees with another",
-            Self::Slots => "the slots have fewer than 24 bytes for each record",
-            Self::Bounds => "a place is past the bytes that it reads or writes",
+            Self::Slots => "there is too little room for the answer, or too much to list",
+            Self::Bounds => "a place is past its bytes, or a part is past the image",
             Self::LoneAddend => "an ADDEND record is the last record",
             Self::Unsupported => "a relocation's type or form is not supported",
             Self::Unfit => "a word is unfit for its relocation",

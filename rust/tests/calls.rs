@@ -1,6 +1,9 @@
 //! Every call, with each refusal that it can give and the lent bytes unchanged after it.
 
-use hauklivo::{MachRel, Record, Refusal, Reloc, Report, ReportKind, Resolved, Target, flag, ty};
+use hauklivo::{
+    Hint, MachRel, Place, Record, Refusal, Reloc, Report, ReportKind, Resolved, Tally, Target,
+    flag, kind, ty,
+};
 
 const FILL: u8 = 0xa5;
 const NOP: u32 = 0xd503201f;
@@ -172,6 +175,29 @@ fn fixup_refuses() {
     assert_eq!(fix(&[NOP, NOP], &late), Err(Refusal::Unsupported));
 }
 
+/// Where two numbers apply, the first of the documented order comes back.
+#[test]
+fn numbers_in_order() {
+    let read = |offset, bits| read_all(&[record(offset, bits)]).unwrap_err();
+    assert_eq!(read(17, 0xa4000000), Refusal::Bounds); // not LoneAddend
+    assert_eq!(read(17, 0x9d000000), Refusal::Bounds); // not Unsupported
+    assert_eq!(read(13, 0x9d000000), Refusal::Unsupported); // not Bounds
+    assert_eq!(read(13, 0x9c000000), Refusal::Bounds); // not Unfit
+    assert_eq!(read(9, 0x06000003), Refusal::Bounds); // not NoSection
+
+    let fix = |e: Reloc, t: Resolved| fix(&[NOP, NOP], &[(e, t)]).unwrap_err();
+    let odd = Resolved { flags: 0x200, ..at(0) };
+    assert_eq!(fix(entry(9, ty::UNSIGNED, 8), odd), Refusal::Bounds); // not Flags
+    assert_eq!(fix(entry(4, ty::UNSIGNED, 8), odd), Refusal::Flags); // not Bounds
+    assert_eq!(fix(entry(6, 200, 8), odd), Refusal::Flags); // not Unsupported
+    assert_eq!(fix(entry(6, ty::SUBTRACTOR, 8), at(0)), Refusal::LoneSubtractor); // not Bounds
+    let section = Reloc { target: Target::SECTION, ..entry(6, ty::POINTER_TO_GOT, 4) };
+    assert_eq!(fix(section, at(0)), Refusal::NeedsSymbol); // not Bounds
+    let high =
+        fix_bytes(&[FILL; 8], u64::MAX, Reloc::bytes(&[entry(1, 200, 8)]), &at(0).to_bytes(), 24);
+    assert_eq!(high, Err(Refusal::Overflow)); // not Unsupported
+}
+
 #[test]
 fn stub_and_thunk() {
     let mut short = [FILL; 11];
@@ -186,6 +212,122 @@ fn stub_and_thunk() {
     assert_eq!(hauklivo::write_thunk(&mut buf, 0x1000, 0x2014), Ok(()));
     assert_eq!(buf[..12], bytes(&[0xb0000010, 0x91005210, 0xd61f0200]));
     assert_eq!(buf[12], FILL);
+}
+
+/// The halves of one reference, to symbol 5.
+fn halves() -> [Reloc; 2] {
+    let page = Reloc { ty: ty::PAGE21, size: 4, is_pcrel: 1, target: 5, ..Reloc::default() };
+    [page, Reloc { ty: ty::PAGEOFF12, ..page }]
+}
+
+/// A hint whose words stand one after another from `start`, the first at `address`, with the entries
+/// 0 and 1 on the first two.
+fn hint(kind: u8, words: u8, object: u32, start: u32, address: u64) -> Hint {
+    let place = |i: u32, entry| Place {
+        offset: 4 * i,
+        entry,
+        address: address.wrapping_add(4 * u64::from(i)),
+    };
+    let places = [place(0, 0), place(1, 1), place(2, Place::WITHOUT_ENTRY)];
+    Hint { kind, words, object, start, length: 4 * u32::from(words), places, ..Hint::default() }
+}
+
+/// An image after a run. One that is turned down must keep its bytes.
+fn work_bytes(image: &[u8], hints: &[u8], entries: &[u8]) -> Result<(Vec<u8>, Tally), Refusal> {
+    let mut after = image.to_vec();
+    let done = hauklivo::apply_hints(&mut after, hints, entries);
+    assert!(done.is_ok() || after == image);
+    done.map(|tally| (after, tally))
+}
+
+fn work(words: &[u32], hints: &[Hint]) -> Result<(Vec<u8>, Tally), Refusal> {
+    work_bytes(&bytes(words), Hint::bytes(hints), Reloc::bytes(&halves()))
+}
+
+#[test]
+fn hints_work() {
+    assert_eq!(work_bytes(&[], &[], &[]), Ok((vec![], Tally::default())));
+    let one = Tally { rewritten: 1, ..Tally::default() };
+    for (kind, before, after) in [
+        (kind::ADRP_LDR, vec![0x90000000, 0xf9400401], [NOP, 0x58000021].to_vec()),
+        (kind::ADRP_ADD, vec![0x90000000, 0x91000c00], [0x70000000, NOP].to_vec()),
+        (
+            kind::ADRP_ADD_STR,
+            vec![0x90001000, 0x91004000, 0xf9000001],
+            vec![0x90001000, NOP, 0xf9000801],
+        ),
+    ] {
+        let hints = [hint(kind, before.len() as u8, 0, 0, 0x1000)];
+        assert_eq!(work(&before, &hints), Ok((bytes(&after), one)));
+    }
+    // One of each count.
+    let hints = [
+        hint(kind::ADRP_LDR, 2, 2, 0, 0x1000),
+        hint(9, 2, 1, 0, 0x1000),
+        hint(kind::ADRP_ADD, 2, 1, 8, 0x1000),
+        hint(kind::ADRP_LDR, 2, 1, 16, 0xfffffffffffff000),
+    ];
+    let mut words = [0x90000000, 0xf9400401, 0x90008000, 0x91000000, 0x90000001, 0xbd29d025];
+    let answer = work(&words, &hints);
+    words[..2].copy_from_slice(&[NOP, 0x58000021]);
+    let each = Tally { rewritten: 1, skipped: 1, declined: 1, turned_down: 1 };
+    assert_eq!(answer, Ok((bytes(&words), each)));
+}
+
+#[test]
+fn hints_refuse() {
+    let image = bytes(&[0x90000000, 0x91000c00]);
+    let good = hint(kind::ADRP_ADD, 2, 0, 0, 0x1000);
+    let pair = Reloc::bytes(&halves()).to_vec();
+    let lists = |hints: &[u8], entries: &[u8]| work_bytes(&image, hints, entries).unwrap_err();
+    assert_eq!(lists(&[0; 7], &pair), Refusal::Lengths);
+    assert_eq!(lists(&good.to_bytes(), &pair[..23]), Refusal::Lengths);
+    assert_eq!(lists(&good.to_bytes(), &pair[..24]), Refusal::NoEntry);
+
+    // After a good hint, so that nothing of it is kept.
+    let one = |bad: Hint| lists(Hint::bytes(&[good, bad]), &pair);
+    assert_eq!(one(Hint { start: 1, ..good }), Refusal::Bounds);
+    assert_eq!(one(Hint { length: 7, ..good }), Refusal::Bounds);
+    let mut absent = good;
+    absent.places[1].entry = 2;
+    assert_eq!(one(absent), Refusal::NoEntry);
+    // Bounds go first, and a skipped hint is not looked at.
+    assert_eq!(one(Hint { length: 7, ..absent }), Refusal::Bounds);
+    let skipped = Hint { words: 3, start: 1, ..absent };
+    let tally = Tally { rewritten: 1, skipped: 1, ..Tally::default() };
+    let done = work_bytes(&image, Hint::bytes(&[good, skipped]), &pair);
+    assert_eq!(done, Ok((bytes(&[0x70000000, NOP]), tally)));
+}
+
+/// The text of words in `room` bytes. What is not to be written must keep its bytes.
+fn listed(words: &[u8], room: usize) -> Result<String, Refusal> {
+    let mut out = vec![FILL; room];
+    let done = hauklivo::list(words, &mut out);
+    assert!(out[done.unwrap_or(0)..].iter().all(|&b| b == FILL));
+    done.map(|n| String::from_utf8(out[..n].to_vec()).unwrap())
+}
+
+#[test]
+fn lister_lists() {
+    assert_eq!(listed(&[], 0), Ok(String::new()));
+    let words = bytes(&[0x90000000, 0x91000400, 0xf9400001, 0x3d800000, NOP]);
+    let text = "00000000 90000000 adrp\n00000004 91000400 add\n00000008 f9400001 load 8\n\
+                0000000c 3d800000 store 16\n00000010 d503201f other\n";
+    assert_eq!(listed(&words, 5 * hauklivo::LINE), Ok(text.to_owned()));
+    assert_eq!(listed(&words, 200).as_deref(), Ok(text));
+    let most = listed(&[0; 16384], 4096 * hauklivo::LINE).unwrap();
+    assert_eq!(most.lines().count(), 4096);
+    assert_eq!(most.lines().last(), Some("00003ffc 00000000 other"));
+}
+
+#[test]
+fn lister_refuses() {
+    assert_eq!(listed(&[0; 7], 100), Err(Refusal::Lengths));
+    assert_eq!(listed(&[0; 8], 2 * hauklivo::LINE - 1), Err(Refusal::Slots));
+    assert_eq!(listed(&[0; 16388], 5000 * hauklivo::LINE), Err(Refusal::Slots));
+    // 2 goes first.
+    assert_eq!(listed(&[0; 16385], 5000 * hauklivo::LINE), Err(Refusal::Slots));
+    assert_eq!(listed(&[0; 9], 0), Err(Refusal::Slots));
 }
 
 #[test]
@@ -226,6 +368,15 @@ fn refused_calls_leave_numbers() {
         assert_eq!((number, count), (1, 77));
         assert_eq!((raw::hauklivo_write_stub(b, 0, 0, 0, &mut reaches), reaches), (3, 77));
         assert_eq!(raw::hauklivo_write_thunk(b, 0, 0, 0), 3);
+        assert_eq!(raw::hauklivo_list([0; 7].as_ptr(), 7, p, 24, &mut count), 2);
+        assert_eq!(raw::hauklivo_list([0; 3].as_ptr(), 3, p, 24, &mut count), 1);
+        assert_eq!(count, 77);
+        let old = Tally { rewritten: 1, skipped: 2, declined: 3, turned_down: 4 };
+        let mut tally = old;
+        assert_eq!(raw::hauklivo_apply_hints(b, 0, [0; 7].as_ptr(), 7, s, 0, &mut tally), 1);
+        assert_eq!(tally, old);
+        assert_eq!(raw::hauklivo_apply_hints(b, 0, s, 0, s, 0, &mut tally), 0);
+        assert_eq!(tally, Tally::default());
     }
     assert_eq!(slots, [FILL; 24]);
 }
@@ -248,6 +399,17 @@ fn records_convert() {
     let report = Report::from_bytes(&list[..24]).unwrap();
     assert_eq!((report.kind, report.size, report.kind()), (4, 5, Some(ReportKind::NonLdr)));
     assert_eq!((report.place, report.target), (0x0f0e0d0c0b0a0908, 0x1716151413121110));
+    let list: Vec<u8> = (0..64).collect();
+    let h = Hint::from_bytes(&list).unwrap();
+    assert_eq!(
+        (h.kind, h.words, h.object, h.start, h.length),
+        (0, 1, 0x07060504, 0x0b0a0908, 0x0f0e0d0c)
+    );
+    assert_eq!((h.places[1].offset, h.places[1].entry), (0x23222120, 0x27262524));
+    assert_eq!(
+        (h.places[0].address, h.places[2].address),
+        (0x1f1e1d1c1b1a1918, 0x3f3e3d3c3b3a3938)
+    );
     for target in [Target::Symbol(7), Target::Section(7)] {
         assert_eq!(Reloc { target: target.pack(), ..Reloc::default() }.target(), target);
     }

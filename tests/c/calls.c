@@ -192,11 +192,107 @@ static void stub_and_thunk(void)
     CHECK(bytes[12] == FILL);
 }
 
+/* A run that must answer `number` and leave image and tally. */
+static void refused_working(uint8_t number, const struct hauklivo_hint *hints, size_t hints_len,
+                            const struct hauklivo_entry *entries, size_t entries_len)
+{
+    uint8_t image[8];
+    struct hauklivo_tally tally;
+    memset(image, FILL, sizeof image);
+    memset(&tally, FILL, sizeof tally);
+    CHECK(hauklivo_apply_hints(image, sizeof image, hints, hints_len, entries, entries_len, &tally) == number);
+    CHECK(filled(image, sizeof image));
+    CHECK(filled(&tally, sizeof tally));
+}
+
+static void hints(void)
+{
+    const struct hauklivo_entry entries[2] = {
+        {.type = HAUKLIVO_PAGE21, .size = 4, .is_pcrel = 1, .target = 5},
+        {.offset = 4, .type = HAUKLIVO_PAGEOFF12, .size = 4, .target = 5},
+    };
+    const struct hauklivo_place first = {0, 0, 0x1000}, second = {4, 1, 0x1004}, past = {5, 1, 0x1004};
+    const struct hauklivo_place absent = {4, 2, 0x1004};
+    const struct hauklivo_hint list[2] = {
+        {.kind = HAUKLIVO_ADRP_ADD, .words = 2, .length = 8, .places = {first, second}},
+        {.kind = 9, .words = 2},
+    };
+    uint8_t image[9];
+    struct hauklivo_tally tally;
+
+    /* adrp x0, 0; add x0, x0, #3 becomes adr x0, 3; nop. A hint of no kind is skipped. */
+    memset(image, FILL, sizeof image);
+    memset(&tally, FILL, sizeof tally);
+    put_word(image, 0, 0x90000000);
+    put_word(image, 4, 0x91000c00);
+    CHECK(hauklivo_apply_hints(image, sizeof image, list, sizeof list, entries, sizeof entries, &tally)
+          == HAUKLIVO_DONE);
+    CHECK(word_at(image, 0) == 0x70000000 && word_at(image, 4) == 0xd503201f && image[8] == FILL);
+    CHECK(tally.rewritten == 1 && tally.skipped == 1 && tally.declined == 0 && tally.turned_down == 0);
+
+    /* Again: the first word is no ADRP any more. The counts are those of this run alone. */
+    CHECK(hauklivo_apply_hints(image, sizeof image, list, 64, entries, sizeof entries, &tally) == HAUKLIVO_DONE);
+    CHECK(word_at(image, 0) == 0x70000000 && word_at(image, 4) == 0xd503201f);
+    CHECK(tally.rewritten == 0 && tally.skipped == 0 && tally.declined == 1 && tally.turned_down == 0);
+
+    /* adrp x1, 0; str s5, [x1, #0x29d0] on the last page: the sum passes 2^64 - 1, and the words stay. */
+    struct hauklivo_hint last = {.kind = HAUKLIVO_ADRP_LDR, .words = 2, .length = 8, .places = {first, second}};
+    last.places[0].address = UINT64_C(0xfffffffffffff000);
+    last.places[1].address = UINT64_C(0xfffffffffffff004);
+    put_word(image, 0, 0x90000001);
+    put_word(image, 4, 0xbd29d025);
+    CHECK(hauklivo_apply_hints(image, sizeof image, &last, 64, entries, sizeof entries, &tally) == HAUKLIVO_DONE);
+    CHECK(word_at(image, 0) == 0x90000001 && word_at(image, 4) == 0xbd29d025);
+    CHECK(tally.rewritten == 0 && tally.skipped == 0 && tally.declined == 0 && tally.turned_down == 1);
+
+    /* Empty lists succeed. */
+    CHECK(hauklivo_apply_hints(image, 0, list, 0, entries, 0, &tally) == HAUKLIVO_DONE);
+    CHECK(tally.rewritten == 0 && tally.skipped == 0 && tally.declined == 0 && tally.turned_down == 0);
+
+    struct hauklivo_hint far = list[0], wide = list[0], third = list[0];
+    far.start = 1;
+    wide.places[1] = past;
+    third.places[1] = absent;
+    refused_working(HAUKLIVO_LENGTHS, list, 7, entries, sizeof entries);
+    refused_working(HAUKLIVO_LENGTHS, list, 64, entries, 23);
+    refused_working(HAUKLIVO_BOUNDS, &far, 64, entries, sizeof entries);
+    refused_working(HAUKLIVO_BOUNDS, &wide, 64, entries, sizeof entries);
+    refused_working(HAUKLIVO_NO_ENTRY, &third, 64, entries, sizeof entries);
+}
+
+static void lister(void)
+{
+    static const char text[] = "00000000 90000000 adrp\n00000004 91000400 add\n"
+                               "00000008 f9400001 load 8\n0000000c d503201f other\n";
+    static uint8_t most[16388];
+    uint8_t words[16];
+    uint8_t out[4 * HAUKLIVO_LINE];
+    size_t count = UNTOUCHED;
+
+    put_word(words, 0, 0x90000000);
+    put_word(words, 4, 0x91000400);
+    put_word(words, 8, 0xf9400001);
+    put_word(words, 12, 0xd503201f);
+    memset(out, FILL, sizeof out);
+    CHECK(hauklivo_list(words, 15, out, sizeof out, &count) == HAUKLIVO_LENGTHS);
+    CHECK(hauklivo_list(words, 16, out, sizeof out - 1, &count) == HAUKLIVO_SLOTS);
+    CHECK(hauklivo_list(most, sizeof most, out, sizeof out, &count) == HAUKLIVO_SLOTS);
+    CHECK(filled(out, sizeof out) && count == UNTOUCHED);
+
+    CHECK(hauklivo_list(words, 16, out, sizeof out, &count) == HAUKLIVO_DONE);
+    CHECK(count == sizeof text - 1 && memcmp(out, text, count) == 0);
+    CHECK(filled(out + count, sizeof out - count));
+    CHECK(hauklivo_list(words, 0, out, 0, &count) == HAUKLIVO_DONE);
+    CHECK(count == 0);
+}
+
 int main(void)
 {
     reader();
     fixup();
     stub_and_thunk();
+    hints();
+    lister();
     if (failures == 0)
         puts("the C calls answer as they should");
     return failures != 0;

@@ -4,3 +4,4 @@ pub mod Decimal
 pub mod Stores
 pub mod Lines
 pub mod Printed
+pub mod Answers

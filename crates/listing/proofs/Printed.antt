@@ -1,13 +1,11 @@
--- The three answers of `textOf`; all have at most 4,096 lines of 27 bytes.
-use mathlib.Core.Path.{_≡_, sym, ap, _∙_}
+-- The three texts of `textOf`; all have at most 4,096 lines of 27 bytes.
+use mathlib.Core.Path.{_≡_, _∙_}
 use mathlib.Core.List.{List}
 use Prim.Native.Nat.{ℕ, _/_, _%_, _≤_, _<_}
 use native.Mathlib.Omega.{arith}
 use borrow.Author.Tests.{lt-ltb, le-ltb, eq-eqb, ne-eqb, ltb-false}
 use lib.Dec.{ltb, eqb, lit≤}
 use lib.ListN.{length}
-use lib.Seq.{length-sets, length-take-le}
-use Rattle.io.specs.Counts.{Counts}
 use Rattle.util.proofs.Choice.{split, choose-true, choose-false}
 use Rattle.listing.specs.Text.{linesOf, refused, textOf}
 use Rattle.listing.specs.Puts.{Puts}
@@ -36,7 +34,5 @@ module _ (s : List ℕ) where
       Short t = length t ≤ 110592
 
   -- the answer counts bytes of the output
-  pub counts : {l m : List ℕ} {r : ℕ} → length l ≡ 110592 → Puts l 0 (textOf s) r m → Counts r m
-  counts {l} {m} {r} e p =
-      let h : r ≤ length m = omega (arith, text-length, p .ends, ap length (p .stored) ∙ length-sets l 0 (textOf s)) in
-      (h, sym (length-take-le r m h))
+  pub counts : {l m : List ℕ} {r : ℕ} → Puts l 0 (textOf s) r m → r ≤ 110592
+  counts p = omega (arith, text-length, p .ends)

@@ -2,3 +2,4 @@
 pub mod Class
 pub mod Text
 pub mod Puts
+pub mod Listing

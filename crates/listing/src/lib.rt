@@ -3,13 +3,20 @@ pub mod class;
 
 use class::Class;
 use class::class_of;
+use macho::refusal::Refusal;
 ghost use mathlib.Core.Path.{_≡_};
 ghost use mathlib.Core.List.{_∷_, [], _++_};
-ghost use Prim.Native.Nat.{_+_, _/_, _≤_, _<_};
+ghost use Prim.Native.Nat.{_+_, _*_, _/_, _≤_, _<_};
 ghost use lib.ListN.{length};
-ghost use Rattle.io.specs.Counts.{Counts};
-ghost use Rattle.listing.specs.Text.{digitOf, hexOf, decimal, className, lineOf, linesOf, textOf};
+ghost use Rattle.listing.specs.Text.{digitOf, hexOf, decimal, className, lineOf, linesOf, refused, textOf};
 ghost use Rattle.listing.specs.Puts.{Puts};
+ghost use Rattle.listing.specs.Listing.{listOf, outAfter};
+
+// What a listing answers: why nothing was written, or how many bytes were.
+pub enum ListAnswer {
+    Refused(Refusal),
+    Filled(usize),
+}
 
 // Puts a text at `at`, and answers where it ends.
 fn put(out: &mut [u8], at: usize, text: &[u8]) -> usize
@@ -103,7 +110,7 @@ fn put_line(out: &mut [u8], at: usize, offset: u32, word: u32) -> usize
 
 // Puts the lines of whole words.
 fn put_lines(input: &[u8], out: &mut [u8]) -> usize
-    requires { ⌜ (length (now input) ≤ 16384) × (length (now out) ≡ 110592) ⌝ }
+    requires { ⌜ (length (now input) ≤ 16384) × (27 * (length (now input) / 4) ≤ length (now out)) ⌝ }
     ensures { λ r. ⌜ Puts (now (out .entry)) 0 (linesOf (now (input .entry)) (length (now (input .entry)) / 4)) r (now (out .exit)) ⌝ }
 {
     let n = input.len() / 4;
@@ -116,26 +123,40 @@ fn put_lines(input: &[u8], out: &mut [u8]) -> usize
     at
 }
 
-// Puts what the lister prints of an input at the start of out, 27 bytes a line at most, and answers how many bytes that is.
-pub fn list(input: &[u8], out: &mut [u8; 110592]) -> usize
-    ensures { λ r. ⌜ Puts (now (out .entry)) 0 (textOf (now (input .entry))) r (now (out .exit)) ⌝ }
-    ensures { λ r. ⌜ Counts r (now (out .exit)) ⌝ }
+// Lists words at the start of out, which has 27 bytes or more for each.
+pub fn list(words: &[u8], out: &mut [u8]) -> ListAnswer
+    ensures answer { λ r. ⌜ r ≡ listOf (now (words .entry)) (length (now (out .entry))) ⌝ }
+    ensures out { λ _. ⌜ now (out .exit) ≡ outAfter (now (words .entry)) (now (out .entry)) ⌝ }
 {
-    if input.len() > 16384 {
-        return put(out, 0, b"refused 2\n");
+    if words.len() > 16384 {
+        return ListAnswer::Refused(Refusal::Slots);
     }
-    if input.len() % 4 != 0 {
-        return put(out, 0, b"refused 1\n");
+    if out.len() < 27 * (words.len() / 4) {
+        return ListAnswer::Refused(Refusal::Slots);
     }
-    put_lines(input, out)
+    if words.len() % 4 != 0 {
+        return ListAnswer::Refused(Refusal::Lengths);
+    }
+    ListAnswer::Filled(put_lines(words, out))
 }
 
-// The program: lists standard input on standard output, of which no contract can speak. The buffer has room for one byte too
-// many, so that a longer input is seen.
-pub fn run() {
-    let mut input = [0u8; 16385];
-    let got = io::read_full(libc::STDIN_FILENO, &mut input);
-    let mut out = [0u8; 110592];
-    let n = list(&input[..got], &mut out);
-    io::write_all(libc::STDOUT_FILENO, &out[..n]);
+// Puts `refused N` and a newline at the start of out.
+fn put_refused(out: &mut [u8], number: u8) -> usize
+    requires { ⌜ (10 ≤ length (now out)) × (number < 10) ⌝ }
+    ensures { λ r. ⌜ Puts (now (out .entry)) 0 (refused number) r (now (out .exit)) ⌝ }
+{
+    let last = digit(number as u32);
+    let text = [b'r', b'e', b'f', b'u', b's', b'e', b'd', b' ', last, b'\n'];
+    put(out, 0, &text)
+}
+
+// Puts what the lister prints of an input at the start of out, and answers how many bytes that is.
+pub fn text(input: &[u8], out: &mut [u8; 110592]) -> usize
+    ensures { λ r. ⌜ Puts (now (out .entry)) 0 (textOf (now (input .entry))) r (now (out .exit)) ⌝ }
+    ensures { λ r. ⌜ r ≤ 110592 ⌝ }
+{
+    match list(input, out) {
+        ListAnswer::Refused(refusal) => put_refused(out, refusal.number()),
+        ListAnswer::Filled(n) => n,
+    }
 }

@@ -1,57 +1,31 @@
--- `list` meets its contract: the two lengths tested say which text is meant. Assumes nothing.
-use Rattle.listing.proofs.Printed.{too-long, odd-length, whole-words, counts}
+-- `list`: each test that turns the words down is one of `listOf`.
+use Rattle.listing.proofs.Answers.{list-long, list-narrow, list-odd, list-whole}
 use borrow.Author.Needs.{needs}
 use Rattle.listing.proofs.list.Statement.{statement}
 use Rattle.listing.proofs.list.Tie as tie
-use Rattle.listing.proofs.list.Reads as reads
-use Rattle.listing.proofs.list.Lts as lts
-use Rattle.listing.proofs.put.Reads as put-reads
-use Rattle.listing.proofs.put_lines.Reads as put-lines-reads
-
-slice-aggregate-put : tie.Need-slice-aggregate-put
-slice-aggregate-put c = search needs
-
-put-requires : tie.Need-put-requires
-put-requires c κs = search needs
 
 returns : tie.Need-returns
-returns c =
-    let s = c .before .before .before .before .before .args .input .now in
-    let p = rw (← too-long s (c .before .before .before .if1 .taken)) at (c .put .ensures) in
-    (p, counts s (search needs) p)
+returns c = list-long _ _ (c .if1 .taken)
 
-slice-aggregate-put-2 : tie.Need-slice-aggregate-put-2
-slice-aggregate-put-2 c = search needs
-
-put-requires-2 : tie.Need-put-requires-2
-put-requires-2 c κs = search needs
+mul-if2 : tie.Need-mul-if2
+mul-if2 c = search needs
 
 returns-2 : tie.Need-returns-2
-returns-2 c =
-    let k = c .before .before .before in
-    let s = k .before .before .before .args .input .now in
-    let p = rw (← odd-length s (k .before .if1 .left) (k .if2 .taken)) at (c .put2 .ensures) in
-    (p, counts s (search needs) p)
+returns-2 c = list-narrow _ _ (c .before .if1 .left) (c .if2 .taken)
+
+returns-3 : tie.Need-returns-3
+returns-3 c = list-odd _ _ (c .before .before .if1 .left) (c .before .if2 .left) (c .if3 .taken)
 
 put-lines-requires : tie.Need-put-lines-requires
 put-lines-requires c κs = search needs
 
-returns-3 : tie.Need-returns-3
-returns-3 c =
-    let k = c .before .before in
-    let s = k .before .before .before .args .input .now in
-    let p = rw (← whole-words s (k .before .if1 .left) (k .if2 .left)) at (c .put-lines .ensures) in
-    (p, counts s (search needs) p)
+same-length : tie.Need-same-length
+same-length c = search needs
+
+returns-4 : tie.Need-returns-4
+returns-4 c =
+    let k = c .before .before .before .before in
+    list-whole _ _ (k .before .before .if1 .left) (k .before .if2 .left) (k .if3 .left) _ _ (c .before .before .put-lines .ensures)
 
 pub list-spec : {M : Type 1} → statement M
-list-spec =
-    tie.close
-    (tie.spec
-    slice-aggregate-put
-    put-requires
-    returns
-    slice-aggregate-put-2
-    put-requires-2
-    returns-2
-    put-lines-requires
-    returns-3)
+list-spec = tie.close (tie.spec returns mul-if2 returns-2 returns-3 put-lines-requires same-length returns-4)

@@ -1,0 +1,52 @@
+-- The answer of list by its two cases.
+use mathlib.Core.Path.{ap, sym, _∙_}
+use Rattle.listing.specs.declared.ListAnswer.{ListAnswer}
+use Rattle.listing.specs.Listing.{numberOf, filledOf}
+use Rattle.hauklivo.proofs.Lent.{lent-kept, lent-new}
+use borrow.Author.Needs.{needs}
+use Rattle.hauklivo.proofs.lister.hauklivo_list.Statement.{statement}
+use Rattle.hauklivo.proofs.lister.hauklivo_list.Tie as tie
+
+list-requires : tie.Need-list-requires
+list-requires c κs = search needs
+
+enum-known-refusal : tie.Need-enum-known-refusal
+enum-known-refusal c = search needs
+
+number-requires : tie.Need-number-requires
+number-requires c κs = search needs
+
+enum-known-n : tie.Need-enum-known-n
+enum-known-n c = search needs
+
+same-length : tie.Need-same-length
+same-length c = search needs
+
+returns : tie.Need-returns
+returns c =
+    let k = c .before .before .before .before .before .before .list .ensures in
+    let e = sym (c .before .before .refusal .given .1) ∙ k .0 in
+    let x = c .before .before .refusal .given .0 .0 in
+    (c .number .ensures ∙ ap (λ (a : ListAnswer). numberOf a) e, (lent-kept x _ _ _ (c .number .ensures), k .1))
+
+same-length-2 : tie.Need-same-length-2
+same-length-2 c = search needs
+
+returns-2 : tie.Need-returns-2
+returns-2 c =
+    let k = c .before .before .before .before .before .list .ensures in
+    let e = sym (c .before .n .given .1) ∙ k .0 in
+    (ap (λ (a : ListAnswer). numberOf a) e, (lent-new _ _ _ (ap (λ (a : ListAnswer). filledOf a) e), k .1))
+
+pub hauklivo-list-spec : {M : Type 1} → statement M
+hauklivo-list-spec =
+    tie.close
+    (tie.spec
+    list-requires
+    enum-known-refusal
+    number-requires
+    enum-known-n
+    same-length
+    returns
+    same-length-2
+    returns-2)

@@ -1,0 +1,20 @@
+// The hint run.
+use arm64_hints::outcome::Tally;
+use arm64_hints::tally::apply_hints;
+ghost use mathlib.Core.Path.{_≡_};
+ghost use Rattle.arm64_hints.specs.Run.{runOf, imageOf, numberOf, tallyAfter};
+
+// Works the hints on the image by the entries; `tally` gets the counts.
+#[no_mangle]
+pub extern "C" fn hauklivo_apply_hints(
+    image: &mut [u8],
+    hints: &[u8],
+    entries: &[u8],
+    tally: &mut Tally,
+) -> u8
+    ensures { λ r. ⌜ (r ≡ numberOf (runOf (now (image .entry)) (now (hints .entry)) (now (entries .entry))))
+        × (now (tally .exit) ≡ tallyAfter (now (tally .entry)) (runOf (now (image .entry)) (now (hints .entry)) (now (entries .entry))))
+        × (now (image .exit) ≡ imageOf (now (image .entry)) (now (hints .entry)) (now (entries .entry))) ⌝ }
+{
+    apply_hints(image, hints, entries, tally)
+}

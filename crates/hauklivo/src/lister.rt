@@ -1,0 +1,24 @@
+// The word lister.
+use listing::ListAnswer;
+use listing::list;
+ghost use mathlib.Core.Path.{_≡_};
+ghost use lib.ListN.{length};
+ghost use Rattle.listing.specs.Listing.{listOf, outAfter, numberOf, filledOf};
+ghost use Rattle.hauklivo.specs.Lent.{lentNumber};
+
+// Lists words with their offsets and classes at the start of `out`; `count` gets how many bytes that is.
+#[no_mangle]
+pub extern "C" fn hauklivo_list(words: &[u8], out: &mut [u8], count: &mut usize) -> u8
+    ensures number { λ r. ⌜ r ≡ numberOf (listOf (now (words .entry)) (length (now (out .entry)))) ⌝ }
+    ensures count { λ r. ⌜ now (count .exit)
+        ≡ lentNumber r (filledOf (listOf (now (words .entry)) (length (now (out .entry))))) (now (count .entry)) ⌝ }
+    ensures out { λ _. ⌜ now (out .exit) ≡ outAfter (now (words .entry)) (now (out .entry)) ⌝ }
+{
+    match list(words, out) {
+        ListAnswer::Refused(refusal) => refusal.number(),
+        ListAnswer::Filled(n) => {
+            *count = n;
+            0
+        }
+    }
+}

@@ -1,0 +1,33 @@
+// The word lister of document 01 at work: standard input is listed on standard output.
+ghost use Prim.Native.Nat.{_≤_};
+ghost use lib.ListN.{length, take};
+ghost use Rattle.listing.specs.Text.{textOf};
+ghost use Rattle.listing.specs.Puts.{Puts};
+
+// How many bytes were read, and how many bytes of text they came to.
+pub struct Listed {
+    pub input: usize,
+    pub text: usize,
+}
+
+// Writes the first n bytes.
+fn write_first(out: &[u8], n: usize)
+    requires { ⌜ n ≤ length (now out) ⌝ }
+{
+    io::write_all(libc::STDOUT_FILENO, &out[..n]);
+}
+
+// Reads into `input`, puts the text of what was read into `out`, and writes it. What reaches the two ends of the program is outside
+// every contract.
+pub fn run(input: &mut [u8], out: &mut [u8; 110592]) -> Listed
+    ensures read { λ r. ⌜ r .input ≤ length (now (input .exit)) ⌝ }
+    ensures text { λ r. ⌜ Puts (now (out .entry)) 0 (textOf (take (r .input) (now (input .exit)))) (r .text) (now (out .exit)) ⌝ }
+{
+    let got = io::read_full(libc::STDIN_FILENO, input);
+    let n = listing::text(&input[..got], out);
+    write_first(out, n);
+    Listed {
+        input: got,
+        text: n,
+    }
+}
