@@ -1,0 +1,268 @@
+//! A listing of what was done, for a person to read.
+
+use std::fmt::Write;
+
+use hauklivo::{Reloc, Report, ReportKind, Resolved, Target, flag, ty};
+
+use crate::hints::{HintRun, LinkedHint, Outcome, Rewrite, kind_name};
+use crate::layout::{Holds, Part};
+use crate::link::{Linked, LinkedSection};
+use crate::object::Object;
+use crate::targets::branch_reaches;
+use crate::words::{text, word_at};
+
+/// The listing of a linked object.
+pub fn listing(object: &Object, linked: &Linked) -> String {
+    let mut out = String::new();
+    layout(&mut out, object, linked);
+    for section in linked.sections.iter().filter(|s| !s.entries.is_empty()) {
+        entries(&mut out, object, linked, section);
+    }
+    reports(&mut out, object, linked);
+    hints(&mut out, &linked.hints);
+    out
+}
+
+/// Adds a line.
+macro_rules! line {
+    ($out:expr, $($word:tt)*) => {
+        writeln!($out, $($word)*).expect("a string takes every line")
+    };
+}
+
+/// Adds rows of columns, each as wide as its longest word.
+fn table<const N: usize>(out: &mut String, rows: &[[String; N]]) {
+    let mut widths = [0; N];
+    for row in rows {
+        for (width, word) in widths.iter_mut().zip(row) {
+            *width = word.chars().count().max(*width);
+        }
+    }
+    for row in rows {
+        let columns: Vec<_> = row.iter().zip(widths).map(|(word, width)| format!("{word:width$}")).collect();
+        line!(out, "  {}", columns.join("  ").trim_end());
+    }
+}
+
+fn layout(out: &mut String, object: &Object, linked: &Linked) {
+    line!(out, "Layout");
+    let head = ["address", "size", "in OUT", "part"].map(String::from);
+    let row = |part: &Part| {
+        let from = match part.bytes.is_empty() {
+            true => "-".into(),
+            false => format!("{:x}", part.bytes.start),
+        };
+        let (address, size) = (format!("{:x}", part.address), format!("{:x}", part.size));
+        [address, size, from, part_name(object, linked, part.holds)]
+    };
+    let rows: Vec<_> = [head].into_iter().chain(linked.layout.parts.iter().map(row)).collect();
+    table(out, &rows);
+    for (section, address) in object.sections.iter().zip(&linked.layout.sections) {
+        if address.is_none() {
+            line!(out, "  left out: {}, which is not for the image", section.name);
+        }
+    }
+    if linked.layout.tls_begin != 0 {
+        line!(out, "  thread-local storage starts at {:x}", linked.layout.tls_begin);
+    }
+    line!(out, "");
+}
+
+/// How many symbols of a table are named.
+const MOST_NAMES: usize = 6;
+
+fn part_name(object: &Object, linked: &Linked, holds: Holds) -> String {
+    let name = |number: &u32| &object.symbols[*number as usize].name[..];
+    let names = |what: &str, symbols: Vec<&u32>| {
+        let names: Vec<_> = symbols.iter().copied().take(MOST_NAMES).map(name).collect();
+        let more = if symbols.len() > MOST_NAMES { " ..." } else { "" };
+        format!("{what}, {}: {}{more}", symbols.len(), names.join(" "))
+    };
+    match holds {
+        Holds::Section(number) => object.sections[number].name.clone(),
+        Holds::Stubs => names("stubs", linked.layout.stubs.keys().collect()),
+        Holds::Thunks(table) => names("thunk entries", linked.layout.thunks[table].keys().collect()),
+        Holds::Got => names("GOT", linked.layout.got.keys().collect()),
+        Holds::Commons => names("common symbols", linked.layout.commons.keys().collect()),
+    }
+}
+
+/// The name of a relocation type.
+pub fn type_name(number: u8) -> &'static str {
+    match number {
+        ty::UNSIGNED => "UNSIGNED",
+        ty::SUBTRACTOR => "SUBTRACTOR",
+        ty::BRANCH26 => "BRANCH26",
+        ty::PAGE21 => "PAGE21",
+        ty::PAGEOFF12 => "PAGEOFF12",
+        ty::GOT_LOAD_PAGE21 => "GOT_LOAD_PAGE21",
+        ty::GOT_LOAD_PAGEOFF12 => "GOT_LOAD_PAGEOFF12",
+        ty::POINTER_TO_GOT => "POINTER_TO_GOT",
+        ty::TLVP_LOAD_PAGE21 => "TLVP_LOAD_PAGE21",
+        ty::TLVP_LOAD_PAGEOFF12 => "TLVP_LOAD_PAGEOFF12",
+        ty::ADDEND => "ADDEND",
+        _ => "unknown",
+    }
+}
+
+fn entries(out: &mut String, object: &Object, linked: &Linked, section: &LinkedSection) {
+    line!(out, "Entries of {}", object.sections[section.section].name);
+    let bytes = section.start..section.start + object.sections[section.section].contents.len();
+    let mut rows = Vec::new();
+    let mut taken = false;
+    for (number, (entry, target)) in section.entries.iter().zip(&section.targets).enumerate() {
+        let [before, after] = [&linked.before, &linked.fixed].map(|i| shown(&i[bytes.clone()], section.address, entry));
+        let has_address = target.flags & flag::HAS_ADDRESS != 0;
+        let (before, after) = match entry.ty {
+            _ if taken => (String::new(), "taken by the SUBTRACTOR before it".into()),
+            ty::UNSIGNED if target.flags & flag::IMPORTED != 0 => (before, "left for dyld to bind".into()),
+            ty::PAGE21 | ty::PAGEOFF12 if !has_address => (before, "left, the target has no address".into()),
+            _ => (before, after),
+        };
+        taken = !taken && entry.ty == ty::SUBTRACTOR;
+        let place = section.address.wrapping_add(entry.offset.into());
+        let target = target_name(object, entry, target, place);
+        let (number, place) = (number.to_string(), format!("{place:x}"));
+        rows.push((entry.offset, [number, place, type_name(entry.ty).into(), target, before, after]));
+    }
+    rows.sort_by_key(|&(offset, _)| offset);
+    let head = ["no", "address", "type", "target", "before", "after"].map(String::from);
+    let rows: Vec<_> = [head].into_iter().chain(rows.into_iter().map(|(_, row)| row)).collect();
+    table(out, &rows);
+    line!(out, "");
+}
+
+/// The bytes of an entry's place as a pointer, or as a word with its text; those that the section has.
+fn shown(section: &[u8], base: u64, entry: &Reloc) -> String {
+    let at = entry.offset as usize;
+    let Some(word) = word_at(section, at) else { return String::new() };
+    match (entry.ty, entry.size) {
+        (ty::UNSIGNED, _) | (ty::SUBTRACTOR, 8) => match word_at(section, at + 4) {
+            Some(high) => format!("{high:08x}{word:08x}"),
+            None => format!("{word:08x}"),
+        },
+        (ty::SUBTRACTOR | ty::POINTER_TO_GOT, _) => format!("{word:08x}"),
+        _ => word_text(word, base.wrapping_add(entry.offset.into())),
+    }
+}
+
+/// What an entry at `place` refers to, and by way of what.
+fn target_name(object: &Object, entry: &Reloc, target: &Resolved, place: u64) -> String {
+    let name = match entry.target() {
+        Target::Symbol(number) => &object.symbols[number as usize].name,
+        Target::Section(number) => &object.sections[number as usize].name,
+    };
+    let relaxed = target.flags & flag::RELAXES_GOT != 0;
+    let way = match entry.ty {
+        ty::POINTER_TO_GOT => "GOT slot of ",
+        ty::GOT_LOAD_PAGE21..=ty::TLVP_LOAD_PAGEOFF12 if !relaxed => "GOT slot of ",
+        ty::BRANCH26 if target.flags & (flag::PROBE | flag::IS_ENABLED) != 0 => "DTrace site ",
+        ty::BRANCH26 if target.flags & flag::HAS_THUNK != 0 && !branch_reaches(place, target.branch) => {
+            "thunk entry of "
+        }
+        ty::BRANCH26 if target.flags & flag::HAS_ADDRESS == 0 => "stub of ",
+        _ => "",
+    };
+    match entry.addend {
+        0 => format!("{way}{name}"),
+        addend if addend < 0 => format!("{way}{name} - {:#x}", addend.unsigned_abs()),
+        addend => format!("{way}{name} + {addend:#x}"),
+    }
+}
+
+fn reports(out: &mut String, object: &Object, linked: &Linked) {
+    let far = |number: &u32| {
+        let name = &object.symbols[*number as usize].name;
+        format!("The stub of {name} does not reach its pointer by ADRP; it is written all the same.")
+    };
+    let mut sentences: Vec<String> = linked.far_stubs.iter().map(far).collect();
+    for section in &linked.sections {
+        sentences.extend(section.reports.iter().map(|r| sentence(object, section, r)));
+    }
+    match sentences.len() {
+        0 => line!(out, "No reports."),
+        _ => line!(out, "Reports\n  {}", sentences.join("\n  ")),
+    }
+    line!(out, "");
+}
+
+/// A report as a sentence.
+fn sentence(object: &Object, section: &LinkedSection, report: &Report) -> String {
+    let number = report.entry as usize;
+    let entry = &section.entries[number];
+    let place = section.address.wrapping_add(entry.offset.into());
+    let target = target_name(object, entry, &section.targets[number], place);
+    let name = &object.sections[section.section].name;
+    let what = match report.kind() {
+        Some(ReportKind::AdrpReach) => {
+            format!("ADRP does not reach {:x}; the word is written all the same", report.target)
+        }
+        Some(ReportKind::BranchReach) => {
+            format!("the branch does not reach {:x}; the word is written all the same", report.target)
+        }
+        Some(ReportKind::Alignment(size)) => {
+            format!("the address is no multiple of the {size} bytes that the word moves; the word is left")
+        }
+        Some(ReportKind::NonLdr) => "the word is no LDR, so it cannot be relaxed; it is left".into(),
+        None => format!("a report of the unknown kind {}", report.kind),
+    };
+    format!("Entry {number} of {name}, {} of {target}: {what}.", type_name(entry.ty))
+}
+
+impl Outcome {
+    /// What became of a hint, in words.
+    pub fn words(self) -> &'static str {
+        match self {
+            Self::Rewritten(Rewrite::AdrpDropped) => "rewritten: second ADRP dropped",
+            Self::Rewritten(Rewrite::Literal) => "rewritten: literal load",
+            Self::Rewritten(Rewrite::Adr) => "rewritten: ADR",
+            Self::Rewritten(Rewrite::Fold) => "rewritten: ADD folded into the access",
+            Self::Rewritten(Rewrite::GotSlotLiteral) => "rewritten: literal load of the GOT slot",
+            Self::Skipped => "skipped: no such kind, or another count of words",
+            Self::Declined => "declined",
+            Self::TurnedDown => "turned down by 9: a sum passes 2^64 - 1",
+            Self::Dropped => "not run: its words are not in one section of the image",
+        }
+    }
+}
+
+fn hints(out: &mut String, run: &HintRun) {
+    if run.hints.is_empty() {
+        line!(out, "No hints.");
+        return;
+    }
+    line!(out, "Hints, in the order of work");
+    let words = run.hints.iter().flat_map(|hint| &hint.words);
+    let width = words.map(|w| word_text(w.before, w.address).len()).max().unwrap_or(0);
+    for hint in &run.hints {
+        line!(out, "  {:3}  {}, {}", hint.number, hint_name(hint), hint.outcome.words());
+        for word in &hint.words {
+            let [before, after] = [word.before, word.after].map(|w| word_text(w, word.address));
+            let after = if word.before == word.after { "the same".into() } else { after };
+            line!(out, "         {:x}  {before:width$}  {after}", word.address);
+        }
+    }
+    let tally = &run.tally;
+    let not_run = run.hints.len() - run.lent.len();
+    line!(out, "");
+    line!(
+        out,
+        "Tally: {} rewritten, {} skipped, {} declined, {} turned down by 9; {not_run} not run.",
+        tally.rewritten,
+        tally.skipped,
+        tally.declined,
+        tally.turned_down
+    );
+}
+
+fn hint_name(hint: &LinkedHint) -> String {
+    match kind_name(hint.kind) {
+        Some(name) => name.into(),
+        None => format!("kind {}", hint.kind),
+    }
+}
+
+/// A word and its text.
+fn word_text(word: u32, address: u64) -> String {
+    format!("{word:08x} {}", text(word, address))
+}

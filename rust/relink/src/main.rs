@@ -1,0 +1,126 @@
+//! `relink [FILE.o] [--text ADDRESS] [--data ADDRESS] [-o OUT]`
+
+use std::ffi::{OsStr, OsString};
+use std::fs::{self, File};
+use std::io::{self, Read, Write};
+use std::path::{Path, PathBuf};
+use std::process::ExitCode;
+
+use relink::{Fault, Object, Options, PORT, link, listing};
+
+const USAGE: &str = "\
+usage: ./relink [FILE.o] [--text ADDRESS] [--data ADDRESS] [-o OUT]
+
+Lays out an arm64 Mach-O object, reads its relocation records, fixes up its sections, works its
+linker optimization hints, and lists every entry and hint with its words before and after.
+
+  FILE.o           the object, at most 16 MiB; without it, an example
+  --text ADDRESS   where __TEXT goes (default 0x100004000)
+  --data ADDRESS   where everything else goes (default: the page after __TEXT)
+  -o OUT           write the finished bytes there, part after part as listed
+  --help           this text";
+
+const EXAMPLE: &[u8] = include_bytes!("../example/thermo.o");
+
+/// The largest file that is read, in bytes.
+const LARGEST: u64 = 16 << 20;
+
+/// What the command line asks for.
+#[derive(Default)]
+struct Asked {
+    file: Option<PathBuf>,
+    options: Options,
+    out: Option<PathBuf>,
+}
+
+fn main() -> ExitCode {
+    let asked = match arguments(std::env::args_os().skip(1)) {
+        Ok(Some(asked)) => asked,
+        Ok(None) => return print(&format!("{USAGE}\n")),
+        Err(fault) => {
+            eprintln!("relink: {fault}\n\n{USAGE}");
+            return ExitCode::from(2);
+        }
+    };
+    let name = match &asked.file {
+        Some(file) => file.display().to_string(),
+        None => "the example, rust/relink/example/thermo.o".into(),
+    };
+    match work(&name, &asked) {
+        Ok(text) => print(&text),
+        Err(fault) => {
+            eprintln!("relink: {name}: {fault}");
+            ExitCode::from(1)
+        }
+    }
+}
+
+/// Writes to the standard output. A reader that went away is no fault.
+fn print(text: &str) -> ExitCode {
+    match io::stdout().write_all(text.as_bytes()) {
+        Err(error) if error.kind() != io::ErrorKind::BrokenPipe => {
+            eprintln!("relink: the listing cannot be written: {error}");
+            ExitCode::from(1)
+        }
+        _ => ExitCode::SUCCESS,
+    }
+}
+
+/// What the arguments ask for; None where it is help.
+fn arguments(mut words: impl Iterator<Item = OsString>) -> Result<Option<Asked>, Fault> {
+    let mut asked = Asked::default();
+    while let Some(word) = words.next() {
+        let mut value = || words.next().ok_or_else(|| Fault::new(format!("{} needs a value", plain(&word))));
+        match word.to_str() {
+            Some("--help" | "-h") => return Ok(None),
+            Some("--text") => asked.options.text = address(&value()?)?,
+            Some("--data") => asked.options.data = Some(address(&value()?)?),
+            Some("-o") => asked.out = Some(value()?.into()),
+            _ if word.as_encoded_bytes().starts_with(b"-") => {
+                return Err(Fault::new(format!("no such option: {}", plain(&word))));
+            }
+            _ if asked.file.is_some() => return Err(Fault::new("only one file can be given")),
+            _ => asked.file = Some(word.into()),
+        }
+    }
+    Ok(Some(asked))
+}
+
+/// An argument as text, whatever its bytes.
+fn plain(word: &OsStr) -> String {
+    word.to_string_lossy().into_owned()
+}
+
+/// A number, hexadecimal after 0x.
+fn address(word: &OsStr) -> Result<u64, Fault> {
+    let text = plain(word);
+    let number = match text.strip_prefix("0x") {
+        Some(digits) => u64::from_str_radix(digits, 16),
+        None => text.parse(),
+    };
+    number.map_err(|_| Fault::new(format!("{text} is no address (for example 0x100004000)")))
+}
+
+fn work(name: &str, asked: &Asked) -> Result<String, Fault> {
+    let bytes = match &asked.file {
+        Some(file) => read(file).map_err(|error| Fault::new(format!("it cannot be read: {error}")))?,
+        None => EXAMPLE.to_vec(),
+    };
+    if bytes.len() as u64 > LARGEST {
+        return Err(Fault::new("it is larger than 16 MiB"));
+    }
+    let object = Object::parse(&bytes)?;
+    let linked = link(&object, &asked.options, &PORT)?;
+    if let Some(out) = &asked.out {
+        let fault = |error| Fault::new(format!("{} cannot be written: {error}", out.display()));
+        fs::write(out, &linked.image).map_err(fault)?;
+    }
+    Ok(format!("{name}\n\n{}", listing(&object, &linked)))
+}
+
+/// A file's bytes, at most one more than the largest that is read.
+fn read(file: &Path) -> io::Result<Vec<u8>> {
+    let mut bytes = Vec::new();
+    File::open(file)?.take(LARGEST + 1).read_to_end(&mut bytes)?;
+    Ok(bytes)
+}

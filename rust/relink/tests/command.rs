@@ -1,0 +1,129 @@
+//! The program's arguments, answers and output file.
+
+use std::ffi::OsStr;
+use std::fs;
+use std::os::unix::ffi::OsStrExt;
+use std::path::PathBuf;
+use std::process::{Command, Output};
+
+use relink::{Object, Options, PORT, link};
+
+const EXAMPLE: &[u8] = include_bytes!("../example/thermo.o");
+
+fn relink(words: &[&str]) -> Output {
+    Command::new(env!("CARGO_BIN_EXE_relink")).args(words).output().unwrap()
+}
+
+/// The error of a run that ends with `status`.
+fn error(words: &[&str], status: i32) -> String {
+    let done = relink(words);
+    assert_eq!((done.status.code(), done.stdout.len()), (Some(status), 0));
+    String::from_utf8(done.stderr).unwrap()
+}
+
+fn written(name: &str, bytes: &[u8]) -> String {
+    let file = PathBuf::from(env!("CARGO_TARGET_TMPDIR")).join(name);
+    fs::write(&file, bytes).unwrap();
+    file.to_str().unwrap().into()
+}
+
+#[test]
+fn usage() {
+    assert!(relink(&["--help"]).status.success());
+    for (words, expected) in [
+        (&["--text"][..], "--text needs a value"),
+        (&["--text", "here"], "here is no address"),
+        (&["--odd"], "no such option: --odd"),
+        (&["a.o", "b.o"], "only one file can be given"),
+    ] {
+        assert!(error(words, 2).contains(expected), "{words:?}");
+    }
+}
+
+/// Arguments that are not UTF-8 are taken as they are.
+#[test]
+fn odd_arguments() {
+    let odd = |bytes| OsStr::from_bytes(bytes);
+    let run = |words: &[&OsStr]| {
+        let done = Command::new(env!("CARGO_BIN_EXE_relink")).args(words).output().unwrap();
+        (done.status.code(), String::from_utf8(done.stderr).unwrap())
+    };
+    for (words, status, expected) in [
+        (&[odd(b"no/such/\xff.o")][..], 1, "it cannot be read: "),
+        (&[odd(b"-\xff")], 2, "no such option: -"),
+        (&[odd(b"--text"), odd(b"\xff")], 2, " is no address"),
+        (&[odd(b"-o"), odd(b"/no/such/\xff")], 1, " cannot be written: "),
+    ] {
+        let (code, text) = run(words);
+        assert!(code == Some(status) && text.contains(expected), "{code:?} {text}");
+    }
+}
+
+#[test]
+fn example_and_output() {
+    let out = written("out", b"");
+    let done = relink(&["--text", "0x10000", "--data", "0x400000", "-o", &out]);
+    assert!(done.status.success() && done.stderr.is_empty());
+    let options = Options { text: 0x10000, data: Some(0x40_0000), debug: false };
+    let object = Object::parse(EXAMPLE).unwrap();
+    let linked = link(&object, &options, &PORT).unwrap();
+    assert_eq!(fs::read(&out).unwrap(), linked.image);
+    assert_ne!(linked.before, linked.fixed);
+}
+
+#[test]
+fn example_listing() {
+    let near = String::from_utf8(relink(&[]).stdout).unwrap();
+    assert!(near.contains("\nNo reports.\n"));
+    assert!(near.contains("  6  ADRP_ADD_LDR, rewritten: literal load\n"));
+    assert!(near.ends_with("\nTally: 13 rewritten, 0 skipped, 2 declined, 0 turned down by 9; 0 not run.\n"));
+
+    let far = String::from_utf8(relink(&["--data", "0x101000000"]).stdout).unwrap();
+    assert!(far.contains("  6  ADRP_ADD_LDR, rewritten: ADD folded into the access\n"));
+    assert!(far.contains("  5  ADRP_ADRP, rewritten: second ADRP dropped\n"));
+
+    let beyond = String::from_utf8(relink(&["--data", "0x300000000"]).stdout).unwrap();
+    assert!(beyond.contains("The stub of _ring does not reach its pointer by ADRP; it is written all the same.\n"));
+    assert!(beyond.contains(", PAGE21 of _newest: ADRP does not reach 300000010; the word is written all the same.\n"));
+}
+
+/// The lines that the README shows are the program's.
+#[test]
+fn readme_listing() {
+    let readme = include_str!("../../../README.md");
+    let shown = readme.split("```text\n").nth(1).and_then(|rest| rest.split("```").next()).unwrap();
+    let listing = String::from_utf8(relink(&[]).stdout).unwrap();
+    let mut lines = listing.lines();
+    for line in shown.lines() {
+        assert!(lines.any(|l| l == line), "{line}");
+    }
+}
+
+#[test]
+fn refusals() {
+    assert!(error(&["/no/such.o"], 1).contains("it cannot be read: "));
+    assert!(error(&["/"], 1).contains("it cannot be read: "));
+    assert!(error(&["--data", "0x100004000"], 1).contains(" overlap"));
+    assert!(error(&["--text", "0xfffffffffffff000"], 1).contains("the layout passes the end of the address space"));
+    assert!(error(&[&written("elf", b"\x7fELF")], 1).contains("this is no 64-bit Mach-O file"));
+
+    assert!(error(&[&written("large", &vec![0; (16 << 20) + 1])], 1).contains("it is larger than 16 MiB"));
+
+    let mut other = EXAMPLE.to_vec();
+    other[4] = 7;
+    assert!(error(&[&written("x86", &other)], 1).contains("another processor than arm64"));
+
+    // The first record of the file made one of a type that there is none of.
+    let object = Object::parse(EXAMPLE).unwrap();
+    let first: Vec<u8> = [object.sections[0].records[0].offset, object.sections[0].records[0].bits]
+        .iter()
+        .flat_map(|n| n.to_le_bytes())
+        .collect();
+    let at = EXAMPLE.windows(8).position(|w| w == first).unwrap();
+    let mut odd = EXAMPLE.to_vec();
+    odd[at + 7] |= 0xf0;
+    let words = error(&[&written("odd", &odd)], 1);
+    let expected =
+        "the relocation records of section __TEXT,__text: number 5: a relocation's type or form is not supported";
+    assert!(words.contains(expected), "{words}");
+}

@@ -1,0 +1,61 @@
+//! An object linked by the port and by the Rust.
+
+use relink::{Linked, Object, Options, PORT, link};
+
+use crate::rust::{RUST, walked};
+
+/// A layout with a name.
+pub struct NamedLayout {
+    pub name: &'static str,
+    options: Options,
+}
+
+const TEXT: u64 = 0x1_0000_4000;
+
+const fn layout(name: &'static str, data: u64) -> NamedLayout {
+    NamedLayout { name, options: Options { text: TEXT, data: Some(data), debug: true } }
+}
+
+/// Data on the next pages, before the text, at the limit of 1 MiB, past it (folds), past 128 MiB
+/// (thunks), and past 4 GiB (out of ADRP's reach).
+pub const LAYOUTS: [NamedLayout; 6] = [
+    layout("near", TEXT + 0x8000),
+    layout("below", TEXT - 0x8_0000),
+    layout("at 1 MiB", TEXT + (1 << 20) - 0x80),
+    layout("at 16 MiB", TEXT + (1 << 24)),
+    layout("at 256 MiB", TEXT + (1 << 28)),
+    layout("at 8 GiB", TEXT + (1 << 33)),
+];
+
+/// The linked object, where the port and the Rust agree on it.
+pub fn compare(object: &Object, layout: &NamedLayout) -> Result<Linked, String> {
+    let port = link(object, &layout.options, &PORT);
+    let rust = link(object, &layout.options, &RUST);
+    let (port, rust) = match (port, rust) {
+        (Ok(port), Ok(rust)) => (port, rust),
+        (port, rust) => {
+            let words = |done: Result<Linked, relink::Fault>| match done {
+                Ok(_) => "links".into(),
+                Err(fault) => fault.to_string(),
+            };
+            return Err(format!("the port: {}; the Rust: {}", words(port), words(rust)));
+        }
+    };
+    let parts = [
+        ("layout", port.layout == rust.layout),
+        ("stubs, thunks or GOT", port.before == rust.before && port.far_stubs == rust.far_stubs),
+        ("entries or reports", port.sections == rust.sections),
+        ("fixed-up bytes", port.fixed == rust.fixed),
+        ("hints or tally", port.hints == rust.hints),
+        ("finished bytes", port.image == rust.image),
+    ];
+    let unequal: Vec<_> = parts.iter().filter(|(_, equal)| !equal).map(|(name, _)| *name).collect();
+    if !unequal.is_empty() {
+        return Err(format!("port and Rust differ in {}", unequal.join(", ")));
+    }
+    match walked(&port.fixed, &port.hints.lent, &port.hints.entries) {
+        Some(image) if image == port.image => Ok(port),
+        Some(_) => Err("the Rust's own walk over the hints gives other bytes".into()),
+        None => Err("the Rust's own walk cannot say these hints".into()),
+    }
+}
