@@ -7,20 +7,46 @@ use crate::chunks::ChunkHeader;
 use crate::context::Context;
 use crate::error::take_errors;
 use crate::input_files::{MappedFile, ObjectFile};
-use crate::input_sections::{InputSection, InputSections, RelocTarget};
+use crate::input_sections::{InputSection, InputSections, Reloc, RelocTarget};
 use crate::lent;
-use crate::macho::{MachSection, S_THREAD_LOCAL_REGULAR};
+use crate::macho::{MachRel, MachSection, S_THREAD_LOCAL_REGULAR};
 use crate::stop::{Stop, caught};
 use crate::symbol::{Symbol, Symbols, THREAD_LOCAL};
 
+/// A reading with its lists in the Rust's own types, so that the Rust can be timed alone.
+pub struct Reading {
+    sections: Vec<MachSection>,
+    hdr: MachSection,
+    records: Vec<MachRel>,
+}
+
+impl Reading {
+    pub fn new(records: &[u8], sections: &[u64]) -> Self {
+        let sections = sections.iter().map(|&addr| MachSection { addr, flags: 0 }).collect();
+        Self { sections, hdr: MachSection::default(), records: lent::records(records) }
+    }
+
+    /// The Rust's own call.
+    pub fn run(&self, contents: &[u8]) -> Entries {
+        let path = Path::new("object");
+        Entries(Arm64::read_relocs(path, &self.sections, &self.hdr, contents, &self.records))
+    }
+}
+
+/// What the Rust's reader returns.
+pub struct Entries(Vec<Reloc>);
+
+impl Entries {
+    /// 24 bytes each.
+    pub fn bytes(&self) -> Vec<u8> {
+        self.0.iter().flat_map(lent::entry_bytes).collect()
+    }
+}
+
 /// The entries that the Rust reads from `records`, 24 bytes each.
 pub fn read_relocs(contents: &[u8], records: &[u8], sections: &[u64]) -> Result<Vec<u8>, Stop> {
-    let records = lent::records(records);
-    let sections: Vec<_> = sections.iter().map(|&addr| MachSection { addr, flags: 0 }).collect();
-    let hdr = MachSection::default();
-    let path = Path::new("object");
-    let entries = caught(|| Arm64::read_relocs(path, &sections, &hdr, contents, &records))?;
-    Ok(entries.iter().flat_map(lent::entry_bytes).collect())
+    let reading = Reading::new(records, sections);
+    Ok(caught(|| reading.run(contents))?.bytes())
 }
 
 /// What a fix-up leaves beside the section's bytes.
@@ -32,10 +58,64 @@ pub struct FixedUp {
     pub without_address: Vec<u32>,
 }
 
-/// Fixes up `section`. On a stop its bytes are as the Rust left them.
+/// A fix-up with its lists in the Rust's own types, so that the Rust can be timed alone.
 ///
 /// Entry i refers to symbol i or subsection i, which hold the facts of resolved target i; the
 /// entry's own target number plays no part in a fix-up beyond bit 31.
+pub struct FixingUp {
+    ctx: Context<Arm64>,
+    entries: Vec<Reloc>,
+    own: usize,
+}
+
+impl FixingUp {
+    pub fn new(tls_begin: u64, entries: &[u8], targets: &[u8]) -> Self {
+        let mut entries = lent::entries(entries);
+        let targets = lent::targets(targets);
+        assert!(entries.len() == targets.len(), "one target for each entry");
+
+        let mut headers = Vec::with_capacity(targets.len());
+        let mut isecs = Vec::with_capacity(targets.len() + 1);
+        for (entry, target) in entries.iter_mut().zip(&targets) {
+            entry.target = match entry.target() {
+                RelocTarget::Sym(_) => RelocTarget::Sym(target.entry).pack(),
+                RelocTarget::Section(_) => RelocTarget::Section(target.entry).pack(),
+            };
+            let shndx = u32::from(target.flags & THREAD_LOCAL != 0);
+            let mut isec = InputSection::new(0, shndx, 0, 0, &[]);
+            isec.output_section = target.entry;
+            isecs.push(isec);
+            headers.push(ChunkHeader { addr: target.address, ..Default::default() });
+        }
+        let own = isecs.len();
+        isecs.push(InputSection::new(0, 0, 0, 0, &[]));
+        let object = ObjectFile {
+            mf: MappedFile { name: "object".into() },
+            symbols: (0..targets.len() as u32).collect(),
+            sect_hdrs: vec![
+                MachSection::default(),
+                MachSection { addr: 0, flags: S_THREAD_LOCAL_REGULAR },
+            ],
+            ..Default::default()
+        };
+        let ctx = Context::<Arm64> {
+            objs: vec![object],
+            isecs: InputSections(isecs),
+            symbols: Symbols(targets),
+            headers,
+            tls_begin,
+            ..Default::default()
+        };
+        Self { ctx, entries, own }
+    }
+
+    /// The Rust's own call.
+    pub fn run(&self, section: &mut [u8], base: u64) {
+        Arm64::apply_reloc_alloc(&self.ctx, &self.entries, self.own, base, section)
+    }
+}
+
+/// Fixes up `section`. On a stop its bytes are as the Rust left them.
 pub fn apply_reloc_alloc(
     section: &mut [u8],
     base: u64,
@@ -43,45 +123,9 @@ pub fn apply_reloc_alloc(
     entries: &[u8],
     targets: &[u8],
 ) -> Result<FixedUp, Stop> {
-    let mut entries = lent::entries(entries);
-    let targets = lent::targets(targets);
-    assert!(entries.len() == targets.len(), "one target for each entry");
-
-    let mut headers = Vec::with_capacity(targets.len());
-    let mut isecs = Vec::with_capacity(targets.len() + 1);
-    for (entry, target) in entries.iter_mut().zip(&targets) {
-        entry.target = match entry.target() {
-            RelocTarget::Sym(_) => RelocTarget::Sym(target.entry).pack(),
-            RelocTarget::Section(_) => RelocTarget::Section(target.entry).pack(),
-        };
-        let shndx = u32::from(target.flags & THREAD_LOCAL != 0);
-        let mut isec = InputSection::new(0, shndx, 0, 0, &[]);
-        isec.output_section = target.entry;
-        isecs.push(isec);
-        headers.push(ChunkHeader { addr: target.address, ..Default::default() });
-    }
-    let own = isecs.len();
-    isecs.push(InputSection::new(0, 0, 0, 0, &[]));
-    let object = ObjectFile {
-        mf: MappedFile { name: "object".into() },
-        symbols: (0..targets.len() as u32).collect(),
-        sect_hdrs: vec![
-            MachSection::default(),
-            MachSection { addr: 0, flags: S_THREAD_LOCAL_REGULAR },
-        ],
-        ..Default::default()
-    };
-    let ctx = Context::<Arm64> {
-        objs: vec![object],
-        isecs: InputSections(isecs),
-        symbols: Symbols(targets),
-        headers,
-        tls_begin,
-        ..Default::default()
-    };
-
+    let fixing = FixingUp::new(tls_begin, entries, targets);
     take_errors();
-    let done = caught(|| Arm64::apply_reloc_alloc(&ctx, &entries, own, base, section));
+    let done = caught(|| fixing.run(section, base));
     let errors = take_errors();
     done?;
     let mut fixed = FixedUp { reports: Vec::new(), without_address: Vec::new() };

@@ -110,34 +110,84 @@ pub fn apply_hints_linked(
     hints: &[u8],
     entries: &[u8],
 ) -> Option<Result<(), Stop>> {
-    let hints = lent::hints(hints);
-    let entries = lent::entries(entries);
-    let mut ctx = Context::<Arm64>::default();
-    for list in by_object(&hints).into_values() {
-        let mut object = ObjectFile { is_reachable: true, ..Default::default() };
-        for i in list {
-            let hint = &hints[i];
-            let n = hint.count as usize;
-            let mut addrs = vec![0; n];
-            let mut isec = InputSection::new(ctx.objs.len() as u32, 0, 0, hint.length, &[]);
-            isec.rel_offset = object.relocs.len() as u32;
-            isec.output_section = i as u32;
-            let mut header = ChunkHeader { fileoff: hint.start as u64, ..Default::default() };
-            if !is_skipped(hint) {
-                let places = &hint.places[..n];
-                header.addr = link(&mut object.relocs, image.len(), hint, places, &entries)?;
-                addrs = places.iter().map(|p| p.offset as u64).collect();
+    let linked = Linked::new(image.len(), hints, entries)?;
+    Some(caught(|| linked.run(image)))
+}
+
+/// A run of the Rust's own apply_hints with its objects made, so that it can be timed alone.
+pub struct Linked {
+    ctx: Context<Arm64>,
+}
+
+impl Linked {
+    pub fn new(image_len: usize, hints: &[u8], entries: &[u8]) -> Option<Self> {
+        let hints = lent::hints(hints);
+        let entries = lent::entries(entries);
+        let mut ctx = Context::<Arm64>::default();
+        for list in by_object(&hints).into_values() {
+            let mut object = ObjectFile { is_reachable: true, ..Default::default() };
+            for i in list {
+                let hint = &hints[i];
+                let n = hint.count as usize;
+                let mut addrs = vec![0; n];
+                let mut isec = InputSection::new(ctx.objs.len() as u32, 0, 0, hint.length, &[]);
+                isec.rel_offset = object.relocs.len() as u32;
+                isec.output_section = i as u32;
+                let mut header = ChunkHeader { fileoff: hint.start as u64, ..Default::default() };
+                if !is_skipped(hint) {
+                    let places = &hint.places[..n];
+                    header.addr = link(&mut object.relocs, image_len, hint, places, &entries)?;
+                    addrs = places.iter().map(|p| p.offset as u64).collect();
+                }
+                isec.nrels = object.relocs.len() as u32 - isec.rel_offset;
+                object.loh_subsecs.push(ctx.isecs.len() as u32);
+                object.loh.push((hint.kind, addrs));
+                ctx.isecs.push(isec);
+                ctx.headers.resize(ctx.headers.len().max(i + 1), ChunkHeader::default());
+                ctx.headers[i] = header;
             }
-            isec.nrels = object.relocs.len() as u32 - isec.rel_offset;
-            object.loh_subsecs.push(ctx.isecs.len() as u32);
-            object.loh.push((hint.kind, addrs));
-            ctx.isecs.push(isec);
-            ctx.headers.resize(ctx.headers.len().max(i + 1), ChunkHeader::default());
-            ctx.headers[i] = header;
+            ctx.objs.push(object);
         }
-        ctx.objs.push(object);
+        Some(Self { ctx })
     }
-    Some(caught(|| Arm64::apply_optimization_hints(&ctx, image)))
+
+    /// The Rust's own call.
+    pub fn run(&self, image: &mut [u8]) {
+        Arm64::apply_optimization_hints(&self.ctx, image)
+    }
+}
+
+/// The rules alone, over hints whose words, addresses and entries are given, as the port is lent
+/// them: the loops of the Rust's apply_hints without its hint_insns.
+pub struct Given {
+    objects: Vec<Vec<HintRecord>>,
+    entries: Vec<Reloc>,
+}
+
+impl Given {
+    pub fn new(hints: &[u8], entries: &[u8]) -> Self {
+        let mut objects: BTreeMap<u32, Vec<HintRecord>> = BTreeMap::new();
+        for hint in lent::hints(hints) {
+            objects.entry(hint.object).or_default().push(hint);
+        }
+        Self { objects: objects.into_values().collect(), entries: lent::entries(entries) }
+    }
+
+    pub fn run(&self, image: &mut [u8]) {
+        let rel = |e: u32| self.entries.get(e as usize);
+        for hints in &self.objects {
+            for last in [false, true] {
+                for hint in hints {
+                    if (hint.kind == LOH_ARM64_ADRP_ADRP) != last || is_skipped(hint) {
+                        continue;
+                    }
+                    let places = hint.places.map(|p| (p.offset as usize, p.address, rel(p.entry)));
+                    let part = &mut image[hint.start as usize..][..hint.length as usize];
+                    Arm64::run_rule(hint.kind, part, &places[..hint.count as usize]);
+                }
+            }
+        }
+    }
 }
 
 /// Adds the entries of a hint's places to `relocs`, by rising offset, and gives its part's address.

@@ -1,5 +1,6 @@
 //! Stands in for input_files.rs: the object file, and a record's section as document 01 gives it.
 
+use std::cell::Cell;
 use std::path::{Path, PathBuf};
 
 use crate::input_sections::{InputSections, Reloc, RelocTarget};
@@ -24,14 +25,19 @@ pub struct ObjectFile {
     pub relocs: Vec<Reloc>,
     /// Hints: kind and the addresses of the words in the object.
     pub loh: Vec<(u8, Vec<u64>)>,
-    /// The shim's own: the subsection of each hint.
+    /// The shim's own: the subsection of each hint, and the hint that was asked for last.
     pub loh_subsecs: Vec<u32>,
+    pub loh_last: Cell<usize>,
 }
 
 impl ObjectFile {
     /// Stands in for ld64's search: a hint has a subsection of its own, found by the list it holds.
+    /// Hints are asked for in list order, so the search goes round from the last one.
     pub fn hint_subsec(&self, _isecs: &InputSections, addrs: &[u64]) -> Option<u32> {
-        let i = self.loh.iter().position(|(_, list)| std::ptr::eq(list.as_slice(), addrs))?;
+        let last = self.loh_last.get();
+        let mut round = (last..self.loh.len()).chain(0..last);
+        let i = round.find(|&i| std::ptr::eq(self.loh[i].1.as_slice(), addrs))?;
+        self.loh_last.set(i);
         Some(self.loh_subsecs[i])
     }
 }

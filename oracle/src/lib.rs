@@ -32,8 +32,8 @@ mod stop;
 pub mod words;
 
 pub use arch::Arm64;
-pub use calls::{FixedUp, apply_reloc_alloc, read_relocs, stub, thunk};
-pub use hints::{HintRun, Outcome, apply_hints, apply_hints_linked};
+pub use calls::{Entries, FixedUp, FixingUp, Reading, apply_reloc_alloc, read_relocs, stub, thunk};
+pub use hints::{Given, HintRun, Linked, Outcome, apply_hints, apply_hints_linked};
 pub use stop::Stop;
 pub use words::{AccessWord, AddWord, Words};
 

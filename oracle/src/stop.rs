@@ -69,6 +69,15 @@ impl Stop {
             Self::Other(_) => None,
         }
     }
+
+    /// Document 01's number for a stop of a hint run; an overflow is no stop there.
+    pub fn hints_number(&self) -> Option<u8> {
+        match self {
+            Self::Slice(_) => Some(3),
+            Self::Index(_) => Some(12),
+            _ => None,
+        }
+    }
 }
 
 thread_local! {

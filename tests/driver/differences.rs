@@ -2,34 +2,62 @@
 //! name of a predicate on cases and the name of what is expected there.
 //!
 //! Rows apply in the order of the table. Where a row's predicate holds of what the Rust is asked, its
-//! expectation changes either what the Rust is asked or what it answered. A row that no case reaches, or that changes no answer, fails the run.
+//! expectation changes either what the Rust is asked or what it answered. A row that no case reaches,
+//! or that changes no answer, fails the run.
 
 use std::sync::atomic::{AtomicU64, Ordering};
 
 use hauklivo::{Record, Reloc, Resolved, Target, flag};
 
-use crate::fixup::{self, Answer, Case, is_section, steps};
+use crate::fixup::{self, is_section, steps};
+use crate::hints;
 use crate::{Difference, World};
 
-/// How a row changes what is expected of a fix-up.
-#[derive(Clone, Copy)]
-enum Change {
+/// How a row changes what is expected of a case.
+enum Change<C: Call> {
     /// The Rust is asked something else.
-    Asked(fn(&mut Case)),
+    Asked(fn(&mut C)),
     /// The Rust's answer is changed.
-    Answered(fn(&Case, &mut Answer)),
+    Answered(fn(&C, &mut C::Answer)),
 }
 
-const PREDICATES: [(&str, fn(&Case) -> bool); 2] = [
-    ("section_without_address", |c| !without_address(c, true).is_empty()),
-    ("symbol_without_address", |c| !without_address(c, false).is_empty()),
-];
+/// The cases of a call, with the names that the table has for it.
+trait Call: Clone + 'static {
+    type Answer: Clone + PartialEq + 'static;
+    const PREDICATES: &[(&str, fn(&Self) -> bool)];
+    const CHANGES: &[(&str, Change<Self>)];
 
-const CHANGES: [(&str, Change); 2] =
-    [("as_symbol_without_address", Change::Asked(as_symbols)), ("no_error_without_kind", Change::Answered(no_error))];
+    fn rust(&self, world: &World) -> Result<Self::Answer, Difference>;
+}
+
+impl Call for fixup::Case {
+    type Answer = fixup::Answer;
+    const PREDICATES: &[(&str, fn(&Self) -> bool)] = &[
+        ("section_without_address", |c| !without_address(c, true).is_empty()),
+        ("symbol_without_address", |c| !without_address(c, false).is_empty()),
+    ];
+    const CHANGES: &[(&str, Change<Self>)] = &[
+        ("as_symbol_without_address", Change::Asked(as_symbols)),
+        ("no_error_without_kind", Change::Answered(no_error)),
+    ];
+
+    fn rust(&self, world: &World) -> Result<Self::Answer, Difference> {
+        fixup::rust(self, world)
+    }
+}
+
+impl Call for hints::Case {
+    type Answer = hints::Answer;
+    const PREDICATES: &[(&str, fn(&Self) -> bool)] = &[("word_past_part", |c| c.list().iter().any(hints::ends_past))];
+    const CHANGES: &[(&str, Change<Self>)] = &[("as_part_past_image", Change::Asked(as_past_image))];
+
+    fn rust(&self, world: &World) -> Result<Self::Answer, Difference> {
+        hints::rust(self, world)
+    }
+}
 
 /// The entries of types PAGE21 and PAGEOFF12 whose target, a section or a symbol, has no address.
-fn without_address(case: &Case, sections: bool) -> Vec<u32> {
+fn without_address(case: &fixup::Case, sections: bool) -> Vec<u32> {
     let pairs = case.pairs();
     let lacks = |(e, t): &(Reloc, Resolved)| {
         matches!(e.ty, 3 | 4) && is_section(e) == sections && t.flags & flag::HAS_ADDRESS == 0
@@ -38,7 +66,7 @@ fn without_address(case: &Case, sections: bool) -> Vec<u32> {
 }
 
 /// A section without an address is left like a symbol without one.
-fn as_symbols(case: &mut Case) {
+fn as_symbols(case: &mut fixup::Case) {
     for i in without_address(case, true) {
         let at = 24 * i as usize;
         let mut entry = Reloc::from_bytes(&case.entries[at..at + 24]).expect("an entry");
@@ -48,80 +76,114 @@ fn as_symbols(case: &mut Case) {
 }
 
 /// The Rust's error on just these entries has no kind of report.
-fn no_error(case: &Case, answer: &mut Answer) {
+fn no_error(case: &fixup::Case, answer: &mut fixup::Answer) {
     if answer.number == 0 && answer.without_address == without_address(case, false) {
         answer.without_address.clear();
     }
 }
 
-struct Row {
+/// A hint with a word past its part is refused like one whose part ends past the image.
+fn as_past_image(case: &mut hints::Case) {
+    let mut list = case.list();
+    for hint in list.iter_mut().filter(|h| hints::ends_past(h)) {
+        hint.start = u32::MAX;
+    }
+    case.set_list(&list);
+}
+
+struct Row<C: Call> {
     name: String,
-    holds: fn(&Case) -> bool,
-    change: Change,
+    holds: fn(&C) -> bool,
+    change: &'static Change<C>,
     /// Cases in which it held, and in which it changed the answer.
     reached: AtomicU64,
     changed: AtomicU64,
 }
 
-pub struct Differences(Vec<Row>);
+impl<C: Call> Row<C> {
+    /// The row of these names, None where the call does not have them.
+    fn named(name: &str, predicate: &str, change: &str) -> Option<Self> {
+        let holds = C::PREDICATES.iter().find(|n| n.0 == predicate)?.1;
+        let change = &C::CHANGES.iter().find(|n| n.0 == change)?.1;
+        let (reached, changed) = (AtomicU64::new(0), AtomicU64::new(0));
+        Some(Self { name: name.into(), holds, change, reached, changed })
+    }
+
+    fn line(&self) -> (&str, u64, u64) {
+        (&self.name, self.reached.load(Ordering::Relaxed), self.changed.load(Ordering::Relaxed))
+    }
+}
+
+/// What is expected of a case whose lists agree.
+fn expected<C: Call>(rows: &[Row<C>], case: &C, world: &World) -> Result<C::Answer, Difference> {
+    let mut asked = case.clone();
+    let mut answer = case.rust(world)?;
+    for row in rows {
+        if !(row.holds)(&asked) {
+            continue;
+        }
+        let before = answer.clone();
+        match row.change {
+            Change::Asked(change) => {
+                change(&mut asked);
+                answer = asked.rust(world)?;
+            }
+            Change::Answered(change) => change(&asked, &mut answer),
+        }
+        row.reached.fetch_add(1, Ordering::Relaxed);
+        row.changed.fetch_add(u64::from(answer != before), Ordering::Relaxed);
+    }
+    Ok(answer)
+}
+
+/// The rows, by call.
+#[derive(Default)]
+pub struct Differences {
+    fixup: Vec<Row<fixup::Case>>,
+    hints: Vec<Row<hints::Case>>,
+}
 
 const BEGIN: &str = "<!-- rows of the differential run -->";
-
-fn named<T: Copy>(list: &[(&str, T)], name: &str, what: &str) -> Result<T, String> {
-    let found = list.iter().find(|n| n.0 == name);
-    found.map(|n| n.1).ok_or_else(|| format!("the table names no {what} of the run: {name}"))
-}
 
 impl Differences {
     /// The rows of the table after the mark.
     pub fn read(document: &str) -> Result<Self, String> {
         let (_, rest) = document.split_once(BEGIN).ok_or(format!("no mark {BEGIN}"))?;
         let table = rest.trim_start().lines().take_while(|l| l.starts_with('|')).skip(2);
-        let mut rows = Vec::new();
+        let mut rows = Self::default();
         for line in table {
-            let cells: Vec<_> = line.trim_matches('|').split('|').map(str::trim).collect();
+            let cells: Vec<_> = line.trim_matches('|').split('|').map(|c| c.trim().trim_matches('`')).collect();
             let [name, predicate, change, _] = cells[..] else {
                 return Err(format!("a row has four cells: {line}"));
             };
-            let holds = named(&PREDICATES, predicate.trim_matches('`'), "predicate")?;
-            let change = named(&CHANGES, change.trim_matches('`'), "expectation")?;
-            let (reached, changed) = (AtomicU64::new(0), AtomicU64::new(0));
-            rows.push(Row { name: name.into(), holds, change, reached, changed });
+            if let Some(row) = Row::named(name, predicate, change) {
+                rows.fixup.push(row);
+            } else if let Some(row) = Row::named(name, predicate, change) {
+                rows.hints.push(row);
+            } else {
+                return Err(format!("no call has both names of the row: {predicate}, {change}"));
+            }
         }
-        Ok(Self(rows))
+        Ok(rows)
     }
 
-    /// What is expected of a fix-up whose lists agree.
-    pub fn fixup(&self, case: &Case, world: &World) -> Result<Answer, Difference> {
-        let mut asked = case.clone();
-        let mut answer = fixup::rust(case, world)?;
-        for row in &self.0 {
-            if !(row.holds)(&asked) {
-                continue;
-            }
-            let before = answer.clone();
-            match row.change {
-                Change::Asked(change) => {
-                    change(&mut asked);
-                    answer = fixup::rust(&asked, world)?;
-                }
-                Change::Answered(change) => change(&asked, &mut answer),
-            }
-            row.reached.fetch_add(1, Ordering::Relaxed);
-            row.changed.fetch_add(u64::from(answer != before), Ordering::Relaxed);
-        }
-        Ok(answer)
+    pub fn fixup(&self, case: &fixup::Case, world: &World) -> Result<fixup::Answer, Difference> {
+        expected(&self.fixup, case, world)
+    }
+
+    pub fn hints(&self, case: &hints::Case, world: &World) -> Result<hints::Answer, Difference> {
+        expected(&self.hints, case, world)
     }
 
     /// A line for each row, and the names of those that changed nothing.
     pub fn show(&self) -> (String, Vec<String>) {
         let mut text = String::from("Expected differences\n");
         let mut idle = Vec::new();
-        for row in &self.0 {
-            let (reached, changed) = (row.reached.load(Ordering::Relaxed), row.changed.load(Ordering::Relaxed));
-            text += &format!("  {}: holds in {reached} cases, changes {changed} answers\n", row.name);
+        let lines = self.fixup.iter().map(Row::line).chain(self.hints.iter().map(Row::line));
+        for (name, reached, changed) in lines {
+            text += &format!("  {name}: holds in {reached} cases, changes {changed} answers\n");
             if changed == 0 {
-                idle.push(format!("expected difference {}", row.name));
+                idle.push(format!("expected difference {name}"));
             }
         }
         (text, idle)

@@ -2,6 +2,7 @@
 
 use hauklivo::{Record, Reloc, Report, Resolved, Target, flag, raw};
 
+use crate::answers::{FIX, record};
 use crate::lent::{Lent, filled, hex, pattern};
 use crate::rows::{FIXUP_NUMBERS, FIXUP_TYPE_NUMBERS, Rows, Way};
 use crate::table::Table;
@@ -184,7 +185,16 @@ pub fn check(case: &Case, world: &World, table: &mut Table) -> Result<Answer, Di
         });
     }
     record_answer(case, &due, table);
+    table.note(|| noted(case, &due));
     Ok(due)
+}
+
+fn noted(case: &Case, answer: &Answer) -> Vec<u8> {
+    let bases = [case.base, case.tls_begin].map(u64::to_le_bytes).concat();
+    let lists = [&case.section, &case.entries, &case.targets].map(Vec::len);
+    let values = [&lists[..], &[case.slots, answer.reports.len() / 24]].concat();
+    let parts = [&bases[..], &case.section, &case.entries, &case.targets, &answer.section, &answer.reports];
+    record(FIX, answer.number, &values, &parts)
 }
 
 fn record_answer(case: &Case, answer: &Answer, table: &mut Table) {

@@ -4,9 +4,14 @@
 //! of the Rust on the same input. Numbers 1, 2 and 11 are about lent lists, which the Rust does not
 //! have: there each module's own model says what is expected. `main.rs` binds the Rust.
 
+mod answers;
 mod differences;
 mod fixup;
 mod fixup_groups;
+mod hint_groups;
+mod hint_shape;
+mod hint_ways;
+mod hints;
 mod lent;
 mod reader;
 mod reader_groups;
@@ -31,11 +36,21 @@ pub struct FixedUp {
     pub without_address: Vec<u32>,
 }
 
+/// How a hint run ends: each hint's outcome (0 rewritten, 1 skipped, 2 declined, 3 turned down by 9) and
+/// the tally of the four.
+pub struct HintRun {
+    pub outcomes: Vec<usize>,
+    pub tally: [u32; 4],
+}
+
 /// The calls of the Rust. Lists are whole.
 pub struct Oracle {
     pub read_relocs: fn(contents: &[u8], records: &[u8], sections: &[u64]) -> Result<Vec<u8>, Stop>,
     pub apply_reloc_alloc:
         fn(section: &mut [u8], base: u64, tls_begin: u64, entries: &[u8], targets: &[u8]) -> Result<FixedUp, Stop>,
+    pub apply_hints: fn(image: &mut [u8], hints: &[u8], entries: &[u8]) -> Result<HintRun, Stop>,
+    /// The same run by the Rust's own walk; None where that cannot say it.
+    pub apply_hints_linked: fn(image: &mut [u8], hints: &[u8], entries: &[u8]) -> Option<Result<(), Stop>>,
     pub stub: fn(address: u64, pointer: u64) -> ([u8; 12], bool),
     pub thunk: fn(address: u64, target: u64) -> [u8; 12],
 }

@@ -2,7 +2,7 @@
 
 use std::process::ExitCode;
 
-use driver::{FixedUp, Oracle, Stop};
+use driver::{FixedUp, HintRun, Oracle, Stop};
 
 const ORACLE: Oracle = Oracle {
     read_relocs: |contents, records, sections| {
@@ -13,6 +13,15 @@ const ORACLE: Oracle = Oracle {
         oracle::apply_reloc_alloc(section, base, tls_begin, entries, targets)
             .map(|f| FixedUp { reports: f.reports, without_address: f.without_address })
             .map_err(|s| Stop { number: s.fixup_number(), text: format!("{s:?}") })
+    },
+    apply_hints: |image, hints, entries| {
+        oracle::apply_hints(image, hints, entries)
+            .map(|r| HintRun { outcomes: r.outcomes.iter().map(|&o| o as usize).collect(), tally: r.tally })
+            .map_err(|s| Stop { number: s.hints_number(), text: format!("{s:?}") })
+    },
+    apply_hints_linked: |image, hints, entries| {
+        let done = oracle::apply_hints_linked(image, hints, entries)?;
+        Some(done.map_err(|s| Stop { number: s.hints_number(), text: format!("{s:?}") }))
     },
     stub: oracle::stub,
     thunk: oracle::thunk,

@@ -2,6 +2,7 @@
 
 use hauklivo::{MachRel, Record, raw};
 
+use crate::answers::{READ, record};
 use crate::lent::{Lent, filled, hex, pattern};
 use crate::rows::Rows;
 use crate::table::Table;
@@ -100,7 +101,20 @@ pub fn check(case: &Case, world: &World, table: &mut Table) -> Result<Answer, Di
         });
     }
     record_answer(case, &answer, table);
+    table.note(|| noted(case, &answer));
     Ok(answer)
+}
+
+fn noted(case: &Case, answer: &Answer) -> Vec<u8> {
+    let sections = case.sections.iter().flat_map(|a| a.to_le_bytes()).collect::<Vec<_>>();
+    let entries = answer.as_ref().map_or(&[][..], |e| e);
+    let values = [case.contents.len(), case.records.len(), case.sections.len(), case.slots, entries.len() / 24];
+    record(
+        READ,
+        answer.as_ref().err().copied().unwrap_or(0),
+        &values,
+        &[&case.contents, &case.records, &sections, entries],
+    )
 }
 
 fn record_answer(case: &Case, answer: &Answer, table: &mut Table) {

@@ -1,5 +1,7 @@
 //! The blocks of the table, and what each row is.
 
+use crate::hint_groups::{CLASSED, LIMITED};
+use crate::hint_ways::{HINT_WAYS, can_end};
 use crate::table::Block;
 
 /// The blocks, in the order in which they are shown.
@@ -24,6 +26,16 @@ pub enum Rows {
     FixupAdrpLimit,
     FixupFlags,
     StubAndThunk,
+    HintNumber,
+    HintKind,
+    HintWay,
+    HintBound,
+    HintList,
+    HintClass,
+    HintCount,
+    HintLimit,
+    HintFold,
+    HintEntry,
     Count,
 }
 
@@ -201,6 +213,62 @@ pub const STUB_AND_THUNK: [&str; 8] = [
     "thunk across the end of the address space",
 ];
 
+pub const HINT_NUMBERS: [u8; 4] = [0, 1, 3, 12];
+
+/// The kinds of hint; the last row stands for all from 9 on.
+pub const HINT_KINDS: [&str; 10] = [
+    "kind 0",
+    "ADRP_ADRP",
+    "ADRP_LDR",
+    "ADRP_ADD_LDR",
+    "ADRP_LDR_GOT_LDR",
+    "ADRP_ADD_STR",
+    "ADRP_LDR_GOT_STR",
+    "ADRP_ADD",
+    "ADRP_LDR_GOT",
+    "kinds from 9 on",
+];
+
+/// Whether hints of a kind can be rewritten, skipped, declined, turned down by 9.
+fn hint_outcome(kind: usize, outcome: usize) -> bool {
+    match outcome {
+        1 => true,
+        3 => ![0, 1, 7, 9].contains(&kind),
+        _ => ![0, 9].contains(&kind),
+    }
+}
+
+/// What a list of hints is.
+#[derive(Clone, Copy)]
+#[rustfmt::skip]
+pub enum HintList { Empty, OwnWalk, Objects, Falling, Mixed, AdrpAdrpFirst, SameWord, Overlap, SharedWord, SharedBytes }
+
+const HINT_LISTS: [&str; 10] = [
+    "empty list",
+    "walked by the Rust's own apply_hints",
+    "several objects",
+    "object numbers that fall",
+    "hints of an object apart from each other",
+    "ADRP_ADRP before another hint of its object",
+    "a hint that names a word twice",
+    "a hint whose words overlap",
+    "hints that share a word",
+    "hints whose words overlap",
+];
+
+pub const HINT_BOUNDS: [&str; 10] = [
+    "part 1 byte past the image: 3",
+    "part that just fits: fine",
+    "word 1 byte past its part: 3",
+    "word that just fits: fine",
+    "skipped, part and words past: fine",
+    "entry 1 past the last: 12",
+    "last entry: fine",
+    "word past its part and an absent entry: 3",
+    "12 of an earlier hint before 3",
+    "3 of an earlier hint before 12",
+];
+
 pub fn blocks() -> Vec<Block> {
     let with_rest = || TYPES[..10].iter().copied().chain(["types from 10 on"]);
     let all = |_, _| true;
@@ -224,6 +292,24 @@ pub fn blocks() -> Vec<Block> {
         Block::condensed("Fix-up, page differences around -2^32, 0 and 2^32, five kinds of page", 5 * 15),
         Block::condensed("Fix-up, flags by type, of symbols and sections", 2 * 10 * 512),
         Block::list("Stub and thunk entries", STUB_AND_THUNK),
+        Block::list("Hints, calls by number", HINT_NUMBERS),
+        Block::grid(
+            "Hints, by kind and outcome",
+            HINT_KINDS,
+            ["rewritten", "skipped", "declined", "by 9"],
+            hint_outcome,
+        ),
+        Block::grid("Hints, single hints by kind", HINT_WAYS, 1..9, |way, i| can_end(way, i + 1)),
+        Block::list("Hints, bounds", HINT_BOUNDS),
+        Block::list("Hints, lists", HINT_LISTS),
+        Block::condensed("Hints, classes of bits 31..22 as each word of each kind", CLASSED.len() * 1024),
+        Block::condensed("Hints, each kind and each word count", 2 * 256),
+        Block::condensed(
+            "Hints, displacements around -2^20, 0 and 2^20, of each rewrite with a reach",
+            LIMITED.len() * 39,
+        ),
+        Block::condensed("Hints, ADD immediates under folds into 1, 2, 4, 8 and 16 bytes", 5 * 4096),
+        Block::condensed("Hints, types of the entries of each kind", 8 * 12 * 12),
     ];
     assert!(blocks.len() == Rows::Count as usize);
     blocks

@@ -4,6 +4,7 @@ use std::env;
 use std::fs;
 use std::io::{IsTerminal, Write, stderr};
 use std::panic::{self, AssertUnwindSafe};
+use std::path::Path;
 use std::process::ExitCode;
 use std::sync::Mutex;
 use std::sync::atomic::{AtomicBool, AtomicU64, AtomicUsize, Ordering};
@@ -13,11 +14,12 @@ use std::time::{Duration, Instant};
 use crate::differences::Differences;
 use crate::rows::blocks;
 use crate::table::Table;
-use crate::{Difference, Oracle, World, fixup_groups, reader_groups, stub};
+use crate::{Difference, Oracle, World, answers, fixup_groups, hint_groups, reader_groups, stub};
 
 pub type Verdict = Result<(), Difference>;
 
 /// A numbered family of cases.
+#[derive(Clone)]
 pub struct Group {
     name: &'static str,
     cases: u64,
@@ -31,17 +33,17 @@ impl Group {
         Self { name, cases, short: short.min(cases), run }
     }
 
-    fn count(&self, short: bool) -> u64 {
+    pub fn count(&self, short: bool) -> u64 {
         if short { self.short } else { self.cases }
     }
 
     /// The i-th case of a run. A short run takes cases that are spread over the group.
-    fn index(&self, i: u64, short: bool) -> u64 {
+    pub fn index(&self, i: u64, short: bool) -> u64 {
         if short && self.short < self.cases { (i * self.stride()) % self.cases } else { i }
     }
 
     /// A case's verdict; a panic on the way, as of an oracle that is not caught, is a difference.
-    fn verdict(&self, index: u64, world: &World, table: &mut Table) -> Verdict {
+    pub fn verdict(&self, index: u64, world: &World, table: &mut Table) -> Verdict {
         panic::catch_unwind(AssertUnwindSafe(|| (self.run)(index, world, table))).unwrap_or_else(|_| {
             let (input, port) = (String::from("see the case's number"), String::from("not known"));
             Err(Difference { input, port, expected: "an answer; there was a panic, shown above".into() })
@@ -66,19 +68,24 @@ struct Options {
     threads: usize,
     /// One case, by its group and number.
     case: Option<(String, u64)>,
+    /// The crate that replays answers, if its lists are to be made.
+    answers: Option<String>,
     differences: String,
 }
 
-const USAGE: &str = "usage: differential [--short] [--first] [--threads N] [--case GROUP:NUMBER] DIFFERENCES.md";
+const USAGE: &str =
+    "usage: differential [--short] [--first] [--threads N] [--case GROUP:NUMBER] [--answers CRATE] DIFFERENCES.md";
 
 fn options() -> Option<Options> {
-    let mut o = Options { short: false, first: false, threads: 2, case: None, differences: String::new() };
+    let mut o =
+        Options { short: false, first: false, threads: 2, case: None, answers: None, differences: String::new() };
     let mut args = env::args().skip(1);
     while let Some(arg) = args.next() {
         match arg.as_str() {
             "--short" => o.short = true,
             "--first" => o.first = true,
             "--threads" => o.threads = args.next()?.parse().ok()?,
+            "--answers" => o.answers = Some(args.next()?),
             "--case" => {
                 let (group, number) = args.next()?.split_once(':').map(|(g, n)| (g.to_string(), n.parse()))?;
                 o.case = Some((group, number.ok()?));
@@ -170,24 +177,29 @@ fn show(name: &str, d: &Difference) {
     println!("  {}\n  port     {}\n  expected {}", d.input, d.port, d.expected);
 }
 
-/// Memory that is reserved and not there, for lists of as many records as can be counted.
-fn reserve(len: usize) -> &'static [u8] {
+/// Memory that is reserved and not there, for lists of as many records as can be counted. Its first page can
+/// be written.
+fn reserve(len: usize) -> &'static mut [u8] {
     unsafe extern "C" {
         fn mmap(addr: *mut u8, len: usize, prot: i32, flags: i32, fd: i32, offset: i64) -> *mut u8;
+        fn mprotect(addr: *mut u8, len: usize, prot: i32) -> i32;
     }
     const PROT_READ: i32 = 1;
+    const PROT_READ_WRITE: i32 = 3;
     const PRIVATE_ANONYMOUS_NORESERVE: i32 = 0x2 | 0x20 | 0x4000;
     // SAFETY: a new mapping, never taken back; its bytes read as zero.
     unsafe {
         let start = mmap(std::ptr::null_mut(), len, PROT_READ, PRIVATE_ANONYMOUS_NORESERVE, -1, 0);
         assert!(start as isize != -1, "cannot reserve {len} bytes");
-        std::slice::from_raw_parts(start, len)
+        assert!(mprotect(start, 4096, PROT_READ_WRITE) == 0, "cannot write the first page");
+        std::slice::from_raw_parts_mut(start, len)
     }
 }
 
 fn long_lists() -> Result<u64, Difference> {
-    let reserved = reserve(48 << 32);
-    Ok(reader_groups::long_lists(reserved)? + fixup_groups::long_lists(reserved)?)
+    let reserved = reserve(64 << 32);
+    let others = reader_groups::long_lists(reserved)? + fixup_groups::long_lists(reserved)?;
+    Ok(others + hint_groups::long_lists(reserved)?)
 }
 
 fn one_case(groups: &[Group], name: &str, number: u64, world: &World) -> ExitCode {
@@ -217,11 +229,23 @@ pub fn main(oracle: &Oracle) -> ExitCode {
         }
     };
     let world = World { oracle, differences: &differences };
-    let groups: Vec<_> =
-        [reader_groups::groups(), fixup_groups::groups(), stub::groups()].into_iter().flatten().collect();
+    let groups = [reader_groups::groups(), fixup_groups::groups(), stub::groups(), hint_groups::groups()].concat();
+    if let Some(folder) = &options.answers {
+        return made(answers::write(&groups, &world, Path::new(folder)));
+    }
     match &options.case {
         Some((name, number)) => one_case(&groups, name, *number, &world),
         None => run_all(&groups, &options, &world),
+    }
+}
+
+fn made(lists: Result<(), Difference>) -> ExitCode {
+    match lists {
+        Ok(()) => ExitCode::SUCCESS,
+        Err(d) => {
+            show("of the list of answers", &d);
+            ExitCode::FAILURE
+        }
     }
 }
 

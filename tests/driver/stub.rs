@@ -2,6 +2,7 @@
 
 use hauklivo::raw;
 
+use crate::answers::{STUB, THUNK, record};
 use crate::lent::{Lent, hex, pattern};
 use crate::rng::{Digits, Rng};
 use crate::rows::Rows;
@@ -56,6 +57,11 @@ fn check(kind: Kind, len: usize, address: u64, target: u64, world: &World, table
         });
     }
     record_answer(kind, number, reaches, address, target, table);
+    table.note(|| {
+        let places = [address, target].map(u64::to_le_bytes).concat();
+        let what = if kind == Kind::Stub { STUB } else { THUNK };
+        record(what, number, &[len, usize::from(reaches)], &[&places, &bytes_due])
+    });
     Ok(())
 }
 

@@ -36,16 +36,44 @@ impl Block {
     }
 }
 
+/// What a case leaves for the list of answers: the cells that it reached, as block and cell, and its record.
+#[derive(Default)]
+pub struct Note {
+    pub cells: Vec<(usize, usize)>,
+    pub answer: Vec<u8>,
+}
+
 /// Counts of every cell of every block.
 pub struct Table {
     blocks: Vec<Block>,
     counts: Vec<Vec<u64>>,
+    /// For the list of answers alone.
+    note: Option<Note>,
 }
 
 impl Table {
     pub fn new(blocks: Vec<Block>) -> Self {
         let counts = blocks.iter().map(|b| vec![0; b.rows.len() * b.columns.len()]).collect();
-        Self { blocks, counts }
+        Self { blocks, counts, note: None }
+    }
+
+    /// A table that notes what each case leaves for the list of answers.
+    pub fn noting(blocks: Vec<Block>) -> Self {
+        Self { note: Some(Note::default()), ..Self::new(blocks) }
+    }
+
+    pub fn blocks(&self) -> &[Block] {
+        &self.blocks
+    }
+
+    pub fn note(&mut self, answer: impl FnOnce() -> Vec<u8>) {
+        if let Some(note) = &mut self.note {
+            note.answer = answer();
+        }
+    }
+
+    pub fn take_note(&mut self) -> Note {
+        self.note.replace(Note::default()).unwrap_or_default()
     }
 
     pub fn hit(&mut self, block: usize, row: usize) {
@@ -55,6 +83,9 @@ impl Table {
     pub fn hit_cell(&mut self, block: usize, row: usize, column: usize) {
         let columns = self.blocks[block].columns.len();
         self.counts[block][row * columns + column] += 1;
+        if let Some(note) = &mut self.note {
+            note.cells.push((block, row * columns + column));
+        }
     }
 
     pub fn add(&mut self, other: &Self) {

@@ -9,7 +9,7 @@
 //!   thunk ADDRESS TARGET                    thunk BYTES
 //!   word WORD                               adrp | add | load N | store N | other
 //!
-//! Where the Rust stops: stop, document 01's number (? for hints), and the Rust's words.
+//! Where the Rust stops: stop, document 01's number, and the Rust's words.
 
 use std::io::{self, BufRead, Write};
 
@@ -95,7 +95,7 @@ fn answer(line: &str) -> String {
             let mut image = bytes(image);
             match oracle::apply_hints(&mut image, &bytes(hints), &bytes(entries)) {
                 Ok(run) => format!("image {} {}", hex(&image), outcomes(&run)),
-                Err(stop) => stopped(None, &stop),
+                Err(stop) => stopped(stop.hints_number(), &stop),
             }
         }
         ["stub", address, pointer] => {

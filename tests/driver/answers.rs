@@ -1,0 +1,123 @@
+//! The lists of answers that the gate replays (crates/replay_answers): cases chosen so that each row of the table is
+//! covered, each with what is expected of it.
+//!
+//! A list is a chain of records of 16 bytes and a body. A record is: what it is (u8), the answer's number (u8), the
+//! body's length (u16), and six values (u16). Numbers are little-endian.
+//!
+//! - 0, a title. Body: a row's name; the answers before it, back to the last title, were chosen for that row.
+//! - 1, read_relocs. Values: bytes of contents, bytes of records, sections, bytes of slots, entries filled. Body: contents,
+//!   records, sections (u64), entries.
+//! - 2, apply_reloc_alloc. Values: bytes of the section, of entries, of targets, of slots, reports filled. Body: base and
+//!   thread-local start (u64), section, entries, targets, section after, reports.
+//! - 3, write_stub. Values: bytes lent, whether ADRP reaches. Body: address and pointer (u64), bytes after.
+//! - 4, write_thunk. Values: bytes lent. Body: address and target (u64), bytes after.
+//! - 5, apply_hints. Values: bytes of the image, of hints, of entries. Body: tally (four u32), image, hints, entries, image
+//!   after.
+//!
+//! After a refusal the bytes are those before it and the tally is zeros, which nobody reads. Slots after those filled
+//! keep the pattern of `lent.rs`, and so do the bytes of a stub or thunk that is refused.
+
+use std::fs;
+use std::path::Path;
+
+use crate::rows::blocks;
+use crate::run::Group;
+use crate::table::Table;
+use crate::{Difference, World};
+
+/// The calls by their number in a list.
+pub const READ: u8 = 1;
+pub const FIX: u8 = 2;
+pub const STUB: u8 = 3;
+pub const THUNK: u8 = 4;
+pub const HINTS: u8 = 5;
+
+const FILES: [(&str, &[u8]); 3] = [("reader", &[READ]), ("fixup", &[FIX, STUB, THUNK]), ("hints", &[HINTS])];
+
+/// How often each cell of the table is covered, how many cells of a block that is shown as one line, how many cases
+/// of each group beside those, and the most bytes that an answer has.
+const EACH: u32 = 3;
+const OF_LINE: usize = 96;
+const OF_GROUP: u64 = 48;
+const LONGEST: usize = 1000;
+
+/// A record and its body.
+pub fn record(what: u8, number: u8, values: &[usize], parts: &[&[u8]]) -> Vec<u8> {
+    let body = parts.concat();
+    let mut bytes = vec![what, number];
+    let mut all = [0; 7];
+    all[0] = body.len();
+    all[1..=values.len()].copy_from_slice(values);
+    bytes.extend(all.iter().flat_map(|&n| (n as u16).to_le_bytes()));
+    bytes.extend(body);
+    bytes
+}
+
+/// Whether a cell is still to be covered.
+fn is_wanted(table: &Table, kept: &[Vec<u32>], (block, cell): (usize, usize)) -> bool {
+    let (cells, is_line) = (kept[block].len(), table.blocks()[block].condensed);
+    match is_line {
+        true => cell % cells.div_ceil(OF_LINE) == 0 && kept[block][cell] == 0,
+        false => kept[block][cell] < EACH,
+    }
+}
+
+/// The cells that must be reached and that no answer covers; of a block that is shown as one line, the line.
+fn uncovered(table: &Table, kept: &[Vec<u32>]) -> Vec<String> {
+    let mut bare = Vec::new();
+    for (block, kept) in table.blocks().iter().zip(kept) {
+        let columns = block.columns.len();
+        let is_bare = |&cell: &usize| kept[cell] == 0 && (block.required)(cell / columns, cell % columns);
+        let cells: Vec<_> = (0..kept.len()).filter(is_bare).collect();
+        if !block.condensed {
+            bare.extend(cells.iter().map(|cell| format!("{}: {}", block.title, block.rows[cell / columns])));
+        } else if cells.len() == kept.len() {
+            bare.push(block.title.into());
+        }
+    }
+    bare
+}
+
+/// Writes the lists to the folder `data` of a crate, and to its file `stdout` what a replay of them writes. The cases
+/// are those of a short run, in its order, on one thread.
+pub fn write(groups: &[Group], world: &World, folder: &Path) -> Result<(), Difference> {
+    let mut table = Table::noting(blocks());
+    let mut kept: Vec<Vec<u32>> = table.blocks().iter().map(|b| vec![0; b.rows.len() * b.columns.len()]).collect();
+    // The answers of each row; the last row is for the cases of each group.
+    let mut rows: Vec<Vec<Vec<u8>>> = vec![Vec::new(); kept.len() + 1];
+    for group in groups {
+        let count = group.count(true);
+        for i in 0..count {
+            group.verdict(group.index(i, true), world, &mut table)?;
+            let note = table.take_note();
+            let wanted = note.cells.iter().copied().find(|&cell| is_wanted(&table, &kept, cell));
+            let row = wanted.map(|cell| cell.0).or((i % count.div_ceil(OF_GROUP) == 0).then_some(kept.len()));
+            if let Some(row) = row
+                && (16..=LONGEST).contains(&note.answer.len())
+            {
+                rows[row].push(note.answer);
+                note.cells.iter().for_each(|&(block, cell)| kept[block][cell] += 1);
+            }
+        }
+    }
+    let bare = uncovered(&table, &kept);
+    assert!(bare.is_empty(), "rows that no answer covers: {bare:?}");
+    let (mut written, mut total) = (String::new(), 0);
+    for (name, calls) in FILES {
+        let titles = table.blocks().iter().map(|b| b.title).chain(["Some of each group of cases"]);
+        let mut list = Vec::new();
+        for (title, answers) in titles.zip(&rows) {
+            let own: Vec<_> = answers.iter().filter(|a| calls.contains(&a[0])).collect();
+            if !own.is_empty() {
+                list.extend(own.iter().copied().flatten());
+                list.extend(record(0, 0, &[], &[title.as_bytes()]));
+                written += &format!("{title}: {}\n", own.len());
+                total += own.len();
+            }
+        }
+        fs::write(folder.join("data").join(name), list).expect("the folder can be written");
+    }
+    written += &format!("{total} answers, 0 differences\n");
+    fs::write(folder.join("stdout"), written).expect("the folder can be written");
+    Ok(())
+}

@@ -1,0 +1,259 @@
+//! The hint run: one case, and what the Rust makes of it.
+
+use std::collections::{BTreeMap, BTreeSet};
+
+use hauklivo::{Hint, Place, Record, Reloc, raw};
+
+use crate::answers::{HINTS, record};
+use crate::hint_ways::{Named, way};
+use crate::lent::{Lent, hex};
+use crate::rows::{HINT_NUMBERS, HintList, Rows};
+use crate::table::Table;
+use crate::{Difference, World};
+
+/// How many words a hint of a kind has, 0 for a kind that there is not.
+pub fn word_count(kind: u8) -> usize {
+    [0, 2, 2, 3, 3, 3, 3, 2, 2].get(kind as usize).copied().unwrap_or(0)
+}
+
+/// Whether a hint is skipped: there is no such kind, or its word count is not the kind's.
+pub fn is_skipped(hint: &Hint) -> bool {
+    let n = word_count(hint.kind);
+    n == 0 || n != hint.words as usize
+}
+
+/// The places of a hint that are looked at.
+pub fn looked_at(hint: &Hint) -> &[Place] {
+    if is_skipped(hint) { &[] } else { &hint.places[..hint.words as usize] }
+}
+
+/// Whether a word of a hint ends past its part.
+pub fn ends_past(hint: &Hint) -> bool {
+    looked_at(hint).iter().any(|p| u64::from(p.offset) + 4 > u64::from(hint.length))
+}
+
+#[derive(Clone)]
+pub struct Case {
+    pub image: Vec<u8>,
+    pub hints: Vec<u8>,
+    pub entries: Vec<u8>,
+}
+
+/// What a run leaves: the number, the image's bytes, the tally, and how each hint of the list ended
+/// (0 rewritten, 1 skipped, 2 declined, 3 turned down by 9).
+#[derive(Clone, PartialEq)]
+pub struct Answer {
+    pub number: u8,
+    pub image: Vec<u8>,
+    pub tally: [u32; 4],
+    pub outcomes: Vec<usize>,
+    /// Whether the Rust's own walk came to the same.
+    pub by_own_walk: bool,
+}
+
+/// The tally before a call.
+const TALLY: [u32; 4] = [0x5eed_0001, 0x5eed_0002, 0x5eed_0003, 0x5eed_0004];
+
+impl Case {
+    pub fn new(image: Vec<u8>, hints: &[Hint], entries: &[Reloc]) -> Self {
+        Self { image, hints: Hint::bytes(hints).to_vec(), entries: Reloc::bytes(entries).to_vec() }
+    }
+
+    /// The hints of a whole list.
+    pub fn list(&self) -> Vec<Hint> {
+        Hint::list(&self.hints).expect("whole hints")
+    }
+
+    pub fn set_list(&mut self, list: &[Hint]) {
+        self.hints = Hint::bytes(list).to_vec();
+    }
+
+    fn refused(&self, number: u8) -> Answer {
+        Answer { number, image: self.image.clone(), tally: TALLY, outcomes: Vec::new(), by_own_walk: false }
+    }
+
+    fn show(&self) -> String {
+        let Self { image, hints, entries } = self;
+        let hints: String = hints.chunks(Hint::SIZE).map(|h| format!("\n    hint {}", hex(h))).collect();
+        format!("apply_hints: image {}{hints}\n    entries {}", hex(image), hex(entries))
+    }
+}
+
+/// Number 1, of the lengths of lists.
+pub fn of_lengths(hints: usize, entries: usize) -> Option<u8> {
+    let most = u32::MAX as usize;
+    let is_list = |len: usize, size: usize| len % size == 0 && len / size <= most;
+    (!is_list(hints, Hint::SIZE) || !is_list(entries, Reloc::SIZE)).then_some(1)
+}
+
+/// The Rust's answer. It finds a refusal only at a hint's turn: the first one by list position is found by
+/// asking for each hint by itself.
+pub fn rust(case: &Case, world: &World) -> Result<Answer, Difference> {
+    let run = |hints: &[u8]| {
+        let mut image = case.image.clone();
+        let done = (world.oracle.apply_hints)(&mut image, hints, &case.entries);
+        done.map(|run| Answer { number: 0, image, tally: run.tally, outcomes: run.outcomes, by_own_walk: false })
+    };
+    let stop = match run(&case.hints) {
+        Ok(answer) => return linked(case, answer, world),
+        Err(stop) => stop,
+    };
+    let alone = case.hints.chunks(Hint::SIZE).find_map(|h| run(h).err());
+    let stop = alone.unwrap_or(stop);
+    match stop.number {
+        Some(number) => Ok(case.refused(number)),
+        None => Err(Difference {
+            input: case.show(),
+            port: "not asked".into(),
+            expected: format!("a stop with a number; the Rust: {}", stop.text),
+        }),
+    }
+}
+
+/// The answer, if the Rust's own walk over objects and hints comes to the same image where it can say the case and no
+/// hint is turned down by 9, which ends it.
+fn linked(case: &Case, answer: Answer, world: &World) -> Result<Answer, Difference> {
+    let mut image = case.image.clone();
+    let done = (world.oracle.apply_hints_linked)(&mut image, &case.hints, &case.entries);
+    let Some(done) = done.filter(|_| answer.tally[3] == 0) else { return Ok(answer) };
+    if done.is_ok() && image == answer.image {
+        return Ok(Answer { by_own_walk: true, ..answer });
+    }
+    let ended = done.map_or_else(|stop| stop.text, |()| format!("image {}", hex(&image)));
+    let expected = format!("image {}, hint by hint", hex(&answer.image));
+    Err(Difference { input: case.show(), port: format!("not asked; the Rust's own walk: {ended}"), expected })
+}
+
+fn expected(case: &Case, world: &World) -> Result<Answer, Difference> {
+    match of_lengths(case.hints.len(), case.entries.len()) {
+        Some(number) => Ok(case.refused(number)),
+        None => world.differences.hints(case, world),
+    }
+}
+
+/// Holds the port to the expected answer on a case.
+pub fn check(case: &Case, world: &World, table: &mut Table) -> Result<Answer, Difference> {
+    let due = expected(case, world)?;
+    let lent = case.clone();
+    let mut image = Lent::new(&case.image);
+    let mut tally = [0x9a9a_9a9a; 8];
+    tally[2..6].copy_from_slice(&TALLY);
+    // SAFETY: slices of this function, none lent twice.
+    let number = unsafe {
+        raw::hauklivo_apply_hints(
+            image.bytes().as_mut_ptr(),
+            case.image.len(),
+            lent.hints.as_ptr(),
+            lent.hints.len(),
+            lent.entries.as_ptr(),
+            lent.entries.len(),
+            tally[2..6].as_mut_ptr().cast(),
+        )
+    };
+    let same = number == due.number && image.bytes() == due.image && tally[2..6] == due.tally;
+    let around = [&tally[..2], &tally[6..]].concat().iter().all(|&n| n == 0x9a9a_9a9a);
+    let kept = lent.hints == case.hints && lent.entries == case.entries && image.is_guarded() && around;
+    if !same || !kept {
+        let shown =
+            |number: u8, image: &[u8], tally: &[u32]| format!("{number}, image {}, tally {tally:x?}", hex(image));
+        let port = shown(number, image.bytes(), &tally[2..6]);
+        return Err(Difference {
+            input: case.show(),
+            port: format!("{port}, the rest kept: {kept}"),
+            expected: shown(due.number, &due.image, &due.tally),
+        });
+    }
+    record_answer(case, &due, table);
+    table.note(|| noted(case, &due));
+    Ok(due)
+}
+
+fn noted(case: &Case, answer: &Answer) -> Vec<u8> {
+    let tally = if answer.number == 0 { answer.tally } else { [0; 4] };
+    let tally = tally.map(u32::to_le_bytes).concat();
+    let values = [&case.image, &case.hints, &case.entries].map(Vec::len);
+    record(HINTS, answer.number, &values, &[&tally, &case.image, &case.hints, &case.entries, &answer.image])
+}
+
+fn record_answer(case: &Case, answer: &Answer, table: &mut Table) {
+    let row = HINT_NUMBERS.iter().position(|&n| n == answer.number);
+    table.hit(Rows::HintNumber as usize, row.expect("a number of the hint run"));
+    if answer.number != 0 {
+        return;
+    }
+    let list = case.list();
+    for (hint, &outcome) in list.iter().zip(&answer.outcomes) {
+        table.hit_cell(Rows::HintKind as usize, hint.kind.min(9) as usize, outcome);
+    }
+    let mut hit = |row: HintList| table.hit(Rows::HintList as usize, row as usize);
+    if list.is_empty() {
+        hit(HintList::Empty);
+    }
+    if answer.by_own_walk {
+        hit(HintList::OwnWalk);
+    }
+    record_order(&list, &mut hit);
+    record_sharing(&list, &mut hit);
+    if let [hint] = list[..]
+        && !is_skipped(&hint)
+    {
+        let way = way(hint.kind, &named(case, &hint));
+        assert!(way.outcome() == answer.outcomes[0], "the table's row {way:?} of {}", case.show());
+        table.hit_cell(Rows::HintWay as usize, way as usize, hint.kind as usize - 1);
+    }
+}
+
+/// The words of a hint as they stand in the lent image.
+fn named(case: &Case, hint: &Hint) -> Vec<Named> {
+    let one = |p: &Place| {
+        let at = hint.start as usize + p.offset as usize;
+        let word = u32::from_le_bytes(case.image[at..at + 4].try_into().expect("4 bytes"));
+        let entry = (p.entry != Place::WITHOUT_ENTRY).then(|| {
+            let at = 24 * p.entry as usize;
+            Reloc::from_bytes(&case.entries[at..at + 24]).expect("an entry")
+        });
+        Named { word, address: p.address, entry }
+    };
+    looked_at(hint).iter().map(one).collect()
+}
+
+/// Several objects, and the order of their hints.
+fn record_order(list: &[Hint], hit: &mut impl FnMut(HintList)) {
+    let objects: BTreeSet<_> = list.iter().map(|h| h.object).collect();
+    if objects.len() > 1 {
+        hit(HintList::Objects);
+    }
+    if list.windows(2).any(|w| w[0].object > w[1].object) {
+        hit(HintList::Falling);
+    }
+    let mut runs: Vec<_> = list.iter().map(|h| h.object).collect();
+    runs.dedup();
+    if runs.len() > objects.len() {
+        hit(HintList::Mixed);
+    }
+    let comes_early = |(i, h): (usize, &Hint)| {
+        h.kind == 1 && list[i + 1..].iter().any(|later| later.object == h.object && (2..9).contains(&later.kind))
+    };
+    if list.iter().enumerate().any(comes_early) {
+        hit(HintList::AdrpAdrpFirst);
+    }
+}
+
+/// Words that are named twice, and words that overlap, of one hint and of several.
+fn record_sharing(list: &[Hint], hit: &mut impl FnMut(HintList)) {
+    let mut before: BTreeMap<u64, usize> = BTreeMap::new();
+    for (i, hint) in list.iter().enumerate() {
+        for p in looked_at(hint) {
+            let at = u64::from(hint.start) + u64::from(p.offset);
+            for (&other, &of) in before.range(at.saturating_sub(3)..at + 4) {
+                hit(match (other == at, of == i) {
+                    (true, true) => HintList::SameWord,
+                    (false, true) => HintList::Overlap,
+                    (true, false) => HintList::SharedWord,
+                    (false, false) => HintList::SharedBytes,
+                });
+            }
+            before.insert(at, i);
+        }
+    }
+}
