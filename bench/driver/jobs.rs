@@ -1,0 +1,220 @@
+//! The work that is timed: each call of the port, the Rust's own, and a plain copy.
+
+use hauklivo::{Hint, MachRel, Record, Reloc, Report, Resolved};
+use oracle::{Entries, FixingUp, Given, Linked, Reading};
+
+use crate::hints::Sequences;
+use crate::records::{BASE, TLS_BEGIN, Table};
+
+/// One side of a comparison.
+pub trait Job {
+    /// Puts back what a run changes; not timed.
+    fn reset(&mut self) {}
+    fn run(&mut self);
+    /// The bytes that a run leaves, for the comparison of the sides; none for a copy.
+    fn result(&self) -> Vec<u8> {
+        Vec::new()
+    }
+}
+
+/// A plain copy of as many bytes as a call is lent.
+pub struct Copy {
+    from: Vec<u8>,
+    to: Vec<u8>,
+}
+
+impl Copy {
+    pub fn new(bytes: usize) -> Self {
+        Self { from: vec![1; bytes], to: vec![2; bytes] }
+    }
+}
+
+impl Job for Copy {
+    fn run(&mut self) {
+        self.to.copy_from_slice(&self.from);
+        std::hint::black_box(&mut self.to);
+    }
+}
+
+pub struct PortRead<'a> {
+    table: &'a Table,
+    slots: Vec<Reloc>,
+    count: usize,
+}
+
+impl<'a> PortRead<'a> {
+    pub fn new(table: &'a Table) -> Self {
+        Self { table, slots: vec![Reloc::default(); table.records.len()], count: 0 }
+    }
+}
+
+impl Job for PortRead<'_> {
+    fn run(&mut self) {
+        let records = MachRel::bytes(&self.table.records);
+        let slots = Reloc::bytes_mut(&mut self.slots);
+        self.count = hauklivo::read_relocs(&self.table.contents, records, &self.table.sections, slots).unwrap();
+    }
+
+    fn result(&self) -> Vec<u8> {
+        Reloc::bytes(&self.slots[..self.count]).to_vec()
+    }
+}
+
+pub struct RustRead<'a> {
+    table: &'a Table,
+    reading: Reading,
+    entries: Option<Entries>,
+}
+
+impl<'a> RustRead<'a> {
+    pub fn new(table: &'a Table) -> Self {
+        let reading = Reading::new(MachRel::bytes(&table.records), &table.sections);
+        Self { table, reading, entries: None }
+    }
+}
+
+impl Job for RustRead<'_> {
+    fn reset(&mut self) {
+        self.entries = None;
+    }
+
+    fn run(&mut self) {
+        self.entries = Some(self.reading.run(&self.table.contents));
+    }
+
+    fn result(&self) -> Vec<u8> {
+        self.entries.as_ref().unwrap().bytes()
+    }
+}
+
+pub struct PortFix<'a> {
+    contents: &'a [u8],
+    entries: &'a [Reloc],
+    targets: &'a [Resolved],
+    section: Vec<u8>,
+    reports: Vec<Report>,
+}
+
+impl<'a> PortFix<'a> {
+    pub fn new(contents: &'a [u8], entries: &'a [Reloc], targets: &'a [Resolved]) -> Self {
+        let reports = vec![Report::default(); entries.len()];
+        Self { contents, entries, targets, section: contents.to_vec(), reports }
+    }
+}
+
+impl Job for PortFix<'_> {
+    fn reset(&mut self) {
+        self.section.copy_from_slice(self.contents);
+    }
+
+    fn run(&mut self) {
+        let reports = hauklivo::apply_reloc_alloc(
+            &mut self.section,
+            BASE,
+            TLS_BEGIN,
+            Reloc::bytes(self.entries),
+            Resolved::bytes(self.targets),
+            Report::bytes_mut(&mut self.reports),
+        );
+        assert_eq!(reports, Ok(0));
+    }
+
+    fn result(&self) -> Vec<u8> {
+        self.section.clone()
+    }
+}
+
+pub struct RustFix<'a> {
+    contents: &'a [u8],
+    fixing: FixingUp,
+    section: Vec<u8>,
+}
+
+impl<'a> RustFix<'a> {
+    pub fn new(contents: &'a [u8], entries: &'a [Reloc], targets: &'a [Resolved]) -> Self {
+        let fixing = FixingUp::new(TLS_BEGIN, Reloc::bytes(entries), Resolved::bytes(targets));
+        Self { contents, fixing, section: contents.to_vec() }
+    }
+}
+
+impl Job for RustFix<'_> {
+    fn reset(&mut self) {
+        self.section.copy_from_slice(self.contents);
+    }
+
+    fn run(&mut self) {
+        self.fixing.run(&mut self.section, BASE);
+    }
+
+    fn result(&self) -> Vec<u8> {
+        self.section.clone()
+    }
+}
+
+/// What a linker does for the port and not for the Rust: a resolved target for each entry, from a table of symbols.
+pub struct Fill<'a> {
+    entries: &'a [Reloc],
+    symbols: &'a [Resolved],
+    targets: Vec<Resolved>,
+}
+
+impl<'a> Fill<'a> {
+    pub fn new(entries: &'a [Reloc], symbols: &'a [Resolved]) -> Self {
+        Self { entries, symbols, targets: vec![Resolved::default(); entries.len()] }
+    }
+}
+
+impl Job for Fill<'_> {
+    fn run(&mut self) {
+        for (target, e) in self.targets.iter_mut().zip(self.entries) {
+            *target = self.symbols[e.target as usize % self.symbols.len()];
+        }
+        std::hint::black_box(&mut self.targets);
+    }
+}
+
+/// A hint run on its own copy of the image.
+pub struct Hints<'a, F> {
+    from: &'a Sequences,
+    image: Vec<u8>,
+    call: F,
+}
+
+impl<F: FnMut(&mut [u8])> Job for Hints<'_, F> {
+    fn reset(&mut self) {
+        self.image.copy_from_slice(&self.from.image);
+    }
+
+    fn run(&mut self) {
+        (self.call)(&mut self.image);
+    }
+
+    fn result(&self) -> Vec<u8> {
+        self.image.clone()
+    }
+}
+
+fn hints<'a>(from: &'a Sequences, call: impl FnMut(&mut [u8]) + 'a) -> Box<dyn Job + 'a> {
+    Box::new(Hints { from, image: from.image.clone(), call })
+}
+
+pub fn port_hints(from: &Sequences) -> Box<dyn Job + '_> {
+    let (hints_of, entries) = (Hint::bytes(&from.hints), Reloc::bytes(&from.entries));
+    hints(from, move |image| {
+        let tally = hauklivo::apply_hints(image, hints_of, entries).unwrap();
+        assert_eq!((tally.skipped, tally.turned_down), (0, 0));
+    })
+}
+
+/// The Rust's rules over given places.
+pub fn rust_rules(from: &Sequences) -> Box<dyn Job + '_> {
+    let given = Given::new(Hint::bytes(&from.hints), Reloc::bytes(&from.entries));
+    hints(from, move |image| given.run(image))
+}
+
+/// The Rust's own apply_hints, which finds the places.
+pub fn rust_run(from: &Sequences) -> Box<dyn Job + '_> {
+    let (hints_of, entries) = (Hint::bytes(&from.hints), Reloc::bytes(&from.entries));
+    let linked = Linked::new(from.image.len(), hints_of, entries).expect("places that go with offsets");
+    hints(from, move |image| linked.run(image))
+}
