@@ -69,7 +69,8 @@ ends-within n m h (S.Refused x) e = tt
 ends-within n m h (S.Read r next) e = omega arith
 
 -- the step of a record with its target ends where it is told
-pub targeted-ends : (sections : List ℕ) (r : MachRel) (subtracted : Bool) (offset addend next : ℕ) → Ends next (targeted sections r subtracted offset addend next)
+pub targeted-ends : (sections : List ℕ) (r : MachRel) (subtracted : Bool) (offset addend next : ℕ)
+    → Ends next (targeted sections r subtracted offset addend next)
 unfolding targeted
 targeted-ends sections r subtracted offset addend next = go (targetOf sections r addend)
   where

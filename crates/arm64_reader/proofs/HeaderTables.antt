@@ -28,7 +28,8 @@ use Rattle.arm64_reader.specs.Check.{pointer32}
 use Rattle.arm64_reader.specs.Record.{recordOf}
 use Rattle.arm64_reader.specs.Read.{readRecords, readRelocs}
 use Rattle.arm64_reader.specs.Header.{Referent, symbol, section, Less, nothing, less, Relocation, wellFormed, takesAddend, referentOf, pointerOf, wordOf}
-use Rattle.arm64_reader.specs.Header.{Reason, form, subtractor-last, subtractor-type, subtractor-place, subtractor-size, addend-form, addend-last, addend-type, addend-place}
+use Rattle.arm64_reader.specs.Header.{Reason, form, subtractor-last, subtractor-type, subtractor-place, subtractor-size}
+use Rattle.arm64_reader.specs.Header.{addend-form, addend-last, addend-type, addend-place}
 use Rattle.arm64_reader.specs.Header.{isTolerated, Pending, none, minus, plus, Turn, stop, wait, give, Meaning, undefined, relocations}
 use Rattle.arm64_reader.specs.Header.{turnMinus, withFirst, follow, meaningFrom, meaningOf, Known, Inside, isLonePointer32, hasLonePointer32}
 use Rattle.arm64_reader.specs.Said.{namedBy, sayOne, saidFrom, said}
@@ -92,7 +93,8 @@ module _ (size sections : ℕ) where
       rw (eq-eqb (e .ty) ARM64-RELOC-SUBTRACTOR t) (ap (λ (p : Referent). saidFrom (less p) es) n ∙ g)
 
   -- a SUBTRACTOR that is refused
-  minus-refused : (w : Meaning) (x : Refusal) → ((ms : List Relocation) → w ≡ relocations ms → Inside size sections ms → Allowed ms x) → Agree nothing w (refused x)
+  minus-refused : (w : Meaning) (x : Refusal) → ((ms : List Relocation) → w ≡ relocations ms → Inside size sections ms → Allowed ms x)
+      → Agree nothing w (refused x)
   unfolding Agree
   minus-refused (undefined y) x f = tt
   minus-refused (relocations ms) x f = λ i. f ms refl i
@@ -157,7 +159,8 @@ module _ (contents sections : List ℕ) where
       (refused-left (drop (r .offset) contents) sections r false (r .offset) given 2 f (room (i .0)) (i .1) (here e))))
       (λ h e k q. give-read _ _ nothing g e w (readRecords contents sections (isSubtractor r) rs)
       (ap (sayOne nothing) (read-entry _ sections r false _ given 2 (here q))
-      ∙ say-word contents sections r false given nothing (read-named _ sections r false _ given 2 (here q)) (none-of 0 refl) (names-symbol r f (none-of 0 refl) (none-of 10 refl)))
+      ∙ say-word contents sections r false given nothing (read-named _ sections r false _ given 2 (here q)) (none-of 0 refl)
+      (names-symbol r f (none-of 0 refl) (none-of 10 refl)))
       (λ u. none-of 1 refl (ap (λ (d : Reloc). d .ty) (sym (read-entry _ sections r false _ given 2 (here q))) ∙ u))
       (rw (ne-eqb (typeOf (r .bits)) ARM64-RELOC-SUBTRACTOR (none-of 1 refl)) rest))
     where
@@ -261,7 +264,8 @@ module _ (contents sections : List ℕ) where
   Good : Pending → List MachRel → Type 0
   Good none rs = Ok nothing (meaningFrom contents sections none rs) (readRecords contents sections false rs)
   Good (minus q) rs = Ok (less (referentOf q)) (meaningFrom contents sections (minus q) rs) (readRecords contents sections true rs)
-  Good (plus a) rs = typeOf (a .bits) ≡ ARM64-RELOC-ADDEND → Ok nothing (meaningFrom contents sections (plus a) rs) (readRecords contents sections false (a ∷ rs))
+  Good (plus a) rs =
+      typeOf (a .bits) ≡ ARM64-RELOC-ADDEND → Ok nothing (meaningFrom contents sections (plus a) rs) (readRecords contents sections false (a ∷ rs))
 
   good-end : (p : Pending) → Good p []
   unfolding Good meaningFrom

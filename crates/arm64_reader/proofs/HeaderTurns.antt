@@ -65,7 +65,8 @@ after-minus contents sections s r =
     (λ o.
     split A (eqb (p2sizeOf (r .bits)) (p2sizeOf (s .bits))) _ _
     (λ z.
-    difference (eqb-true (typeOf (r .bits)) ARM64-RELOC-UNSIGNED u) f (eqb-true (r .offset) (s .offset) o) (eqb-true (p2sizeOf (r .bits)) (p2sizeOf (s .bits)) z))
+    difference (eqb-true (typeOf (r .bits)) ARM64-RELOC-UNSIGNED u) f (eqb-true (r .offset) (s .offset) o)
+    (eqb-true (p2sizeOf (r .bits)) (p2sizeOf (s .bits)) z))
     (λ _. other-size))
     (λ _. other-place))
     (λ f. unknown (eqb-true (typeOf (r .bits)) ARM64-RELOC-UNSIGNED u) f))

@@ -124,7 +124,8 @@ module _ (loc lac sections others : List ℕ) (r : MachRel) where
       go true x = rw x
       go false x = rw (x, section-same held (idxOf (r .bits)) refl x m)
 
-  adding-same : (subtracted : Bool) (offset next : ℕ) (a : Addend) → Same → adding sections r subtracted offset next a ≡ adding others r subtracted offset next a
+  adding-same : (subtracted : Bool) (offset next : ℕ) (a : Addend) → Same
+      → adding sections r subtracted offset next a ≡ adding others r subtracted offset next a
   unfolding targeted
   adding-same subtracted offset next (Held a) m = ap (enter r subtracted offset next) (target-same a m)
   adding-same subtracted offset next (Refused x) m = refl
@@ -133,7 +134,8 @@ module _ (loc lac sections others : List ℕ) (r : MachRel) where
       → recordOf loc sections r subtracted offset given next ≡ recordOf lac others r subtracted offset given next
   unfolding recordOf
   record-same subtracted offset given next m =
-      rw (check-same subtracted m, addend-same given m) (ap (passing (checkReloc r subtracted lac)) (adding-same subtracted offset next (addendOf r lac given) m))
+      rw (check-same subtracted m, addend-same given m)
+      (ap (passing (checkReloc r subtracted lac)) (adding-same subtracted offset next (addendOf r lac given) m))
 
 -- two contents and two section lists of the same lengths that agree in the words that entries' own records are read against, and in the addresses of the
 -- sections that they name
@@ -177,7 +179,8 @@ module _ (contents others sections addresses : List ℕ) (first : Bool) (rs : Li
       go true e =
           let o : ownOf rs i ≡ i + 1 = rw e in
           let s = subst (λ (j : ℕ).
-          ownAt contents sections first rs j (recordAt rs i .offset) given ≡ ownAt others addresses first rs j (recordAt rs i .offset) given) o (own-same i h m given) in
+          ownAt contents sections first rs j (recordAt rs i .offset) given
+          ≡ ownAt others addresses first rs j (recordAt rs i .offset) given) o (own-same i h m given) in
           rw (e, m .size, s)
       go false e =
           let o : ownOf rs i ≡ i = rw e in

@@ -46,7 +46,8 @@ module _ (sections : List ℕ) (r : MachRel) (subtracted : Bool) (offset next : 
   addend-bits (Held addend) = target-bits (targetOf sections r addend)
   addend-bits (Refused x) = refl
 
-  by-bits : (loc : List ℕ) (addend : ℕ) → recordOf loc sections r subtracted offset addend next ≡ recordOf loc sections (bare (r .bits)) subtracted offset addend next
+  by-bits : (loc : List ℕ) (addend : ℕ)
+      → recordOf loc sections r subtracted offset addend next ≡ recordOf loc sections (bare (r .bits)) subtracted offset addend next
   unfolding recordOf checkReloc supportedOf pointer32 addendOf
   by-bits loc addend = ap (passing (checkReloc r subtracted loc)) (addend-bits (addendOf r loc addend))
 
@@ -107,7 +108,8 @@ module _ (d : ℕ) (f : Reloc → Reloc) (c e sections : List ℕ) (a b : Bool) 
       go false p false q z w =
           let n = eqb-false _ _ q in
           rw (other-is e sections b qs j (ltb-false _ _ p) n)
-          (other-is c sections a rs i (ltb-false _ _ (m .inside ∙ p)) (λ (t : typeOf (recordAt rs i .bits) ≡ ARM64-RELOC-ADDEND). n (ap typeOf (sym (m .bits)) ∙ t))
+          (other-is c sections a rs i (ltb-false _ _ (m .inside ∙ p))
+          (λ (t : typeOf (recordAt rs i .bits) ≡ ARM64-RELOC-ADDEND). n (ap typeOf (sym (m .bits)) ∙ t))
           ∙ same-record d f _ _ (m .shifts) _ _ sections _ _ _ _ 0 0 (i + 1) (j + 1) (m .loc) (m .bits) (m .subtracted) refl (omega (arith, m .place)))
       go false p true q false w =
           let t = eqb-true _ _ q in

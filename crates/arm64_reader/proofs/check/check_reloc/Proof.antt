@@ -67,7 +67,8 @@ returns-4 c =
       ← c .before .before .before .ty .ensures,
       c .before .before .before .before .if2 .left,
       ← c .before .before .before .before .before .is-pointer32 .ensures,
-      not-false (c .before .before .before .before .before .before .before .is-supported .result) (c .before .before .before .before .before .before .if1 .left),
+      not-false (c .before .before .before .before .before .before .before .is-supported .result)
+          (c .before .before .before .before .before .before .if1 .left),
       ← c .before .before .before .before .before .before .before .is-supported .ensures,
     )
 

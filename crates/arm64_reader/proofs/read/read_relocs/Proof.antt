@@ -39,8 +39,10 @@ fill-walk-requires : tie.Need-fill-walk-requires
 fill-walk-requires c κs =
     let k = c .before .before .before .before in
     let f = sym (k .before .before .before .check-lengths .ensures) ∙ k .before .enum-told .given .1 in
-    let a = k .before .before .before .before .before .before .before .before .args in
-    (fills-of (readTable (now (a .contents)) (now (a .rels)) (now (a .sections))) _ (sym (c .before .before .count .given .1) ∙ k .check-walk .ensures), fit-room _ _ _ f)
+    let a = k .before .before .before .before .before .before .before .before .args in (
+      fills-of (readTable (now (a .contents)) (now (a .rels)) (now (a .sections))) _ (sym (c .before .before .count .given .1) ∙ k .check-walk .ensures),
+      fit-room _ _ _ f,
+    )
 
 returns : tie.Need-returns
 returns c =
