@@ -1,5 +1,5 @@
 //! The lists of answers that the gate replays (crates/replay_answers): cases chosen so that each row of the table is
-//! covered, each with what is expected of it.
+//! covered, and each row of docs/DIFFERENCES.md, each with what is expected of it.
 //!
 //! A list is a chain of records of 16 bytes and a body. A record is: what it is (u8), the answer's number (u8), the
 //! body's length (u16), and six values (u16). Numbers are little-endian.
@@ -10,7 +10,7 @@
 //! - 2, apply_reloc_alloc. Values: bytes of the section, of entries, of targets, of slots, reports filled. Body: base and
 //!   thread-local start (u64), section, entries, targets, section after, reports.
 //! - 3, write_stub. Values: bytes lent, whether ADRP reaches. Body: address and pointer (u64), bytes after.
-//! - 4, write_thunk. Values: bytes lent. Body: address and target (u64), bytes after.
+//! - 4, write_thunk. Values: bytes lent, 1. Body: address and target (u64), bytes after.
 //! - 5, apply_hints. Values: bytes of the image, of hints, of entries. Body: tally (four u32), image, hints, entries, image
 //!   after.
 //!
@@ -78,6 +78,11 @@ fn uncovered(table: &Table, kept: &[Vec<u32>]) -> Vec<String> {
     bare
 }
 
+/// How many answers each row of docs/DIFFERENCES.md has changed so far.
+fn changed(world: &World) -> Vec<u64> {
+    world.differences.counts().iter().map(|row| row.changed).collect()
+}
+
 /// Writes the lists to the folder `data` of a crate, and to its file `stdout` what a replay of them writes. The cases
 /// are those of a short run, in its order, on one thread.
 pub fn write(groups: &[Group], world: &World, folder: &Path) -> Result<(), Difference> {
@@ -85,9 +90,11 @@ pub fn write(groups: &[Group], world: &World, folder: &Path) -> Result<(), Diffe
     let mut kept: Vec<Vec<u32>> = table.blocks().iter().map(|b| vec![0; b.rows.len() * b.columns.len()]).collect();
     // The answers of each row; the last row is for the cases of each group.
     let mut rows: Vec<Vec<Vec<u8>>> = vec![Vec::new(); kept.len() + 1];
+    let mut shown = vec![false; world.differences.counts().len()];
     for group in groups {
         let count = group.count(true);
         for i in 0..count {
+            let before = changed(world);
             group.verdict(group.index(i, true), world, &mut table)?;
             let note = table.take_note();
             let wanted = note.cells.iter().copied().find(|&cell| is_wanted(&table, &kept, cell));
@@ -97,10 +104,14 @@ pub fn write(groups: &[Group], world: &World, folder: &Path) -> Result<(), Diffe
             {
                 rows[row].push(note.answer);
                 note.cells.iter().for_each(|&(block, cell)| kept[block][cell] += 1);
+                let differs = before.iter().zip(changed(world)).map(|(&then, now)| now > then);
+                shown.iter_mut().zip(differs).for_each(|(shown, differs)| *shown |= differs);
             }
         }
     }
-    let bare = uncovered(&table, &kept);
+    let mut bare = uncovered(&table, &kept);
+    let counts = world.differences.counts();
+    bare.extend(counts.iter().zip(shown).filter(|row| !row.1).map(|row| row.0.name.into()));
     assert!(bare.is_empty(), "rows that no answer covers: {bare:?}");
     let (mut written, mut total) = (String::new(), 0);
     for (name, calls) in FILES {

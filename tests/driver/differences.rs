@@ -10,8 +10,7 @@ use std::sync::atomic::{AtomicU64, Ordering};
 use hauklivo::{Record, Reloc, Resolved, Target, flag};
 
 use crate::fixup::{self, is_section, steps};
-use crate::hints;
-use crate::{Difference, World};
+use crate::{Difference, World, hints, reader, stub};
 
 /// How a row changes what is expected of a case.
 enum Change<C: Call> {
@@ -30,6 +29,16 @@ trait Call: Clone + 'static {
     fn rust(&self, world: &World) -> Result<Self::Answer, Difference>;
 }
 
+impl Call for reader::Case {
+    type Answer = reader::Answer;
+    const PREDICATES: &[(&str, fn(&Self) -> bool)] = &[];
+    const CHANGES: &[(&str, Change<Self>)] = &[];
+
+    fn rust(&self, world: &World) -> Result<Self::Answer, Difference> {
+        reader::rust(self, world)
+    }
+}
+
 impl Call for fixup::Case {
     type Answer = fixup::Answer;
     const PREDICATES: &[(&str, fn(&Self) -> bool)] = &[
@@ -43,6 +52,16 @@ impl Call for fixup::Case {
 
     fn rust(&self, world: &World) -> Result<Self::Answer, Difference> {
         fixup::rust(self, world)
+    }
+}
+
+impl Call for stub::Case {
+    type Answer = stub::Answer;
+    const PREDICATES: &[(&str, fn(&Self) -> bool)] = &[];
+    const CHANGES: &[(&str, Change<Self>)] = &[];
+
+    fn rust(&self, world: &World) -> Result<Self::Answer, Difference> {
+        Ok(stub::rust(self, world))
     }
 }
 
@@ -91,26 +110,33 @@ fn as_past_image(case: &mut hints::Case) {
     case.set_list(&list);
 }
 
+/// A row's name, in how many cases it held, and in how many it changed the answer.
+pub struct Count<'a> {
+    pub name: &'a str,
+    pub reached: u64,
+    pub changed: u64,
+}
+
 struct Row<C: Call> {
     name: String,
     holds: fn(&C) -> bool,
     change: &'static Change<C>,
-    /// Cases in which it held, and in which it changed the answer.
     reached: AtomicU64,
     changed: AtomicU64,
 }
 
 impl<C: Call> Row<C> {
     /// The row of these names, None where the call does not have them.
-    fn named(name: &str, predicate: &str, change: &str) -> Option<Self> {
+    fn named([name, predicate, change]: [&str; 3]) -> Option<Self> {
         let holds = C::PREDICATES.iter().find(|n| n.0 == predicate)?.1;
         let change = &C::CHANGES.iter().find(|n| n.0 == change)?.1;
         let (reached, changed) = (AtomicU64::new(0), AtomicU64::new(0));
         Some(Self { name: name.into(), holds, change, reached, changed })
     }
 
-    fn line(&self) -> (&str, u64, u64) {
-        (&self.name, self.reached.load(Ordering::Relaxed), self.changed.load(Ordering::Relaxed))
+    fn count(&self) -> Count<'_> {
+        let (reached, changed) = (self.reached.load(Ordering::Relaxed), self.changed.load(Ordering::Relaxed));
+        Count { name: &self.name, reached, changed }
     }
 }
 
@@ -139,8 +165,18 @@ fn expected<C: Call>(rows: &[Row<C>], case: &C, world: &World) -> Result<C::Answ
 /// The rows, by call.
 #[derive(Default)]
 pub struct Differences {
+    reader: Vec<Row<reader::Case>>,
     fixup: Vec<Row<fixup::Case>>,
+    stub: Vec<Row<stub::Case>>,
     hints: Vec<Row<hints::Case>>,
+}
+
+/// Adds the row of these names to a call's rows, if the call has them.
+fn add<C: Call>(rows: &mut Vec<Row<C>>, names: [&str; 3]) -> bool {
+    let row = Row::named(names);
+    let is_there = row.is_some();
+    rows.extend(row);
+    is_there
 }
 
 const BEGIN: &str = "<!-- rows of the differential run -->";
@@ -156,31 +192,45 @@ impl Differences {
             let [name, predicate, change, _] = cells[..] else {
                 return Err(format!("a row has four cells: {line}"));
             };
-            if let Some(row) = Row::named(name, predicate, change) {
-                rows.fixup.push(row);
-            } else if let Some(row) = Row::named(name, predicate, change) {
-                rows.hints.push(row);
-            } else {
+            let names = [name, predicate, change];
+            let is_there = add(&mut rows.reader, names)
+                || add(&mut rows.fixup, names)
+                || add(&mut rows.stub, names)
+                || add(&mut rows.hints, names);
+            if !is_there {
                 return Err(format!("no call has both names of the row: {predicate}, {change}"));
             }
         }
         Ok(rows)
     }
 
+    pub fn reader(&self, case: &reader::Case, world: &World) -> Result<reader::Answer, Difference> {
+        expected(&self.reader, case, world)
+    }
+
     pub fn fixup(&self, case: &fixup::Case, world: &World) -> Result<fixup::Answer, Difference> {
         expected(&self.fixup, case, world)
+    }
+
+    pub fn stub(&self, case: &stub::Case, world: &World) -> Result<stub::Answer, Difference> {
+        expected(&self.stub, case, world)
     }
 
     pub fn hints(&self, case: &hints::Case, world: &World) -> Result<hints::Answer, Difference> {
         expected(&self.hints, case, world)
     }
 
+    /// The rows' counts so far.
+    pub fn counts(&self) -> Vec<Count<'_>> {
+        let first = self.reader.iter().map(Row::count).chain(self.fixup.iter().map(Row::count));
+        first.chain(self.stub.iter().map(Row::count)).chain(self.hints.iter().map(Row::count)).collect()
+    }
+
     /// A line for each row, and the names of those that changed nothing.
     pub fn show(&self) -> (String, Vec<String>) {
         let mut text = String::from("Expected differences\n");
         let mut idle = Vec::new();
-        let lines = self.fixup.iter().map(Row::line).chain(self.hints.iter().map(Row::line));
-        for (name, reached, changed) in lines {
+        for Count { name, reached, changed } in self.counts() {
             text += &format!("  {name}: holds in {reached} cases, changes {changed} answers\n");
             if changed == 0 {
                 idle.push(format!("expected difference {name}"));

@@ -47,10 +47,8 @@ pub fn of_lengths(records: usize, sections: usize, slots: usize) -> Option<u8> {
     (slots < 24 * (records / 8)).then_some(2)
 }
 
-fn expected(case: &Case, world: &World) -> Result<Answer, Difference> {
-    if let Some(number) = of_lengths(case.records.len(), case.sections.len(), case.slots) {
-        return Ok(Err(number));
-    }
+/// The Rust's answer.
+pub fn rust(case: &Case, world: &World) -> Result<Answer, Difference> {
     match (world.oracle.read_relocs)(&case.contents, &case.records, &case.sections) {
         Ok(entries) => Ok(Ok(entries)),
         Err(stop) => stop.number.map(Err).ok_or_else(|| Difference {
@@ -58,6 +56,13 @@ fn expected(case: &Case, world: &World) -> Result<Answer, Difference> {
             port: "not asked".into(),
             expected: format!("a stop with a number; the Rust: {}", stop.text),
         }),
+    }
+}
+
+fn expected(case: &Case, world: &World) -> Result<Answer, Difference> {
+    match of_lengths(case.records.len(), case.sections.len(), case.slots) {
+        Some(number) => Ok(Err(number)),
+        None => world.differences.reader(case, world),
     }
 }
 

@@ -1,6 +1,7 @@
 //! Numbers for the cases: pseudo-random ones from a seed, and the digits of a case's number.
 
-/// SplitMix64. The seed is a group's name and a case's number, so a case can be made again.
+/// SplitMix64. The seed is the group's name ("words" for reader/words) and a case's number, so a case can be made
+/// again.
 pub struct Rng(u64);
 
 impl Rng {

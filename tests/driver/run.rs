@@ -208,10 +208,15 @@ fn one_case(groups: &[Group], name: &str, number: u64, world: &World) -> ExitCod
         return ExitCode::from(2);
     };
     match group.verdict(number, world, &mut Table::new(blocks())) {
-        Ok(()) => println!("case {name}:{number} as expected"),
-        Err(d) => show(&format!("{name}:{number}"), &d),
+        Ok(()) => {
+            println!("case {name}:{number} as expected");
+            ExitCode::SUCCESS
+        }
+        Err(d) => {
+            show(&format!("{name}:{number}"), &d);
+            ExitCode::FAILURE
+        }
     }
-    ExitCode::SUCCESS
 }
 
 /// Runs the program over the Rust's calls.

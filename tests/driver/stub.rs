@@ -18,26 +18,50 @@ pub fn groups() -> Vec<Group> {
 }
 
 #[derive(Clone, Copy, PartialEq, Debug)]
-enum Kind {
+pub enum Kind {
     Stub,
     Thunk,
 }
 
 /// An entry of `len` bytes at `address` that goes through, or to, `target`.
-fn check(kind: Kind, len: usize, address: u64, target: u64, world: &World, table: &mut Table) -> Verdict {
-    let (words, reaches) = match kind {
-        Kind::Stub => (world.oracle.stub)(address, target),
-        Kind::Thunk => ((world.oracle.thunk)(address, target), true),
+#[derive(Clone)]
+pub struct Case {
+    kind: Kind,
+    len: usize,
+    address: u64,
+    target: u64,
+}
+
+/// What a call leaves: the number, the bytes, and whether ADRP reaches, which a thunk's always does.
+#[derive(Clone, PartialEq)]
+pub struct Answer {
+    number: u8,
+    bytes: Vec<u8>,
+    reaches: bool,
+}
+
+/// The Rust's answer. It has no lent bytes that are too short: that is number 3.
+pub fn rust(case: &Case, world: &World) -> Answer {
+    let (words, reaches) = match case.kind {
+        Kind::Stub => (world.oracle.stub)(case.address, case.target),
+        Kind::Thunk => ((world.oracle.thunk)(case.address, case.target), true),
     };
-    const BEFORE: u8 = 77;
-    let (mut bytes_due, mut number_due, mut reaches_due) = (pattern(len), 3, BEFORE);
-    if let Some(place) = bytes_due.get_mut(..12) {
+    let mut answer = Answer { number: 3, bytes: pattern(case.len), reaches };
+    if let Some(place) = answer.bytes.get_mut(..12) {
         place.copy_from_slice(&words);
-        number_due = 0;
-        if kind == Kind::Stub {
-            reaches_due = u8::from(reaches);
-        }
+        answer.number = 0;
     }
+    answer
+}
+
+/// What the place for "ADRP reaches" holds before a call.
+const BEFORE: u8 = 77;
+
+/// Holds the port to the expected answer on a case.
+fn check(case: &Case, world: &World, table: &mut Table) -> Verdict {
+    let due = world.differences.stub(case, world)?;
+    let &Case { kind, len, address, target } = case;
+    let told_due = if kind == Kind::Stub && due.number == 0 { u8::from(due.reaches) } else { BEFORE };
     let mut lent = Lent::slots(len);
     let mut told = BEFORE;
     let bytes = lent.bytes().as_mut_ptr();
@@ -49,31 +73,31 @@ fn check(kind: Kind, len: usize, address: u64, target: u64, world: &World, table
         }
     };
     let kept = lent.is_guarded();
-    if number != number_due || told != reaches_due || lent.bytes() != bytes_due || !kept {
+    if number != due.number || told != told_due || lent.bytes() != due.bytes || !kept {
         return Err(Difference {
             input: format!("{kind:?} of {len} bytes at {address:#x}, target {target:#x}"),
             port: format!("{number}, reaches {told}, bytes {}, the rest kept: {kept}", hex(lent.bytes())),
-            expected: format!("{number_due}, reaches {reaches_due}, bytes {}", hex(&bytes_due)),
+            expected: format!("{}, reaches {told_due}, bytes {}", due.number, hex(&due.bytes)),
         });
     }
-    record_answer(kind, number, reaches, address, target, table);
+    record_answer(case, &due, table);
     table.note(|| {
         let places = [address, target].map(u64::to_le_bytes).concat();
         let what = if kind == Kind::Stub { STUB } else { THUNK };
-        record(what, number, &[len, usize::from(reaches)], &[&places, &bytes_due])
+        record(what, due.number, &[len, usize::from(due.reaches)], &[&places, &due.bytes])
     });
     Ok(())
 }
 
-fn record_answer(kind: Kind, number: u8, reaches: bool, address: u64, target: u64, table: &mut Table) {
+fn record_answer(case: &Case, answer: &Answer, table: &mut Table) {
     let mut hit = |row| table.hit(Rows::StubAndThunk as usize, row);
-    let pages = (target >> 12) as i64 - (address >> 12) as i64;
+    let pages = (case.target >> 12) as i64 - (case.address >> 12) as i64;
     let wrapped = pages.unsigned_abs() > 1 << 51;
-    match (kind, number) {
+    match (case.kind, answer.number) {
         (Kind::Stub, 3) => hit(2),
         (Kind::Thunk, 3) => hit(6),
         (Kind::Stub, _) => {
-            hit(usize::from(!reaches));
+            hit(usize::from(!answer.reaches));
             if [1 << 20, (1 << 20) - 1, -(1 << 20), -(1 << 20) - 1].contains(&pages) {
                 hit(3);
             }
@@ -99,7 +123,7 @@ fn limits(index: u64, world: &World, table: &mut Table) -> Verdict {
     let low = d.pick(&[0, 8, 0xff8, 0xfff]);
     let target = (address & !0xfff).wrapping_add_signed(pages << 12) | low;
     let kind = d.pick(&[Kind::Stub, Kind::Thunk]);
-    check(kind, len, address, target, world, table)
+    check(&Case { kind, len, address, target }, world, table)
 }
 
 fn random(index: u64, world: &World, table: &mut Table) -> Verdict {
@@ -109,5 +133,5 @@ fn random(index: u64, world: &World, table: &mut Table) -> Verdict {
     let address = rng.next() >> rng.below(64);
     let delta = rng.next() >> rng.below(64);
     let target = if rng.one_in(2) { address.wrapping_add(delta) } else { address.wrapping_sub(delta) };
-    check(kind, len, address, target, world, table)
+    check(&Case { kind, len, address, target }, world, table)
 }

@@ -35,8 +35,10 @@ fn main() -> ExitCode {
         differences += found.len();
     }
     table.print();
-    println!("{} objects, {differences} differences", files.len());
-    match differences == 0 && !files.is_empty() {
+    let missing = table.missing();
+    missing.iter().for_each(|kind| println!("NO HINT of kind {kind}"));
+    println!("{} objects, {differences} differences, {} kinds of hint missing", files.len(), missing.len());
+    match differences == 0 && missing.is_empty() && !files.is_empty() {
         true => ExitCode::SUCCESS,
         false => ExitCode::FAILURE,
     }

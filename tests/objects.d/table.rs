@@ -42,6 +42,13 @@ impl Table {
         }
     }
 
+    /// The hint kinds that no object has.
+    pub fn missing(&self) -> Vec<&'static str> {
+        let found: BTreeSet<_> = self.hints.keys().map(|row| row.0).collect();
+        let kinds = (1..).map_while(|kind| Some((kind, kind_name(kind)?)));
+        kinds.filter(|(kind, _)| !found.contains(kind)).map(|(_, name)| name).collect()
+    }
+
     pub fn print(&self) {
         println!("\nentries of all objects");
         for ty in 0..=9 {
