@@ -111,11 +111,11 @@ module _ (r : MachRel) where
   unfolding recordOf checkReloc pointer32 addendOf targeted targetOf choose
   plain-by s x u g t a = (eqb-false _ _ a, λ loc sections subtracted offset next. simp (s, x, u, g, t))
 
-  pub plain-form : (ty pcrel : ℕ) → typeOf (r .bits) ≡ ty → pcrelOf (r .bits) ≡ pcrel → p2sizeOf (r .bits) ≡ 2 → externOf (r .bits) ≡ 1
-      → member (form pcrel 2 1) (formsOf ty) ≡ true → eqb ty ARM64-RELOC-UNSIGNED ≡ false → eqb ty ARM64-RELOC-GOT-LOAD-PAGEOFF12 ≡ false
+  pub plain-form : (ty pcrel p2size : ℕ) → typeOf (r .bits) ≡ ty → pcrelOf (r .bits) ≡ pcrel → p2sizeOf (r .bits) ≡ p2size → externOf (r .bits) ≡ 1
+      → member (form pcrel p2size 1) (formsOf ty) ≡ true → eqb ty ARM64-RELOC-UNSIGNED ≡ false → eqb ty ARM64-RELOC-GOT-LOAD-PAGEOFF12 ≡ false
       → eqb ty ARM64-RELOC-TLVP-LOAD-PAGEOFF12 ≡ false → eqb ty ARM64-RELOC-ADDEND ≡ false → Plain r
   unfolding supportedOf
-  plain-form ty pcrel e p z x m u g t a = plain-by (rw (e, p, z, x) m) (rw x refl) (rw e u) (rw e g) (rw e t) (rw e a)
+  plain-form ty pcrel p2size e p z x m u g t a = plain-by (rw (e, p, z, x) m) (rw x refl) (rw e u) (rw e g) (rw e t) (rw e a)
 
 -- what a check lets through is what it was given
 passing-reads : (c : Check) (s : Step) → Reads (passing c s) → s ≡ passing c s

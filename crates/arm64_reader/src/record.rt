@@ -120,6 +120,12 @@ fn is_plain(r: MachRel) -> bool
     ensures { λ b. ⌜ (b ≡ true → Plain r) ⌝ }
 {
     let form = r.bits / 0x100_0000;
+    if form == 0x1c {
+        return true;
+    }
+    if form == 0x1e {
+        return true;
+    }
     if form == 0x2d {
         return true;
     }
@@ -130,6 +136,12 @@ fn is_plain(r: MachRel) -> bool
         return true;
     }
     if form == 0x5d {
+        return true;
+    }
+    if form == 0x7d {
+        return true;
+    }
+    if form == 0x8d {
         return true;
     }
     false
