@@ -12,7 +12,6 @@ use arm64_rules::answer::Insns;
 use arm64_rules::rels::Rels;
 use arm64_rules::rels::both_pages;
 use arm64_rules::rels::has_page_pair;
-use macho::consts;
 ghost use mathlib.Core.Path.{_≡_};
 ghost use Rattle.macho.specs.Types.{MCLOH-AdrpAdrp, MCLOH-AdrpLdr, MCLOH-AdrpAddLdr, MCLOH-AdrpLdrGotLdr};
 ghost use Rattle.macho.specs.Types.{MCLOH-AdrpAddStr, MCLOH-AdrpLdrGotStr, MCLOH-AdrpAdd, MCLOH-AdrpLdrGot};
@@ -72,21 +71,4 @@ pub fn decide_adrp_ldr_got(s: Insns, r: Rels) -> Decision
     ensures { λ d. ⌜ d ≡ decide MCLOH-AdrpLdrGot s r ⌝ }
 {
     adrp_ldr_got(s, has_page_pair(r, 2, true))
-}
-
-// The decision of the kind. A number that is no kind has none.
-pub fn decide(kind: u8, s: Insns, r: Rels) -> Decision
-    ensures { λ d. ⌜ d ≡ decide kind s r ⌝ }
-{
-    match kind {
-        consts::LOH_ARM64_ADRP_ADRP => decide_adrp_adrp(s, r),
-        consts::LOH_ARM64_ADRP_LDR => decide_adrp_ldr(s, r),
-        consts::LOH_ARM64_ADRP_ADD_LDR => decide_adrp_add_ldr(s, r),
-        consts::LOH_ARM64_ADRP_LDR_GOT_LDR => decide_adrp_ldr_got_ldr(s, r),
-        consts::LOH_ARM64_ADRP_ADD_STR => decide_adrp_add_str(s, r),
-        consts::LOH_ARM64_ADRP_LDR_GOT_STR => decide_adrp_ldr_got_str(s, r),
-        consts::LOH_ARM64_ADRP_ADD => decide_adrp_add(s, r),
-        consts::LOH_ARM64_ADRP_LDR_GOT => decide_adrp_ldr_got(s, r),
-        _ => Decision::Declined,
-    }
 }

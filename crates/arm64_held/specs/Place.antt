@@ -8,6 +8,7 @@ use lib.ListN.{length, getD, take}
 use Rattle.util.specs.Choice.{choose}
 use Rattle.util.specs.Word.{put}
 use Rattle.macho.specs.declared.hint.HintInsn.{HintInsn}
+use Rattle.arm64_rules.specs.declared.answer.Insns.{Insns}
 use Rattle.arm64_rules.specs.declared.answer.NewWord.{NewWord}
 use Rattle.arm64_rules.specs.declared.answer.NewWord.the-variants.{Keep, Set}
 use Rattle.order.specs.Lists.{All}
@@ -22,6 +23,22 @@ offsets insns = map (λ i. i .off) insns
 -- the addresses of their words
 abbrev pub addresses : List HintInsn → List ℕ
 addresses insns = map (λ i. i .addr) insns
+
+-- words with their addresses, in the order of the places; zeros past them
+abbrev pub insnsWith : List HintInsn → List ℕ → Insns
+insnsWith insns words =
+    record {
+      w0 = getD words 0 0;
+      w1 = getD words 1 0;
+      w2 = getD words 2 0;
+      p0 = getD (addresses insns) 0 0;
+      p1 = getD (addresses insns) 1 0;
+      p2 = getD (addresses insns) 2 0;
+    }
+
+-- the words that stand at the places
+abbrev pub wordsIn : List ℕ → List HintInsn → Insns
+wordsIn bytes insns = insnsWith insns (wordsAt (offsets insns) bytes)
 
 -- a place's new word
 abbrev pub newOf : NewWord → Option ℕ

@@ -1,30 +1,35 @@
--- What the tests of a hint's places say, and what a check that finds nothing says. Carried by the choices of `checkHint`, hint by hint.
+-- What the tests of a hint's places say, what a check that finds nothing says, and what is told of the object numbers beside it. Carried by the
+-- choices of `checkHint`, hint by hint.
 use mathlib.Core.Path.{_≡_, refl, sym, ap, _∙_}
 use mathlib.Core.Logic.{⊎-elim}
-use mathlib.Core.Bool.{Bool, true, false, _&&_, _||_}
+use mathlib.Core.Bool.{Bool, true, false, _&&_}
 use mathlib.Core.List.{List, [], _∷_}
-use Prim.Native.Nat.{ℕ, zero, suc, _+_, _*_, _/_, _%_, _^_, _≤_, _<_}
+use Prim.Native.Nat.{ℕ, zero, suc, _+_, _-_, _*_, _/_, _%_, _^_, _≤_, _<_}
 use native.Mathlib.Omega.{arith}
 use native.Mathlib.Nat.{not-suc-le-zero, eq-or-lt-of-le, le-of-suc-le-suc}
 use native.Mathlib.Numerals.{add-one}
-use borrow.Author.Tests.{ne-eqb, ltb-true, ltb-false, leb-false}
+use borrow.Author.Tests.{eq-eqb, ne-eqb, lt-ltb, le-ltb, le-leb, lt-leb, ltb-true, ltb-false, leb-false}
 use lib.Dec.{eqb, ltb, leb}
 use lib.ListN.{length}
 use Rattle.util.proofs.Choice.{split, choose-false, choose-first, both}
-use Rattle.macho.specs.Hint.{noEntry}
+use Rattle.macho.specs.Hint.{noEntry, hintAt}
 use Rattle.macho.specs.declared.hint.HintInsn.{HintInsn}
 use Rattle.macho.specs.declared.hint.HintRecord.{HintRecord}
 use Rattle.macho.specs.declared.refusal.Refusal.{Refusal}
 use Rattle.macho.specs.declared.refusal.Refusal.the-variants.{Lengths}
 use Rattle.order.specs.Lists.{empty, more}
-use Rattle.order.specs.Cursor.{hintCount}
+use Rattle.order.specs.Cursor.{hintCount, objectAt}
+use Rattle.order.specs.Walk.{grouped, lastOf}
+use Rattle.order.proofs.Lists.{same-or, less-or}
+use Rattle.order.proofs.Walk.{grouped-step}
 use Rattle.arm64_held.specs.Place.{InBytes}
 use Rattle.arm64_held.specs.Entry.{InEntries}
 use Rattle.arm64_hints.specs.Hint.{hintOf, isSkipped, insnsIn, Inside, Named}
-use Rattle.arm64_hints.specs.Check.{isList, checkLists, partPast, endsPast, namesAbsent, anyOf, checkHint, first, checkTo, checkAll}
+use Rattle.arm64_hints.specs.Check.{isList, checkLists, partPast, endsPast, namesAbsent, anyOf, checkHint, first, checkTo, checkAll, checkedAs}
 use Rattle.arm64_hints.specs.declared.check.Check.{Check}
 use Rattle.arm64_hints.specs.declared.check.Check.the-variants.{Fine, Refused}
-use Rattle.arm64_hints.proofs.Places.{neither, insns-three, insns-two, by-count}
+use Rattle.arm64_hints.specs.declared.check.Checked.the-variants as Said
+use Rattle.arm64_hints.proofs.Places.{neither, by-count}
 
 never : {x : Refusal} → Refused x ≡ Fine → ⊥
 never q = let z : _≡_ {A = ℕ} 0 1 = cc in omega arith
@@ -39,15 +44,27 @@ module _ (h : HintRecord) (e : isSkipped h ≡ false) (test : HintInsn → Bool)
     pub any-second : test (h .insn1) ≡ true → true ≡ anyOf test (insnsIn h)
     any-second b = by-count h e (λ l. true ≡ anyOf test l) (λ n. rw (a, b)) (λ n. rw (a, b))
 
-    pub any-third : test (h .insn1) ≡ false → h .n ≡ 3 → test (h .insn2) ≡ anyOf test (insnsIn h)
-    any-third b n = rw (insns-three h e n, a, b) (or-false (test (h .insn2)))
-      where
-        or-false : (t : Bool) → t ≡ (t || false)
-        or-false true = refl
-        or-false false = refl
+    module _ (b : test (h .insn1) ≡ false) where
+      pub any-third : test (h .insn2) ≡ true → eqb (h .n) 3 ≡ anyOf test (insnsIn h)
+      any-third t = by-count h e (λ l. eqb (h .n) 3 ≡ anyOf test l) (λ n. rw (a, b, t) (eq-eqb (h .n) 3 n)) (λ n. rw (a, b) (ne-eqb (h .n) 3 n))
 
-    pub any-none : test (h .insn1) ≡ false → (h .n ≡ 3 → ⊥) → false ≡ anyOf test (insnsIn h)
-    any-none b n = rw (insns-two h e n, a, b)
+      pub any-none : test (h .insn2) ≡ false → false ≡ anyOf test (insnsIn h)
+      any-none t = by-count h e (λ l. false ≡ anyOf test l) (λ n. rw (a, b, t)) (λ n. rw (a, b))
+
+-- a word in a part that has room for one
+pub past-is : (len : ℕ) (i : HintInsn) → 4 ≤ len → ltb (len - 4) (i .off) ≡ endsPast len i
+past-is len i h =
+    less-or (len - 4) (i .off) (λ l. lt-ltb (len - 4) (i .off) l ∙ sym (lt-ltb len (i .off + 4) (omega arith)))
+    (λ l. le-ltb (len - 4) (i .off) l ∙ sym (le-ltb len (i .off + 4) (omega arith)))
+
+-- the number of an entry and one more, from 2^32 - 1 back to 0, against the count
+pub absent-is : (count : ℕ) (i : HintInsn) → i .rel < 2 ^ 32 → ltb count ((i .rel + 1) % 0x1_0000_0000) ≡ namesAbsent count i
+absent-is count i h =
+    same-or (i .rel) noEntry (λ e. rw (eq-eqb (i .rel) noEntry e) (le-ltb count ((i .rel + 1) % 0x1_0000_0000) (omega arith)))
+    (λ n. rw (ne-eqb (i .rel) noEntry n)
+    (less-or (i .rel) count
+    (λ l. le-ltb count ((i .rel + 1) % 0x1_0000_0000) (omega arith) ∙ sym (lt-leb count (i .rel) l))
+    (λ l. lt-ltb count ((i .rel + 1) % 0x1_0000_0000) (omega arith) ∙ sym (le-leb count (i .rel) l))))
 
 -- ---- no place passes
 
@@ -143,16 +160,56 @@ module _ (len count : ℕ) (hints : List ℕ) where
       ⊎-elim (λ (w : k ≡ n). ap (λ (j : ℕ). checkHint len count (hintOf hints j)) w ∙ t .1) (λ (w : k < n). fine-at n (t .0) k w)
       (eq-or-lt-of-le (le-of-suc-le-suc h))
 
+-- ---- with whether their object numbers never fall
+
+-- both tests, where the first holds, or fails
+pub and-true : {a b r : Bool} → a ≡ true → r ≡ b → r ≡ (a && b)
+and-true {a} {b} q e = e ∙ sym (ap (λ (t : Bool). t && b) q)
+
+pub and-false : {a r : Bool} (b : Bool) → a ≡ false → r ≡ a → r ≡ (a && b)
+and-false b q e = e ∙ q ∙ sym (ap (λ (t : Bool). t && b) q)
+
+-- one hint more: whether the object numbers with it never fall, and its own as the last
+pub grouped-more : (obj : ℕ → ℕ) (k : ℕ) {g r : Bool} {last o : ℕ} → g ≡ grouped obj k → last ≡ lastOf obj k → o ≡ obj k → r ≡ (g && leb last o)
+    → (r ≡ grouped obj (k + 1)) × (o ≡ lastOf obj (k + 1))
+grouped-more obj k a b c e = rw (add-one k) (e ∙ rw (a, b, c) (sym (grouped-step obj k)), c)
+
+-- the object number of a hint that is read
+pub object-is : (hints : List ℕ) (k : ℕ) {h : HintRecord} → h ≡ hintOf hints k → h .object ≡ objectAt hints k
+unfolding hintAt
+object-is hints k e = ap (λ (h : HintRecord). h .object) e
+
+-- the check's word with that
+pub says-refused : {c : Check} (g : Bool) {x : Refusal} → c ≡ Refused x → Said.Refused x ≡ checkedAs c g
+unfolding checkedAs
+says-refused g e = sym (ap (λ (c : Check). checkedAs c g) e)
+
+pub says-fine : {c : Check} {f : Bool} (g : Bool) → c ≡ Fine → f ≡ g → Said.Fine f ≡ checkedAs c g
+unfolding checkedAs
+says-fine g e q = ap Said.Fine q ∙ sym (ap (λ (c : Check). checkedAs c g) e)
+
+-- and what the word tells of the check
+pub told-refused : (c : Check) (g : Bool) (x : Refusal) → checkedAs c g ≡ Said.Refused x → c ≡ Refused x
+unfolding checkedAs
+told-refused Fine g x e = let z : _≡_ {A = ℕ} 0 1 = cc in absurd (omega arith)
+told-refused (Refused y) g x e = cc
+
+pub told-fine : (c : Check) (f g : Bool) → checkedAs c g ≡ Said.Fine f → (c ≡ Fine) × (f ≡ g)
+unfolding checkedAs
+told-fine Fine f g e = (refl, cc)
+told-fine (Refused y) f g e = let z : _≡_ {A = ℕ} 0 1 = cc in absurd (omega arith)
+
 -- ---- the whole check
 
 module _ (len : ℕ) (hints : List ℕ) (entries : ℕ) where
-  pub all-refused : (x : Refusal) → checkLists (length hints) entries ≡ Refused x → Refused x ≡ checkAll len hints entries
+  pub all-refused : (x : Refusal) → checkLists (length hints) entries ≡ Refused x → checkAll len hints entries ≡ Refused x
   unfolding checkAll
-  all-refused x e = sym (ap (λ (c : Check). first c (checkTo len (entries / 24) hints (hintCount hints))) e)
+  all-refused x e = ap (λ (c : Check). first c (checkTo len (entries / 24) hints (hintCount hints))) e
 
-  pub all-hints : checkLists (length hints) entries ≡ Fine → checkTo len (entries / 24) hints (hintCount hints) ≡ checkAll len hints entries
+  pub all-hints : (g : Bool) → checkLists (length hints) entries ≡ Fine
+      → checkedAs (checkTo len (entries / 24) hints (hintCount hints)) g ≡ checkedAs (checkAll len hints entries) g
   unfolding checkAll
-  all-hints e = sym (ap (λ (c : Check). first c (checkTo len (entries / 24) hints (hintCount hints))) e)
+  all-hints g e = sym (ap (λ (c : Check). checkedAs (first c (checkTo len (entries / 24) hints (hintCount hints))) g) e)
 
   module _ (fine : checkAll len hints entries ≡ Fine) where
     pub few-hints : hintCount hints < 2 ^ 32

@@ -6,11 +6,13 @@ use Prim.Native.Nat.{ℕ}
 use lib.ListN.{take}
 use Rattle.macho.specs.declared.hint.HintInsn.{HintInsn}
 use Rattle.macho.specs.declared.hint.HintRecord.{HintRecord}
+use Rattle.arm64_rules.specs.declared.answer.Insns.{Insns}
+use Rattle.arm64_rules.specs.declared.answer.Decision.{Decision}
 use Rattle.arm64_rules.specs.declared.rels.Rels.{Rels}
-use Rattle.arm64_held.specs.Place.{InBytes}
+use Rattle.order.specs.Plan.{wordsAt, putWords}
+use Rattle.arm64_held.specs.Place.{offsets, wordsIn, InBytes}
 use Rattle.arm64_held.specs.Entry.{relsIn, InEntries}
-use Rattle.arm64_hints.specs.Hint.{isSkipped, insnsAll, insnsIn, insnsOf, relsOf, ruledAt, sectionBy, ruledIn, sectionAfter, Inside, Named}
-use Rattle.arm64_hints.specs.declared.outcome.Outcome.{Outcome}
+use Rattle.arm64_hints.specs.Hint.{isSkipped, insnsAll, insnsIn, offsOf, insnsOf, relsOf, newsIn, Inside, Named}
 use Rattle.arm64_hints.proofs.Places.{insns-first}
 
 module _ (h : HintRecord) {insns : List HintInsn} (all : insns ≡ insnsAll h) where
@@ -29,14 +31,13 @@ module _ (h : HintRecord) {insns : List HintInsn} (all : insns ≡ insnsAll h) w
   -- ---- what is answered
 
   module _ (e : isSkipped h ≡ false) where
-    pub held-ruled : (kind : ℕ) (r : Rels) (xs : List ℕ) {o : Outcome} {ys : List ℕ}
-        → (o ≡ ruledAt kind (take (h .n) insns) r xs) × (ys ≡ sectionBy kind (take (h .n) insns) r xs)
-        → (o ≡ ruledIn kind h r xs) × (ys ≡ sectionAfter kind h r xs)
+    pub held-words : (xs : List ℕ) {s : Insns} → s ≡ wordsIn xs (take (h .n) insns) → s ≡ insnsOf h (wordsAt (offsOf h) xs)
     unfolding insnsOf
-    held-ruled kind r xs told = (
-      told .0 ∙ ap (λ (l : List HintInsn). ruledAt kind l r xs) (sym (firsts e)),
-      told .1 ∙ ap (λ (l : List HintInsn). sectionBy kind l r xs) (sym (firsts e)),
-    )
+    held-words xs told = told ∙ ap (wordsIn xs) (sym (firsts e))
+
+    pub held-stored : (xs : List ℕ) (d : Decision) {ys : List ℕ} → ys ≡ putWords (offsets (take (h .n) insns)) (newsIn d) xs
+        → ys ≡ putWords (offsOf h) (newsIn d) xs
+    held-stored xs d told = told ∙ ap (λ (l : List HintInsn). putWords (offsets l) (newsIn d) xs) (sym (firsts e))
 
     pub held-rels : (entries : List ℕ) {r : Rels} → r ≡ relsIn entries (take (h .n) insns) → r ≡ relsOf entries h
     unfolding relsOf

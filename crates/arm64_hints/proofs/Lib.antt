@@ -1,7 +1,6 @@
 -- Laws that belong to no one function, and the theorems.
 pub mod Places
 pub mod Held
-pub mod Rulings
 pub mod Sections
 pub mod Rules
 pub mod Checks

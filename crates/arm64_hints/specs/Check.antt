@@ -13,6 +13,8 @@ use Rattle.order.specs.Cursor.{hintCount}
 use Rattle.arm64_hints.specs.Hint.{hintOf, isSkipped, insnsIn}
 use Rattle.arm64_hints.specs.declared.check.Check.{Check}
 use Rattle.arm64_hints.specs.declared.check.Check.the-variants.{Fine, Refused}
+use Rattle.arm64_hints.specs.declared.check.Checked.{Checked}
+use Rattle.arm64_hints.specs.declared.check.Checked.the-variants as Said
 
 -- whether len bytes are whole records of a size, at most 2^32 - 1 of them
 unfoldable pub isList : ℕ → ℕ → Bool
@@ -60,3 +62,8 @@ checkTo len count hints (suc k) = first (checkTo len count hints k) (checkHint l
 -- the first refusal of a run
 unfoldable pub checkAll : ℕ → List ℕ → ℕ → Check
 checkAll len hints entries = first (checkLists (length hints) entries) (checkTo len (entries / 24) hints (hintCount hints))
+
+-- a check's word, with whether the hints are grouped
+unfoldable pub checkedAs : Check → Bool → Checked
+checkedAs Fine g = Said.Fine g
+checkedAs (Refused x) g = Said.Refused x

@@ -17,7 +17,7 @@ use Rattle.arm64_rules.specs.declared.answer.Decision.{Decision}
 use Rattle.arm64_rules.specs.declared.answer.Decision.the-variants.{Declined, Nine, Rewritten}
 use Rattle.arm64_rules.specs.declared.rels.Rels.{Rels}
 use Rattle.order.specs.Plan.{wordsAt, putWords, Plan}
-use Rattle.arm64_held.specs.Place.{offsets, addresses, newOf, InBytes}
+use Rattle.arm64_held.specs.Place.{offsets, addresses, insnsWith, newOf, InBytes}
 use Rattle.arm64_held.specs.Entry.{relsIn, InEntries}
 use Rattle.arm64_hints.specs.declared.outcome.Outcome.{Outcome}
 use Rattle.arm64_hints.specs.declared.outcome.Outcome.the-variants.{Skipped, Worked}
@@ -51,23 +51,7 @@ placesOf h = map (λ at. h .start + at) (offsOf h)
 abbrev pub addrsOf : HintRecord → List ℕ
 addrsOf h = addresses (insnsIn h)
 
--- words with their addresses, in the order of the places; zeros past them
-abbrev pub insnsWith : List HintInsn → List ℕ → Insns
-insnsWith insns words =
-    record {
-      w0 = getD words 0 0;
-      w1 = getD words 1 0;
-      w2 = getD words 2 0;
-      p0 = getD (addresses insns) 0 0;
-      p1 = getD (addresses insns) 1 0;
-      p2 = getD (addresses insns) 2 0;
-    }
-
--- the words that stand at the places
-abbrev pub wordsIn : List ℕ → List HintInsn → Insns
-wordsIn bytes insns = insnsWith insns (wordsAt (offsets insns) bytes)
-
--- and a hint's, up to its word count
+-- a hint's words with their addresses, up to its word count
 unfoldable pub insnsOf : HintRecord → List ℕ → Insns
 insnsOf h words = insnsWith (insnsIn h) words
 
@@ -93,14 +77,6 @@ newsIn (Rewritten p) = newOf (p .w0) ∷ newOf (p .w1) ∷ newOf (p .w2) ∷ []
 abbrev pub newsOf : Outcome → List (Option ℕ)
 newsOf Skipped = []
 newsOf (Worked d s) = newsIn d
-
--- what the rule of a kind answers to the words of places in a section
-abbrev pub ruledAt : ℕ → List HintInsn → Rels → List ℕ → Outcome
-ruledAt kind insns r section = Worked (decide kind (wordsIn section insns) r) (wordsIn section insns)
-
--- and the section that it leaves
-abbrev pub sectionBy : ℕ → List HintInsn → Rels → List ℕ → List ℕ
-sectionBy kind insns r section = putWords (offsets insns) (newsOf (ruledAt kind insns r section)) section
 
 -- what the rule of a kind answers in a hint's section
 abbrev pub ruledIn : ℕ → HintRecord → Rels → List ℕ → Outcome

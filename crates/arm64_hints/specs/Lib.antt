@@ -1,5 +1,4 @@
 -- The definitions that the contracts of arm64_hints cite.
 pub mod Hint
-pub mod Rule
 pub mod Check
 pub mod Run

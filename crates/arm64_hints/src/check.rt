@@ -7,13 +7,20 @@ ghost use mathlib.Core.Path.{_≡_};
 ghost use mathlib.Core.Bool.{false};
 ghost use Prim.Native.Nat.{_<_};
 ghost use lib.ListN.{length};
-ghost use Rattle.order.specs.Cursor.{hintCount};
+ghost use Rattle.order.specs.Cursor.{hintCount, objectAt};
+ghost use Rattle.order.specs.Walk.{grouped};
 ghost use Rattle.arm64_hints.specs.Hint.{isSkipped, insnsIn};
-ghost use Rattle.arm64_hints.specs.Check.{isList, checkLists, endsPast, namesAbsent, anyOf, checkHint, checkTo, checkAll};
+ghost use Rattle.arm64_hints.specs.Check.{isList, checkLists, endsPast, namesAbsent, anyOf, checkHint, checkTo, checkAll, checkedAs};
 
 // What a check says.
 pub enum Check {
     Fine,
+    Refused(Refusal),
+}
+
+// What the check of all hints says: whether they come by rising object number, or the first refusal.
+pub enum Checked {
+    Fine(bool),
     Refused(Refusal),
 }
 
@@ -42,7 +49,10 @@ fn check_lists(hints: usize, entries: usize) -> Check
 fn ends_past(len: u32, i: HintInsn) -> bool
     ensures { λ r. ⌜ r ≡ endsPast len i ⌝ }
 {
-    (len as u64) < (i.off as u64) + 4
+    if len < 4 {
+        return true;
+    }
+    len - 4 < i.off
 }
 
 // Whether a word ends past the part.
@@ -59,8 +69,8 @@ fn word_past(h: HintRecord) -> bool
     if ends_past(h.len, i1) {
         return true;
     }
-    if h.n == 3 {
-        return ends_past(h.len, i2);
+    if ends_past(h.len, i2) {
+        return h.n == 3;
     }
     false
 }
@@ -69,7 +79,8 @@ fn word_past(h: HintRecord) -> bool
 fn names_absent(count: usize, i: HintInsn) -> bool
     ensures { λ r. ⌜ r ≡ namesAbsent count i ⌝ }
 {
-    i.rel != HintInsn::NO_ENTRY && count <= i.rel as usize
+    // 0xffffffff, which names no entry, becomes 0
+    count < (i.rel as usize + 1) % 0x1_0000_0000
 }
 
 // Whether one of a hint's places does.
@@ -86,8 +97,8 @@ fn entry_absent(count: usize, h: HintRecord) -> bool
     if names_absent(count, i1) {
         return true;
     }
-    if h.n == 3 {
-        return names_absent(count, i2);
+    if names_absent(count, i2) {
+        return h.n == 3;
     }
     false
 }
@@ -111,32 +122,39 @@ fn check_hint(len: usize, count: usize, h: HintRecord) -> Check
     Check::Fine
 }
 
-// The first refusal among the hints.
-fn check_hints(len: usize, hints: &[u8], count: usize) -> Check
-    ensures { λ r. ⌜ r ≡ checkTo len count (now (hints .entry)) (hintCount (now (hints .entry))) ⌝ }
+// The first refusal among the hints, or whether their object numbers never fall.
+fn check_hints(len: usize, hints: &[u8], count: usize) -> Checked
+    ensures { λ r. ⌜ r
+        ≡ checkedAs
+        (checkTo len count (now (hints .entry)) (hintCount (now (hints .entry))))
+        (grouped (objectAt (now (hints .entry))) (hintCount (now (hints .entry)))) ⌝ }
 {
     let n = hints.len() / 64;
+    let mut grouped = true;
+    let mut last = 0;
     let mut k = 0;
     while k < n {
         let h = HintRecord::read(hints, 64 * k);
         match check_hint(len, count, h) {
             Check::Refused(x) => {
-                return Check::Refused(x);
+                return Checked::Refused(x);
             }
             Check::Fine => {
+                grouped = grouped && last <= h.object;
+                last = h.object;
                 k += 1;
             }
         }
     }
-    Check::Fine
+    Checked::Fine(grouped)
 }
 
-// The first refusal of a run over an image of len bytes, with the entries' length in bytes.
-pub fn check_all(len: usize, hints: &[u8], entries: usize) -> Check
-    ensures { λ r. ⌜ r ≡ checkAll len (now (hints .entry)) entries ⌝ }
+// The first refusal of a run over an image of len bytes, with the entries' length in bytes; or whether the hints' object numbers never fall.
+pub fn check_all(len: usize, hints: &[u8], entries: usize) -> Checked
+    ensures { λ r. ⌜ r ≡ checkedAs (checkAll len (now (hints .entry)) entries) (grouped (objectAt (now (hints .entry))) (hintCount (now (hints .entry)))) ⌝ }
 {
     match check_lists(hints.len(), entries) {
-        Check::Refused(x) => Check::Refused(x),
+        Check::Refused(x) => Checked::Refused(x),
         Check::Fine => check_hints(len, hints, entries / 24),
     }
 }

@@ -4,7 +4,7 @@ pub mod hint;
 pub mod loh;
 pub mod outcome;
 pub mod part;
-pub mod rule;
 pub mod run;
+pub mod store;
 pub mod tally;
 pub mod work;

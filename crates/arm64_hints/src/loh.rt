@@ -1,10 +1,18 @@
-// The eight hint rules at work: each gets its section as the part of what is lent, and rules by its kind there.
+// The eight hint rules at work: each gets its section as the part of what is lent, reads its words there, and stores what is decided through it.
 use crate::hint::insns_all;
 use crate::outcome::Outcome;
 use crate::part::part;
-use crate::rule::rule;
+use crate::store::store;
+use arm64_decide::decide_adrp_add;
+use arm64_decide::decide_adrp_add_ldr;
+use arm64_decide::decide_adrp_add_str;
+use arm64_decide::decide_adrp_adrp;
+use arm64_decide::decide_adrp_ldr;
+use arm64_decide::decide_adrp_ldr_got;
+use arm64_decide::decide_adrp_ldr_got_ldr;
+use arm64_decide::decide_adrp_ldr_got_str;
+use arm64_held::words::words_of;
 use arm64_rules::rels::Rels;
-use macho::consts;
 use macho::hint::HintRecord;
 ghost use mathlib.Core.Path.{_≡_};
 ghost use lib.ListN.{length};
@@ -20,13 +28,12 @@ pub fn loh_adrp_adrp(section: &mut [u8], h: HintRecord, r: Rels) -> Outcome
 {
     let len = section.len();
     let buf = part(section, 0, len);
-    rule(
-        buf,
-        insns_all(h),
-        h.n as usize,
-        consts::LOH_ARM64_ADRP_ADRP,
-        r,
-    )
+    let insns = insns_all(h);
+    let n = h.n as usize;
+    let s = words_of(buf, insns, n);
+    let d = decide_adrp_adrp(s, r);
+    store(buf, insns, n, d);
+    Outcome::Worked(d, s)
 }
 
 // A load from within 1 MiB of itself becomes a literal load.
@@ -37,13 +44,12 @@ pub fn loh_adrp_ldr(section: &mut [u8], h: HintRecord, r: Rels) -> Outcome
 {
     let len = section.len();
     let buf = part(section, 0, len);
-    rule(
-        buf,
-        insns_all(h),
-        h.n as usize,
-        consts::LOH_ARM64_ADRP_LDR,
-        r,
-    )
+    let insns = insns_all(h);
+    let n = h.n as usize;
+    let s = words_of(buf, insns, n);
+    let d = decide_adrp_ldr(s, r);
+    store(buf, insns, n, d);
+    Outcome::Worked(d, s)
 }
 
 // An address within 1 MiB of the ADRP becomes an ADR.
@@ -54,13 +60,12 @@ pub fn loh_adrp_add(section: &mut [u8], h: HintRecord, r: Rels) -> Outcome
 {
     let len = section.len();
     let buf = part(section, 0, len);
-    rule(
-        buf,
-        insns_all(h),
-        h.n as usize,
-        consts::LOH_ARM64_ADRP_ADD,
-        r,
-    )
+    let insns = insns_all(h);
+    let n = h.n as usize;
+    let s = words_of(buf, insns, n);
+    let d = decide_adrp_add(s, r);
+    store(buf, insns, n, d);
+    Outcome::Worked(d, s)
 }
 
 // A load through ADRP and ADD: a literal load, an ADR, or the fold.
@@ -71,13 +76,12 @@ pub fn loh_adrp_add_ldr(section: &mut [u8], h: HintRecord, r: Rels) -> Outcome
 {
     let len = section.len();
     let buf = part(section, 0, len);
-    rule(
-        buf,
-        insns_all(h),
-        h.n as usize,
-        consts::LOH_ARM64_ADRP_ADD_LDR,
-        r,
-    )
+    let insns = insns_all(h);
+    let n = h.n as usize;
+    let s = words_of(buf, insns, n);
+    let d = decide_adrp_add_ldr(s, r);
+    store(buf, insns, n, d);
+    Outcome::Worked(d, s)
 }
 
 // A store through ADRP and ADD: an ADR, or the fold.
@@ -88,13 +92,12 @@ pub fn loh_adrp_add_str(section: &mut [u8], h: HintRecord, r: Rels) -> Outcome
 {
     let len = section.len();
     let buf = part(section, 0, len);
-    rule(
-        buf,
-        insns_all(h),
-        h.n as usize,
-        consts::LOH_ARM64_ADRP_ADD_STR,
-        r,
-    )
+    let insns = insns_all(h);
+    let n = h.n as usize;
+    let s = words_of(buf, insns, n);
+    let d = decide_adrp_add_str(s, r);
+    store(buf, insns, n, d);
+    Outcome::Worked(d, s)
 }
 
 // A GOT load: a literal load of the slot, or an ADR where it was relaxed.
@@ -105,13 +108,12 @@ pub fn loh_adrp_ldr_got(section: &mut [u8], h: HintRecord, r: Rels) -> Outcome
 {
     let len = section.len();
     let buf = part(section, 0, len);
-    rule(
-        buf,
-        insns_all(h),
-        h.n as usize,
-        consts::LOH_ARM64_ADRP_LDR_GOT,
-        r,
-    )
+    let insns = insns_all(h);
+    let n = h.n as usize;
+    let s = words_of(buf, insns, n);
+    let d = decide_adrp_ldr_got(s, r);
+    store(buf, insns, n, d);
+    Outcome::Worked(d, s)
 }
 
 // A load through a GOT load.
@@ -122,13 +124,12 @@ pub fn loh_adrp_ldr_got_ldr(section: &mut [u8], h: HintRecord, r: Rels) -> Outco
 {
     let len = section.len();
     let buf = part(section, 0, len);
-    rule(
-        buf,
-        insns_all(h),
-        h.n as usize,
-        consts::LOH_ARM64_ADRP_LDR_GOT_LDR,
-        r,
-    )
+    let insns = insns_all(h);
+    let n = h.n as usize;
+    let s = words_of(buf, insns, n);
+    let d = decide_adrp_ldr_got_ldr(s, r);
+    store(buf, insns, n, d);
+    Outcome::Worked(d, s)
 }
 
 // A store through a GOT load.
@@ -139,11 +140,10 @@ pub fn loh_adrp_ldr_got_str(section: &mut [u8], h: HintRecord, r: Rels) -> Outco
 {
     let len = section.len();
     let buf = part(section, 0, len);
-    rule(
-        buf,
-        insns_all(h),
-        h.n as usize,
-        consts::LOH_ARM64_ADRP_LDR_GOT_STR,
-        r,
-    )
+    let insns = insns_all(h);
+    let n = h.n as usize;
+    let s = words_of(buf, insns, n);
+    let d = decide_adrp_ldr_got_str(s, r);
+    store(buf, insns, n, d);
+    Outcome::Worked(d, s)
 }

@@ -1,5 +1,5 @@
 // The hint run: the check of all hints, then their work.
-use crate::check::Check;
+use crate::check::Checked;
 use crate::check::check_all;
 use crate::outcome::Tally;
 use crate::work::work;
@@ -8,7 +8,8 @@ use order::Cursor;
 use order::Next;
 ghost use mathlib.Core.Path.{_≡_};
 ghost use lib.ListN.{length};
-ghost use Rattle.order.specs.Cursor.{orderOf};
+ghost use Rattle.order.specs.Cursor.{hintCount, objectAt, orderOf};
+ghost use Rattle.order.specs.Walk.{grouped};
 ghost use Rattle.arm64_hints.specs.Check.{checkAll};
 ghost use Rattle.arm64_hints.specs.declared.check.Check.the-variants.{Fine};
 ghost use Rattle.arm64_hints.specs.Run.{worked, runOf, imageOf};
@@ -19,13 +20,14 @@ pub enum RunAnswer {
     Refused(Refusal),
 }
 
-// Works all hints, objects by rising number, in each the two passes by list position.
-fn work_all(image: &mut [u8], hints: &[u8], entries: &[u8]) -> Tally
+// Works all hints, objects by rising number, in each the two passes by list position. `rises` is whether the list's object numbers never fall.
+fn work_all(image: &mut [u8], hints: &[u8], entries: &[u8], rises: bool) -> Tally
     requires { ⌜ checkAll (length (now image)) (now hints) (length (now entries)) ≡ Fine ⌝ }
+    requires { ⌜ rises ≡ grouped (objectAt (now hints)) (hintCount (now hints)) ⌝ }
     ensures tally { λ r. ⌜ r ≡ worked (now (image .entry)) (now (hints .entry)) (now (entries .entry)) (orderOf (now (hints .entry))) .tally ⌝ }
     ensures image { λ _. ⌜ now (image .exit) ≡ worked (now (image .entry)) (now (hints .entry)) (now (entries .entry)) (orderOf (now (hints .entry))) .image ⌝ }
 {
-    let mut c = Cursor::first(hints);
+    let mut c = Cursor::first(hints, rises);
     let mut tally = Tally {
         rewritten: 0,
         skipped: 0,
@@ -52,7 +54,7 @@ pub fn run(image: &mut [u8], hints: &[u8], entries: &[u8]) -> RunAnswer
     ensures image { λ _. ⌜ now (image .exit) ≡ imageOf (now (image .entry)) (now (hints .entry)) (now (entries .entry)) ⌝ }
 {
     match check_all(image.len(), hints, entries.len()) {
-        Check::Refused(x) => RunAnswer::Refused(x),
-        Check::Fine => RunAnswer::Done(work_all(image, hints, entries)),
+        Checked::Refused(x) => RunAnswer::Refused(x),
+        Checked::Fine(rises) => RunAnswer::Done(work_all(image, hints, entries, rises)),
     }
 }

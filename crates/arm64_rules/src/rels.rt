@@ -1,5 +1,6 @@
 // What the entries of a hint's places say.
 use macho::consts;
+use macho::hint::HintInsn;
 use macho::reloc::Reloc;
 ghost use mathlib.Core.Path.{_≡_};
 ghost use Prim.Native.Nat.{_+_, _*_, _≤_};
@@ -24,7 +25,7 @@ pub fn rel_at(entries: &[u8], number: u32) -> Rel
     requires { ⌜ ((number ≡ 0xffffffff → ⊥) → 24 * number + 24 ≤ length (now entries)) ⌝ }
     ensures { λ r. ⌜ r ≡ relAt (now (entries .entry)) number ⌝ }
 {
-    if number == 0xffff_ffff {
+    if number == HintInsn::NO_ENTRY {
         return Rel::Absent;
     }
     Rel::Entry(Reloc::read(entries, 24 * (number as usize)))

@@ -16,7 +16,7 @@ use Rattle.order.specs.declared.Next.{Next}
 use Rattle.order.specs.declared.Next.the-variants.{At, Done}
 use Rattle.order.specs.Lists.{runList, count, range, those, sel, inPass, passes}
 use Rattle.order.specs.Cursor.{hintCount, objectAt, lateAt, workFrom, orderOf, passOf, leftIn, rest, following, Cut, Sound, SoundNext}
-use Rattle.order.specs.Walk.{grouped, Least, GroupEnd, Found, Entered, StepsIn}
+use Rattle.order.specs.Walk.{grouped, lastOf, Least, GroupEnd, Found, Entered, StepsIn}
 use Rattle.order.proofs.Lists.{all-map, all-range, range-add, those-append, those-none, same-or, less-or, sel-take, sel-end}
 use Rattle.order.proofs.Commute.{once-length}
 use Rattle.order.proofs.Own.{own-once, pass-true, passes-count, from-end, from-object, from-jump}
@@ -58,25 +58,11 @@ module _ (obj : ℕ → ℕ) where
       (λ r. omega (arith, ap obj q, leb-true (obj n) (obj (suc n)) (t .1), never-falls (suc n) (t .0) i n (omega arith) (omega arith))))
       (λ q. never-falls (suc n) (t .0) i j h (omega arith))
 
-  pub falls : (n k : ℕ) → k < n → obj k < obj (k - 1) → grouped obj n ≡ false
-  falls n k h l = go (grouped obj n) refl
-    where
-      go : (b : Bool) → grouped obj n ≡ b → grouped obj n ≡ false
-      go true e = absurd (omega (arith, never-falls n e (k - 1) k (omega arith) h))
-      go false e = e
+  -- ---- whether they do, hint by hint
 
-  pub grouped-more : (k : ℕ) → grouped obj k ≡ true → obj (k - 1) ≤ obj k → grouped obj (k + 1) ≡ true
-  grouped-more zero e h = refl
-  grouped-more (suc k) e h =
-      ap (grouped obj) (let q : suc k + 1 ≡ suc (suc k) = omega arith in q)
-      ∙ ap₂ (λ (a b : Bool). a && b) e (le-leb (obj k) (obj (suc k)) (subst (λ (j : ℕ). obj j ≤ obj (suc k)) (let q : suc k - 1 ≡ k = omega arith in q) h))
-
-  pub grouped-less : (n k : ℕ) → n ≤ k → grouped obj k ≡ true → grouped obj n ≡ true
-  grouped-less zero k h e = refl
-  grouped-less (suc zero) k h e = refl
-  grouped-less (suc (suc n)) k h e =
-      ap₂ (λ (a b : Bool). a && b) (grouped-less (suc n) k (omega arith) e)
-      (le-leb (obj n) (obj (suc n)) (never-falls k e n (suc n) (omega arith) (omega arith)))
+  pub grouped-step : (k : ℕ) → grouped obj (suc k) ≡ (grouped obj k && leb (lastOf obj k) (obj k))
+  grouped-step zero = sym (le-leb 0 (obj 0) (omega arith))
+  grouped-step (suc k) = refl
 
 -- ---- the least object number
 
@@ -182,6 +168,15 @@ module _ (s : List ℕ) where
     object = e;
     whole = opened o 0 (hintCount s) ∙ ap (passes (objectAt s) (lateAt s) (hintCount s)) e;
     sound = record { ends = omega arith; holds = λ k l q. omega arith; cut = λ f. absurd (true≢false (sym f)) };
+  }
+
+  -- where the last hint has p's object, so have all from p on
+  pub group-to-end : (p : ℕ) → p < hintCount s → Cut s (objectAt s p) p → objectAt s (hintCount s - 1) ≡ objectAt s p → GroupEnd s p (hintCount s)
+  group-to-end p h c e = record {
+    within = omega arith;
+    past = h;
+    same = λ k l g. omega (arith, e, c .above k l g, c .rises k (hintCount s - 1) (omega arith) (omega arith));
+    other = λ l. absurd (omega arith);
   }
 
   pub entered-grouped : (o p e : ℕ) → o ≡ objectAt s p → p < hintCount s → Cut s (objectAt s p) p → GroupEnd s p e

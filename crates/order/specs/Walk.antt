@@ -16,6 +16,11 @@ grouped obj zero = true
 grouped obj (suc zero) = true
 grouped obj (suc (suc n)) = grouped obj (suc n) && leb (obj n) (obj (suc n))
 
+-- the object number of the hint before place k, 0 before the first
+abbrev pub lastOf : (ℕ → ℕ) → ℕ → ℕ
+lastOf obj zero = 0
+lastOf obj (suc k) = obj k
+
 -- p is a place of the least object number from o on among the first m hints, or past the list where there is none
 pub record Least (s : List ℕ) (o m p : ℕ) : Type 0 where
   pub within : p ≤ hintCount s

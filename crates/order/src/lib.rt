@@ -1,6 +1,7 @@
 // The order of work of a hint run (arch/arm64.rs, `apply_hints`), as a cursor by value over the lent hint records: objects by rising number, in
-// each the hints of other kinds and then those of kind 1, by list position. Where the records come grouped by rising object number, a walk over
-// all of them takes time linear in their number; any other order of the records is right too, and costs three passes over the list for each object.
+// each the hints of other kinds and then those of kind 1, by list position. Where the records come grouped by rising object number, which the
+// caller tells, a walk over all of them takes time linear in their number; any other order of the records is right too, and costs three passes
+// over the list for each object.
 ghost use mathlib.Core.Path.{_≡_};
 ghost use mathlib.Core.Bool.{true};
 ghost use Prim.Native.Nat.{_+_, _≤_, _<_};
@@ -51,28 +52,16 @@ fn in_pass(hints: &[u8], o: u32, late: bool, k: usize) -> bool
     is_late(hints, k) == late
 }
 
-// Whether the object numbers never fall along the list.
-fn is_grouped(hints: &[u8]) -> bool
-    ensures { λ r. ⌜ r ≡ grouped (objectAt (now (hints .entry))) (hintCount (now (hints .entry))) ⌝ }
-{
-    let n = hints.len() / 64;
-    let mut k = 1;
-    while k < n {
-        if object(hints, k) < object(hints, k - 1) {
-            return false;
-        }
-        k += 1;
-    }
-    true
-}
-
-// The first place after p with another object, or the number of hints.
+// The first place after p with another object, or the number of hints, in a grouped list. Where the last hint has p's object, nothing is walked.
 fn group_end(hints: &[u8], p: usize) -> usize
-    requires { ⌜ p < hintCount (now hints) ⌝ }
+    requires { ⌜ (p < hintCount (now hints)) × Cut (now hints) (objectAt (now hints) p) p ⌝ }
     ensures { λ r. ⌜ GroupEnd (now (hints .entry)) p r ⌝ }
 {
     let n = hints.len() / 64;
     let o = object(hints, p);
+    if object(hints, n - 1) == o {
+        return n;
+    }
     let mut k = p + 1;
     while k < n {
         if object(hints, k) != o {
@@ -169,18 +158,18 @@ fn enter(hints: &[u8], grouped: bool, p: usize) -> Cursor
 }
 
 impl Cursor {
-    // The cursor before the first hint.
-    pub fn first(hints: &[u8]) -> Self
+    // The cursor before the first hint. The caller tells whether the object numbers never fall along the list.
+    pub fn first(hints: &[u8], rises: bool) -> Self
+        requires { ⌜ rises ≡ grouped (objectAt (now hints)) (hintCount (now hints)) ⌝ }
         ensures all { λ r. ⌜ rest (now (hints .entry)) r ≡ orderOf (now (hints .entry)) ⌝ }
         ensures sound { λ r. ⌜ Sound (now (hints .entry)) r ⌝ }
     {
-        let grouped = is_grouped(hints);
-        let p = place_from(hints, grouped, 0, 0);
+        let p = place_from(hints, rises, 0, 0);
         if p < hints.len() / 64 {
-            return enter(hints, grouped, p);
+            return enter(hints, rises, p);
         }
         Cursor {
-            grouped,
+            grouped: rises,
             object: 0,
             lo: 0,
             hi: 0,

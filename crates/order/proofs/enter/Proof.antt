@@ -8,7 +8,9 @@ object-requires : tie.Need-object-requires
 object-requires c κs = search needs
 
 group-end-requires : tie.Need-group-end-requires
-group-end-requires c κs = search needs
+group-end-requires c κs =
+    let r = c .before .before .before in
+    (r .pre .0, r .pre .1 (c .if1 .taken))
 
 returns : tie.Need-returns
 returns c =

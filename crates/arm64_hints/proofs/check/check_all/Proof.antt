@@ -1,6 +1,6 @@
 -- `check_all`: the lists first, then the hints.
 use mathlib.Core.Path.{sym, _∙_}
-use Rattle.arm64_hints.proofs.Checks.{all-refused, all-hints}
+use Rattle.arm64_hints.proofs.Checks.{says-refused, all-refused, all-hints}
 use borrow.Author.Needs.{needs}
 use Rattle.arm64_hints.proofs.check.check_all.Statement.{statement}
 use Rattle.arm64_hints.proofs.check.check_all.Tie as tie
@@ -18,10 +18,10 @@ check-hints-requires : tie.Need-check-hints-requires
 check-hints-requires c κs = search needs
 
 returns : tie.Need-returns
-returns c = all-refused _ _ _ _ (sym (c .before .before .before .check-lists .ensures) ∙ c .before .x .given .1)
+returns c = says-refused _ (all-refused _ _ _ _ (sym (c .before .before .before .check-lists .ensures) ∙ c .before .x .given .1))
 
 returns-2 : tie.Need-returns-2
-returns-2 c = c .check-hints .ensures ∙ all-hints _ _ _ (sym (c .before .before .before .check-lists .ensures) ∙ c .before .enum-told .given .1)
+returns-2 c = c .check-hints .ensures ∙ all-hints _ _ _ _ (sym (c .before .before .before .check-lists .ensures) ∙ c .before .enum-told .given .1)
 
 pub check-all-spec : {M : Type 1} → statement M
 check-all-spec =

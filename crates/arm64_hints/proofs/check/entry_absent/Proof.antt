@@ -29,12 +29,12 @@ names-absent-requires-3 c κs = search needs
 
 returns-3 : tie.Need-returns-3
 returns-3 c =
-    let j = c .before .before .before in
+    let i = c .before in
+    let j = i .before .before in
     let k = j .before .before in
     let s = k .before .before .before .before .before in
-    c .names-absent3 .ensures
-    ∙ any-third (s .args .h) (s .pre) (namesAbsent (s .args .count)) (sym (k .before .names-absent .ensures) ∙ k .if1 .left)
-    (sym (j .before .names-absent2 .ensures) ∙ j .if2 .left) (c .before .if3 .taken)
+    any-third (s .args .h) (s .pre) (namesAbsent (s .args .count)) (sym (k .before .names-absent .ensures) ∙ k .if1 .left)
+    (sym (j .before .names-absent2 .ensures) ∙ j .if2 .left) (sym (i .before .names-absent3 .ensures) ∙ i .if3 .taken)
 
 returns-4 : tie.Need-returns-4
 returns-4 c =
@@ -42,7 +42,7 @@ returns-4 c =
     let k = j .before .before in
     let s = k .before .before .before .before .before in
     any-none (s .args .h) (s .pre) (namesAbsent (s .args .count)) (sym (k .before .names-absent .ensures) ∙ k .if1 .left)
-    (sym (j .before .names-absent2 .ensures) ∙ j .if2 .left) (c .if3 .left)
+    (sym (j .before .names-absent2 .ensures) ∙ j .if2 .left) (sym (c .before .names-absent3 .ensures) ∙ c .if3 .left)
 
 pub entry-absent-spec : {M : Type 1} → statement M
 entry-absent-spec =

@@ -1,5 +1,6 @@
--- `names_absent`: no entry named, or the number against the count.
-use borrow.Author.Tests.{eq-eqb, ne-eqb}
+-- `names_absent`: the number and one more, from the last back to 0, against the count.
+use native.Mathlib.Omega.{arith}
+use Rattle.arm64_hints.proofs.Checks.{absent-is}
 use borrow.Author.Needs.{needs}
 use Rattle.arm64_hints.proofs.check.names_absent.Statement.{statement}
 use Rattle.arm64_hints.proofs.check.names_absent.Tie as tie
@@ -7,11 +8,11 @@ use Rattle.arm64_hints.proofs.check.names_absent.Tie as tie
 cast-result : tie.Need-cast-result
 cast-result c = search needs
 
-returns : tie.Need-returns
-returns c = simp (ne-eqb _ _ (c .before .if1 .taken))
+add-result : tie.Need-add-result
+add-result c = search needs
 
-returns-2 : tie.Need-returns-2
-returns-2 c = simp (eq-eqb _ _ (c .if1 .left))
+returns : tie.Need-returns
+returns c = absent-is (c .before .args .count) (c .before .args .i) (omega (arith, c .struct-known .given .1 .0))
 
 pub names-absent-spec : {M : Type 1} → statement M
-names-absent-spec = tie.close (tie.spec cast-result returns returns-2)
+names-absent-spec = tie.close (tie.spec cast-result add-result returns)

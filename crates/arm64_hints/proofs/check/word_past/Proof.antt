@@ -29,12 +29,12 @@ ends-past-requires-3 c κs = search needs
 
 returns-3 : tie.Need-returns-3
 returns-3 c =
-    let j = c .before .before .before in
+    let i = c .before in
+    let j = i .before .before in
     let k = j .before .before in
     let s = k .before .before .before .before .before in
-    c .ends-past3 .ensures
-    ∙ any-third (s .args .h) (s .pre) (endsPast (s .args .h .len)) (sym (k .before .ends-past .ensures) ∙ k .if1 .left)
-    (sym (j .before .ends-past2 .ensures) ∙ j .if2 .left) (c .before .if3 .taken)
+    any-third (s .args .h) (s .pre) (endsPast (s .args .h .len)) (sym (k .before .ends-past .ensures) ∙ k .if1 .left)
+    (sym (j .before .ends-past2 .ensures) ∙ j .if2 .left) (sym (i .before .ends-past3 .ensures) ∙ i .if3 .taken)
 
 returns-4 : tie.Need-returns-4
 returns-4 c =
@@ -42,7 +42,7 @@ returns-4 c =
     let k = j .before .before in
     let s = k .before .before .before .before .before in
     any-none (s .args .h) (s .pre) (endsPast (s .args .h .len)) (sym (k .before .ends-past .ensures) ∙ k .if1 .left)
-    (sym (j .before .ends-past2 .ensures) ∙ j .if2 .left) (c .if3 .left)
+    (sym (j .before .ends-past2 .ensures) ∙ j .if2 .left) (sym (c .before .ends-past3 .ensures) ∙ c .if3 .left)
 
 pub word-past-spec : {M : Type 1} → statement M
 word-past-spec =

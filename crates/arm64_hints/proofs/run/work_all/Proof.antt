@@ -15,13 +15,13 @@ use Rattle.arm64_hints.proofs.run.work_all.Statement.{statement}
 use Rattle.arm64_hints.proofs.run.work_all.Tie as tie
 
 abbrev Inv-loop : tie.InvT-loop
-Inv-loop image₀ hints entries c₀ tally₀ image c tally = Going image₀ hints entries image c tally
+Inv-loop image₀ hints entries rises c₀ tally₀ image c tally = Going image₀ hints entries image c tally
 
 abbrev μ-loop : tie.MeasureT-loop
-μ-loop image₀ hints entries c₀ tally₀ image c tally = length (rest hints c)
+μ-loop image₀ hints entries rises c₀ tally₀ image c tally = length (rest hints c)
 
 first-requires : tie.Need-first-requires Inv-loop μ-loop
-first-requires c κs = search needs
+first-requires c κs = c .before .before .before .pre .1
 
 loop-holds : tie.Need-loop-holds Inv-loop μ-loop
 loop-holds c = going-first _ _ _ _ (c .first .ensures .0) (c .first .ensures .1)
@@ -51,7 +51,7 @@ work-requires c κs =
     let t = turn-sound _ _ _ _ (c .before .before .k .given .1) (n .next .ensures .1) in (
       t .0,
       subst (λ (l : ℕ). checkHint l (length (s .args .entries .now) / 24) (hintOf (s .args .hints .now) (c .before .before .k .given .0 .0)) ≡ Fine)
-          (sym (p .inv .size)) (each-fine _ _ _ (s .pre) _ (t .0)),
+          (sym (p .inv .size)) (each-fine _ _ _ (s .pre .0) _ (t .0)),
     )
 
 add-requires : tie.Need-add-requires Inv-loop μ-loop
@@ -62,7 +62,7 @@ add-requires c κs =
     omega (
       arith,
       room _ _ _ (p .image) (p .c) (p .tally) _ (p .inv) (n .next .ensures .0) _ _ (c .before .before .before .before .before .k .given .1),
-      few-hints _ _ _ (s .pre),
+      few-hints _ _ _ (s .pre .0),
     )
 
 loop-less : tie.Need-loop-less Inv-loop μ-loop

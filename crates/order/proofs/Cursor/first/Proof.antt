@@ -2,15 +2,11 @@
 use mathlib.Core.Path.{sym, _∙_}
 use native.Mathlib.Omega.{arith}
 use Rattle.order.proofs.Walk.{cut-start, entered-rest, none-rest, none-sound}
-use borrow.Author.Needs.{needs}
 use Rattle.order.proofs.Cursor.first.Statement.{statement}
 use Rattle.order.proofs.Cursor.first.Tie as tie
 
-is-grouped-requires : tie.Need-is-grouped-requires
-is-grouped-requires c κs = search needs
-
 place-from-requires : tie.Need-place-from-requires
-place-from-requires c κs = (omega arith, λ e. cut-start _ (sym (c .is-grouped .ensures) ∙ e))
+place-from-requires c κs = (omega arith, λ e. cut-start _ (sym (c .before .pre) ∙ e))
 
 enter-requires : tie.Need-enter-requires
 enter-requires c κs = (c .if1 .taken, λ e. c .before .place-from .ensures .begins e (c .if1 .taken))
@@ -22,11 +18,12 @@ returns c =
 
 returns-2 : tie.Need-returns-2
 returns-2 c =
-    let f = c .before .place-from in (
-      none-rest _ (c .before .before .is-grouped .result) (f .result) (f .ensures .found) (c .if1 .left),
-      none-sound _ (c .before .before .is-grouped .result) (f .result) (f .ensures .found) (c .if1 .left),
+    let f = c .before .place-from in
+    let g = c .before .before .before .args .rises in (
+      none-rest _ g (f .result) (f .ensures .found) (c .if1 .left),
+      none-sound _ g (f .result) (f .ensures .found) (c .if1 .left),
     )
 
 pub first-spec : {M : Type 1} → statement M
 first-spec =
-    tie.close (tie.spec is-grouped-requires place-from-requires enter-requires returns returns-2)
+    tie.close (tie.spec place-from-requires enter-requires returns returns-2)
