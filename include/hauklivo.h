@@ -58,16 +58,24 @@ enum hauklivo_number {
 
 /* Relocation types, those of Apple's <mach-o/arm64/reloc.h>. */
 enum hauklivo_type {
+    /* A pointer. */
     HAUKLIVO_UNSIGNED = 0,
+    /* What is taken from the UNSIGNED after it. */
     HAUKLIVO_SUBTRACTOR = 1,
+    /* The target of B or BL. */
     HAUKLIVO_BRANCH26 = 2,
+    /* The page of an ADRP, and the offset in it of an ADD, a load or a store. */
     HAUKLIVO_PAGE21 = 3,
     HAUKLIVO_PAGEOFF12 = 4,
+    /* The same of a GOT slot. */
     HAUKLIVO_GOT_LOAD_PAGE21 = 5,
     HAUKLIVO_GOT_LOAD_PAGEOFF12 = 6,
+    /* The distance to a GOT slot. */
     HAUKLIVO_POINTER_TO_GOT = 7,
+    /* Page and offset of a thread-local variable's descriptor. */
     HAUKLIVO_TLVP_LOAD_PAGE21 = 8,
     HAUKLIVO_TLVP_LOAD_PAGEOFF12 = 9,
+    /* The addend of the record after it. */
     HAUKLIVO_ADDEND = 10
 };
 
@@ -100,6 +108,7 @@ struct hauklivo_entry {
     uint32_t target;
     /* Zero from the reader; ignored elsewhere. */
     uint32_t spare;
+    /* What is added to the target. */
     int64_t addend;
 };
 HAUKLIVO_ASSERT(sizeof(struct hauklivo_entry) == 24, "an entry has 24 bytes");
@@ -129,6 +138,7 @@ enum hauklivo_flag {
 
 /* What the linker knows of an entry's target; one for each entry. */
 struct hauklivo_target {
+    /* Its address. */
     uint64_t address;
     /* Address of its GOT slot. */
     uint64_t got;
@@ -140,6 +150,7 @@ struct hauklivo_target {
     uint64_t helper;
     /* enum hauklivo_flag. */
     uint32_t flags;
+    /* Must be 0, else number 11. */
     uint32_t zero;
 };
 HAUKLIVO_ASSERT(sizeof(struct hauklivo_target) == 48, "a resolved target has 48 bytes");
@@ -164,6 +175,7 @@ struct hauklivo_report {
     uint8_t kind;
     /* The access size (kind 3), else 0. */
     uint8_t size;
+    /* Written as 0. */
     uint16_t zero;
     /* Address of the place, and the target (kinds 1 and 2), else 0. */
     uint64_t place;
@@ -173,13 +185,21 @@ HAUKLIVO_ASSERT(sizeof(struct hauklivo_report) == 24, "a report has 24 bytes");
 
 /* Kinds of a linker optimization hint, those of LLVM's MCLinkerOptimizationHint.h. */
 enum hauklivo_hint_kind {
+    /* Two ADRPs of one page into one register. */
     HAUKLIVO_ADRP_ADRP = 1,
+    /* ADRP, and a load through it. */
     HAUKLIVO_ADRP_LDR = 2,
+    /* ADRP, ADD, and a load through both. */
     HAUKLIVO_ADRP_ADD_LDR = 3,
+    /* ADRP, the load of a GOT slot, and a load through it. */
     HAUKLIVO_ADRP_LDR_GOT_LDR = 4,
+    /* ADRP, ADD, and a store through both. */
     HAUKLIVO_ADRP_ADD_STR = 5,
+    /* ADRP, the load of a GOT slot, and a store through it. */
     HAUKLIVO_ADRP_LDR_GOT_STR = 6,
+    /* ADRP and ADD. */
     HAUKLIVO_ADRP_ADD = 7,
+    /* ADRP, and the load of a GOT slot. */
     HAUKLIVO_ADRP_LDR_GOT = 8
 };
 
@@ -217,6 +237,7 @@ HAUKLIVO_ASSERT(sizeof(struct hauklivo_hint) == 64, "a hint has 64 bytes");
 
 /* What became of the hints of a run. */
 struct hauklivo_tally {
+    /* With at least one word replaced. */
     uint32_t rewritten;
     /* Of another kind, or with another word count. */
     uint32_t skipped;

@@ -40,8 +40,8 @@
 
 #![warn(missing_docs)]
 
-#[cfg(not(all(target_arch = "x86_64", target_endian = "little")))]
-compile_error!("libhauklivo.a is made for x86-64");
+#[cfg(not(all(target_arch = "x86_64", target_os = "linux")))]
+compile_error!("libhauklivo.a is an ELF archive for x86-64: it links on Linux");
 
 /// The example in the README.
 #[cfg(doctest)]

@@ -105,7 +105,8 @@ impl Layout {
         layout.place_commons(object)?;
 
         let data_end = layout.next;
-        if options.text < data_end && data < text_end {
+        let empty = options.text == text_end || data == data_end;
+        if !empty && options.text < data_end && data < text_end {
             return Err(Fault::new(format!(
                 "text ({:x} to {text_end:x}) and data ({data:x} to {data_end:x}) overlap",
                 options.text

@@ -94,11 +94,12 @@ fn plain(word: &OsStr) -> String {
 /// A number, hexadecimal after 0x.
 fn address(word: &OsStr) -> Result<u64, Fault> {
     let text = plain(word);
-    let number = match text.strip_prefix("0x") {
-        Some(digits) => u64::from_str_radix(digits, 16),
-        None => text.parse(),
+    let (digits, radix) = match text.strip_prefix("0x") {
+        Some(digits) => (digits, 16),
+        None => (&*text, 10),
     };
-    number.map_err(|_| Fault::new(format!("{text} is no address (for example 0x100004000)")))
+    let number = u64::from_str_radix(digits, radix).ok().filter(|_| !digits.starts_with('+'));
+    number.ok_or_else(|| Fault::new(format!("{text} is no address (for example 0x100004000)")))
 }
 
 fn work(name: &str, asked: &Asked) -> Result<String, Fault> {

@@ -31,7 +31,8 @@ pub fn text(word: u32, address: u64) -> String {
         format!("adrp {}, {page:#x}", x(rd))
     } else if word & 0x7fc0_0000 == 0x1100_0000 {
         let is_64 = word >> 31 == 1;
-        let name = |r| if r == 31 { "sp".into() } else { general(r, is_64) };
+        let sp = if is_64 { "sp" } else { "wsp" };
+        let name = |r| if r == 31 { sp.into() } else { general(r, is_64) };
         format!("add {}, {}, #{:#x}", name(rd), name(rn), word >> 10 & 0xfff)
     } else if word & 0x7c00_0000 == 0x1400_0000 {
         let name = if word >> 31 == 1 { "bl" } else { "b" };

@@ -44,7 +44,7 @@ fn read_relocs(
     contents: &[u8],
     rels: &[MachRel],
 ) -> Vec<Reloc> {
-    let addrs: Vec<u64> = sections.iter().map(|s| s.addr).collect(); // once for each object
+    let addrs: Vec<u64> = sections.iter().map(|s| s.addr).collect(); // better made once for each object
     let mut entries = vec![Reloc::default(); rels.len()];
     let slots = Reloc::bytes_mut(&mut entries);
     match hauklivo::read_relocs(contents, MachRel::bytes(rels), &addrs, slots) {
@@ -130,7 +130,7 @@ fn apply_reloc_alloc(
 ) {
     let isec = &ctx.isecs[isec_id];
     let targets = resolved(ctx, isec_id, rels, base);
-    let mut reports = vec![Report::default(); rels.len()]; // both kept by the thread from call to call
+    let mut reports = vec![Report::default(); rels.len()]; // better kept by the thread, like targets
     let (entries, targets) = (Reloc::bytes(rels), Resolved::bytes(&targets));
     let slots = Report::bytes_mut(&mut reports);
     match hauklivo::apply_reloc_alloc(buf, base, ctx.tls_begin, entries, targets, slots) {
@@ -179,6 +179,9 @@ fn hint_insns(
     let mut places = [Place::default(); 3];
     for (place, &addr) in places.iter_mut().zip(addrs) {
         let off = addr - isec.input_addr as u64;
+        if off + 4 > isec.size as u64 {
+            return None;
+        }
         let i = rels.partition_point(|r| (r.offset as u64) < off);
         let has_rel = rels.get(i).is_some_and(|r| r.offset as u64 == off);
         *place = Place {

@@ -35,7 +35,9 @@ pub struct Parts<'a> {
 /// Reads the header and the load commands.
 pub fn read(file: File) -> Result<Parts, Fault> {
     if file.0.len() < 4 || u32_at(file.0, 0) != MAGIC_64 {
-        return Err(Fault::new("this is no 64-bit Mach-O file"));
+        let universal = file.0.starts_with(&[0xca, 0xfe, 0xba, 0xbe]);
+        let first = if universal { " but a universal one: take its arm64 part out first" } else { "" };
+        return Err(Fault::new(format!("this is no 64-bit Mach-O file{first}")));
     }
     let header = file.range(0, HEADER, "the header")?;
     if u32_at(header, 4) != CPU_TYPE_ARM64 {
