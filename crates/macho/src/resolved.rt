@@ -108,19 +108,13 @@ impl Resolved {
         self.flag(8)
     }
 
-    // Whether number 11 lets it through.
+    // Whether number 11 lets it through. Below 0x180 the flags have no bit above 8, and not both of bits 7 and 8.
     pub fn is_well_formed(self) -> bool
         ensures { λ r. ⌜ r ≡ wellFormed self ⌝ }
     {
-        if self.flags >= 0x200 {
+        if self.flags >= 0x180 {
             return false;
         }
-        if self.zero != 0 {
-            return false;
-        }
-        if self.is_probe() {
-            return !self.is_enabled();
-        }
-        true
+        self.zero == 0
     }
 }
