@@ -5,14 +5,14 @@ use lib.Dec.{eqb}
 use Rattle.util.specs.Choice.{choose}
 use Rattle.macho.specs.Types.{MCLOH-AdrpAdrp, MCLOH-AdrpLdr, MCLOH-AdrpAddLdr, MCLOH-AdrpLdrGotLdr}
 use Rattle.macho.specs.Types.{MCLOH-AdrpAddStr, MCLOH-AdrpLdrGotStr, MCLOH-AdrpAdd, MCLOH-AdrpLdrGot}
-use Rattle.arm64_rules.specs.Rels.{hasPagePair, bothPages}
-use Rattle.arm64_adrp_rules.specs.Two.{adrpAdrp, adrpLdr, adrpAdd}
-use Rattle.arm64_adrp_rules.specs.Three.{adrpAddLdr, adrpAddStr}
-use Rattle.arm64_got_rules.specs.Got.{adrpLdrGot, adrpLdrGotLdr, adrpLdrGotStr}
-use Rattle.arm64_rules.specs.declared.answer.Insns.{Insns}
-use Rattle.arm64_rules.specs.declared.answer.Decision.{Decision}
-use Rattle.arm64_rules.specs.declared.answer.Decision.the-variants.{Declined}
-use Rattle.arm64_rules.specs.declared.rels.Rels.{Rels}
+use Rattle.arm64_hint_terms.specs.Rels.{hasPagePair, bothPages}
+use Rattle.arm64_hint_adrp.specs.Two.{adrpAdrp, adrpLdr, adrpAdd}
+use Rattle.arm64_hint_adrp.specs.Three.{adrpAddLdr, adrpAddStr}
+use Rattle.arm64_hint_got.specs.Got.{adrpLdrGot, adrpLdrGotLdr, adrpLdrGotStr}
+use Rattle.arm64_hint_terms.specs.declared.answer.Insns.{Insns}
+use Rattle.arm64_hint_terms.specs.declared.answer.Decision.{Decision}
+use Rattle.arm64_hint_terms.specs.declared.answer.Decision.the-variants.{Declined}
+use Rattle.arm64_hint_terms.specs.declared.rels.Rels.{Rels}
 
 -- what is decided of a hint of a kind with these words and entries, by the kind's rule; a number that is no kind has none
 unfoldable pub decide : ℕ → Insns → Rels → Decision

@@ -11,13 +11,13 @@ use Rattle.arm64_insn.specs.Manual.{imm12In, imm21In, imm26In}
 use Rattle.arm64_insn.specs.Reach.{pageImm, pageOffset}
 use Rattle.arm64_insn.specs.Branch.{branchWord}
 use Rattle.arm64_insn.specs.Fix.{adrpWith, scaleOf}
-use Rattle.arm64_entry.specs.Target.{placeOf}
-use Rattle.arm64_entry.specs.Change.{displacement, dtraceSiteInsn}
-use Rattle.arm64_entry.specs.Roles.{Page, Offset}
+use Rattle.arm64_fixup_entry.specs.Target.{placeOf}
+use Rattle.arm64_fixup_entry.specs.Change.{displacement, dtraceSiteInsn}
+use Rattle.arm64_fixup_entry.specs.Roles.{Page, Offset}
 use Rattle.arm64_fixup.specs.Walk.{entryAt, targetAt, Fixed}
 use Rattle.arm64_fixup.specs.Footprint.{Lone, wordAt}
-use Rattle.arm64_entry.specs.declared.target.Bases.{Bases}
-use Rattle.arm64_entry.specs.declared.change.Traced.the-variants.{Untraced}
+use Rattle.arm64_fixup_entry.specs.declared.target.Bases.{Bases}
+use Rattle.arm64_fixup_entry.specs.declared.change.Traced.the-variants.{Untraced}
 use Rattle.arm64_fixup.proofs.Means.{page-word, offset-word}
 use Rattle.arm64_fixup.proofs.Branches.{branch-word}
 

@@ -22,17 +22,17 @@ use Rattle.arm64_insn.specs.Branch.{branchReaches, branchWord, helperWord}
 use Rattle.arm64_insn.proofs.Encodes.{b-patched, bl-patched, helper-made, nop-made, is-enabled-made}
 use Rattle.arm64_insn.proofs.Meaning.{branch-means}
 use Rattle.arm64_insn.proofs.Manual.{encode-lt}
-use Rattle.arm64_entry.specs.Target.{isSymbol, placeOf}
-use Rattle.arm64_entry.specs.Change.{silent, reported, branchTarget, thunkServes, dtraceSiteInsn, branch, displacement, branchUnless, gotPage21}
+use Rattle.arm64_fixup_entry.specs.Target.{isSymbol, placeOf}
+use Rattle.arm64_fixup_entry.specs.Change.{silent, reported, branchTarget, thunkServes, dtraceSiteInsn, branch, displacement, branchUnless, gotPage21}
 use Rattle.arm64_fixup.specs.Walk.{entryAt, targetAt, Fixed}
 use Rattle.arm64_fixup.specs.Footprint.{Lone, wordAt}
-use Rattle.arm64_entry.specs.declared.target.Bases.{Bases}
-use Rattle.arm64_entry.specs.declared.change.Site.{Site}
-use Rattle.arm64_entry.specs.declared.change.Change.{Change}
-use Rattle.arm64_entry.specs.declared.change.Traced.{Traced}
-use Rattle.arm64_entry.specs.declared.change.Traced.the-variants.{Insn, Untraced}
-use Rattle.arm64_entry.specs.declared.change.Write.the-variants.{Word}
-use Rattle.arm64_entry.proofs.ByType.{siteOf, branch-does, branch-untraced, got-page-does}
+use Rattle.arm64_fixup_entry.specs.declared.target.Bases.{Bases}
+use Rattle.arm64_fixup_entry.specs.declared.change.Site.{Site}
+use Rattle.arm64_fixup_entry.specs.declared.change.Change.{Change}
+use Rattle.arm64_fixup_entry.specs.declared.change.Traced.{Traced}
+use Rattle.arm64_fixup_entry.specs.declared.change.Traced.the-variants.{Insn, Untraced}
+use Rattle.arm64_fixup_entry.specs.declared.change.Write.the-variants.{Word}
+use Rattle.arm64_fixup_entry.proofs.ByType.{siteOf, branch-does, branch-untraced, got-page-does}
 use Rattle.arm64_fixup.proofs.Lone.{passed, stores-word}
 
 by-tests : (word : ℕ) (x y : Bool) (d c : ℕ) (r : Report)

@@ -14,18 +14,18 @@ use Rattle.util.proofs.Choice.{choose-true, choose-false}
 use Rattle.util.proofs.Word.{Apart, getD-put, getD-put-other, le-ext}
 use Rattle.macho.specs.declared.reloc.Reloc.{Reloc}
 use Rattle.macho.specs.declared.resolved.Resolved.{Resolved}
-use Rattle.arm64_entry.specs.Target.{widthOf}
-use Rattle.arm64_entry.specs.Change.{bytesIn, silent, changeOf}
+use Rattle.arm64_fixup_entry.specs.Target.{widthOf}
+use Rattle.arm64_fixup_entry.specs.Change.{bytesIn, silent, changeOf}
 use Rattle.arm64_fixup.specs.Walk.{entryAt, targetAt, entries, consumed, checkTo, stored, Fixed, changeAt, workAt, fixTo}
 use Rattle.arm64_fixup.specs.Footprint.{offsetAt, widthAt, Touches, writtenAt, Writes}
-use Rattle.arm64_entry.specs.declared.target.Bases.{Bases}
-use Rattle.arm64_entry.specs.declared.check.Checked.the-variants.{Fine}
-use Rattle.arm64_entry.specs.declared.change.Change.{Change}
-use Rattle.arm64_entry.specs.declared.change.Write.{Write}
-use Rattle.arm64_entry.specs.declared.change.Write.the-variants.{Nothing, Word, Pointer}
+use Rattle.arm64_fixup_entry.specs.declared.target.Bases.{Bases}
+use Rattle.arm64_fixup_entry.specs.declared.check.Checked.the-variants.{Fine}
+use Rattle.arm64_fixup_entry.specs.declared.change.Change.{Change}
+use Rattle.arm64_fixup_entry.specs.declared.change.Write.{Write}
+use Rattle.arm64_fixup_entry.specs.declared.change.Write.the-variants.{Nothing, Word, Pointer}
 use Rattle.arm64_fixup.proofs.Turns.{work-worked, work-taken, fix-suc, length-fix}
 use Rattle.arm64_fixup.proofs.Works.{fine-at, room}
-use Rattle.arm64_entry.proofs.Width.{wide, change-fits}
+use Rattle.arm64_fixup_entry.proofs.Width.{wide, change-fits}
 
 -- ---- one write
 

@@ -8,7 +8,7 @@ use Rattle.util.specs.Choice.{choose}
 use Rattle.macho.specs.Record.{listBytes}
 use Rattle.arm64_fixup.specs.Walk.{checkTo, fixTo}
 use Rattle.arm64_fixup.specs.Answer.{checkLists, outcomeOf, answerOf, sectionAfter, slotsAfter}
-use Rattle.arm64_entry.specs.declared.target.Bases.{Bases}
+use Rattle.arm64_fixup_entry.specs.declared.target.Bases.{Bases}
 use Rattle.arm64_fixup.specs.declared.walk.FixAnswer.the-variants.{Filled}
 
 pub empty : (section : List ℕ) (b : Bases) (slots : List ℕ)

@@ -15,9 +15,9 @@ use Rattle.macho.specs.Reloc.{relocAt, relocBytes}
 use Rattle.macho.specs.Resolved.{resolvedAt, resolvedBytes, wellFormed}
 use Rattle.arm64_insn.specs.Branch.{branchReaches, branchWord}
 use Rattle.arm64_insn.specs.Fix.{scaleOf, offsetWith, relaxedWord}
-use Rattle.arm64_entry.specs.Target.{targetOf, widthOf}
-use Rattle.arm64_entry.specs.Check.{checkOf}
-use Rattle.arm64_entry.specs.Change.{branchTarget, dtraceSiteInsn, branch, pageoff12, relaxed, gotPageoff12, wordChange, changeOf}
+use Rattle.arm64_fixup_entry.specs.Target.{targetOf, widthOf}
+use Rattle.arm64_fixup_entry.specs.Check.{checkOf}
+use Rattle.arm64_fixup_entry.specs.Change.{branchTarget, dtraceSiteInsn, branch, pageoff12, relaxed, gotPageoff12, wordChange, changeOf}
 use Rattle.arm64_fixup.specs.Walk.{consumed, checkAt, checkTo, Fixed, workAt, fixTo}
 use Rattle.arm64_fixup.specs.Footprint.{writtenAt, Writes, Lone}
 use Rattle.arm64_fixup.specs.Answer.{checkLists, basesOf, Outcome, fixed, outcomeOf, answerOf, numberOf}

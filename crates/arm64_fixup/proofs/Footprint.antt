@@ -14,11 +14,11 @@ use Rattle.macho.specs.Types.{ARM64-RELOC-UNSIGNED, ARM64-RELOC-PAGE21, ARM64-R
 use Rattle.macho.specs.Resolved.{hasAddress}
 use Rattle.macho.specs.declared.reloc.Reloc.{Reloc}
 use Rattle.macho.specs.declared.resolved.Resolved.{Resolved}
-use Rattle.arm64_entry.specs.Target.{importedSymbol, widthOf}
+use Rattle.arm64_fixup_entry.specs.Target.{importedSymbol, widthOf}
 use Rattle.arm64_fixup.specs.Walk.{entries, stored, Fixed, changeAt}
 use Rattle.arm64_fixup.specs.Footprint.{offsetAt, widthAt, Touches, Writes, Alone}
 use Rattle.arm64_fixup.specs.Answer.{Outcome, refused, fixed, outcomeOf, sectionAfter}
-use Rattle.arm64_entry.specs.declared.target.Bases.{Bases}
+use Rattle.arm64_fixup_entry.specs.declared.target.Bases.{Bases}
 use Rattle.arm64_fixup.proofs.Bytewise.{from-start, written-fits, touched-worked, only-it}
 use Rattle.arm64_fixup.proofs.Whole.{accepts}
 

@@ -18,17 +18,17 @@ use Rattle.macho.specs.Reloc.{relocAt}
 use Rattle.macho.specs.Resolved.{resolvedAt}
 use Rattle.macho.specs.declared.reloc.Reloc.{Reloc}
 use Rattle.macho.specs.declared.resolved.Resolved.{Resolved}
-use Rattle.arm64_entry.specs.Target.{targetOf, slotOf, gotTarget, widthOf}
-use Rattle.arm64_entry.specs.Check.{subtracts, checkOf}
-use Rattle.arm64_entry.specs.Change.{unsignedValue, subtractorValue, difference, dtraceSiteInsn, branchTarget, thunkServes, branch, gotPage21}
-use Rattle.arm64_entry.specs.Change.{gotPageoff12, pointerToGot, wordChange, changeOf}
+use Rattle.arm64_fixup_entry.specs.Target.{targetOf, slotOf, gotTarget, widthOf}
+use Rattle.arm64_fixup_entry.specs.Check.{subtracts, checkOf}
+use Rattle.arm64_fixup_entry.specs.Change.{unsignedValue, subtractorValue, difference, dtraceSiteInsn, branchTarget, thunkServes, branch, gotPage21}
+use Rattle.arm64_fixup_entry.specs.Change.{gotPageoff12, pointerToGot, wordChange, changeOf}
 use Rattle.arm64_fixup.specs.Walk.{entryAt, targetAt, entries, consumed, checkAt, first, checkTo, Fixed, changeAt, applied, workAt, fixTo}
 use Rattle.arm64_fixup.specs.Answer.{checkLists, after, fixed, outcomeOf}
-use Rattle.arm64_entry.specs.declared.target.Bases.{Bases}
-use Rattle.arm64_entry.specs.declared.check.Checked.{Checked}
-use Rattle.arm64_entry.specs.declared.check.Checked.the-variants.{Fine, Refused}
-use Rattle.arm64_entry.specs.declared.change.Change.{Change}
-use Rattle.arm64_entry.proofs.Sound.{followed}
+use Rattle.arm64_fixup_entry.specs.declared.target.Bases.{Bases}
+use Rattle.arm64_fixup_entry.specs.declared.check.Checked.{Checked}
+use Rattle.arm64_fixup_entry.specs.declared.check.Checked.the-variants.{Fine, Refused}
+use Rattle.arm64_fixup_entry.specs.declared.change.Change.{Change}
+use Rattle.arm64_fixup_entry.proofs.Sound.{followed}
 use Rattle.arm64_fixup.proofs.Turns.{and-false, check-taken, check-worked, passes, work-worked, work-taken}
 
 -- an entry with zeros for its spare bytes and marks

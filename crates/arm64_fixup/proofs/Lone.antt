@@ -7,15 +7,15 @@ use lib.Dec.{eqb}
 use lib.ListN.{length}
 use Rattle.util.specs.Word.{le}
 use Rattle.util.proofs.Word.{le-put}
-use Rattle.arm64_entry.specs.Target.{widthOf}
-use Rattle.arm64_entry.specs.Change.{bytesIn}
+use Rattle.arm64_fixup_entry.specs.Target.{widthOf}
+use Rattle.arm64_fixup_entry.specs.Change.{bytesIn}
 use Rattle.arm64_fixup.specs.Walk.{entryAt, targetAt, entries, stored, Fixed, changeAt, fixTo}
 use Rattle.arm64_fixup.specs.Footprint.{offsetAt, widthAt, Lone, wordAt, pointerAt}
-use Rattle.arm64_entry.specs.declared.target.Bases.{Bases}
-use Rattle.arm64_entry.specs.declared.change.Write.{Write}
-use Rattle.arm64_entry.specs.declared.change.Write.the-variants.{Nothing, Word, Pointer}
-use Rattle.arm64_entry.proofs.Sound.{Sound, sound}
-use Rattle.arm64_entry.proofs.Width.{change-fits}
+use Rattle.arm64_fixup_entry.specs.declared.target.Bases.{Bases}
+use Rattle.arm64_fixup_entry.specs.declared.change.Write.{Write}
+use Rattle.arm64_fixup_entry.specs.declared.change.Write.the-variants.{Nothing, Word, Pointer}
+use Rattle.arm64_fixup_entry.proofs.Sound.{Sound, sound}
+use Rattle.arm64_fixup_entry.proofs.Width.{change-fits}
 use Rattle.arm64_fixup.proofs.Works.{fine-at}
 use Rattle.arm64_fixup.proofs.Whole.{accepts}
 use Rattle.arm64_fixup.proofs.Bytewise.{worked-width, same-change}

@@ -26,17 +26,17 @@ use Rattle.arm64_insn.specs.declared.fix.Fit.the-variants as Fit
 use Rattle.arm64_insn.proofs.Encodes.{adrp-patched, add-patched, load-store-patched, prefetch-patched, relaxed-made}
 use Rattle.arm64_insn.proofs.Meaning.{adrp-means, add-means, access-means}
 use Rattle.arm64_insn.proofs.Manual.{decode-encode, decode-in-range, encode-lt}
-use Rattle.arm64_entry.specs.Target.{placeOf, targetOf, slotOf, gotTarget, widthOf}
-use Rattle.arm64_entry.specs.Change.{page21, fitted}
-use Rattle.arm64_entry.specs.Change.{canRelax, relaxed, gotPageoff12}
+use Rattle.arm64_fixup_entry.specs.Target.{placeOf, targetOf, slotOf, gotTarget, widthOf}
+use Rattle.arm64_fixup_entry.specs.Change.{page21, fitted}
+use Rattle.arm64_fixup_entry.specs.Change.{canRelax, relaxed, gotPageoff12}
 use Rattle.arm64_fixup.specs.Walk.{entryAt, targetAt, Fixed, changeAt}
 use Rattle.arm64_fixup.specs.Footprint.{Lone, wordAt}
-use Rattle.arm64_entry.specs.Roles.{Page, page, got-page, tlv-page, GotOffset, Offset, offset, got-offset, Relaxed}
-use Rattle.arm64_entry.specs.declared.target.Bases.{Bases}
-use Rattle.arm64_entry.specs.declared.change.Site.{Site}
-use Rattle.arm64_entry.specs.declared.change.Change.{Change}
-use Rattle.arm64_entry.specs.declared.change.Write.the-variants.{Word}
-use Rattle.arm64_entry.proofs.ByType.{siteOf, page-does-it, got-offset-does-it, offset-does-it}
+use Rattle.arm64_fixup_entry.specs.Roles.{Page, page, got-page, tlv-page, GotOffset, Offset, offset, got-offset, Relaxed}
+use Rattle.arm64_fixup_entry.specs.declared.target.Bases.{Bases}
+use Rattle.arm64_fixup_entry.specs.declared.change.Site.{Site}
+use Rattle.arm64_fixup_entry.specs.declared.change.Change.{Change}
+use Rattle.arm64_fixup_entry.specs.declared.change.Write.the-variants.{Word}
+use Rattle.arm64_fixup_entry.proofs.ByType.{siteOf, page-does-it, got-offset-does-it, offset-does-it}
 use Rattle.arm64_fixup.proofs.Lone.{passed, stores-word, leaves-word}
 
 -- ---- pages

@@ -13,23 +13,23 @@ use Rattle.macho.specs.declared.resolved.Resolved.{Resolved}
 use Rattle.macho.specs.declared.report.Report as R
 use Rattle.arm64_insn.specs.Reach.{adrpReaches}
 use Rattle.arm64_insn.specs.Branch.{branchReaches}
-use Rattle.arm64_entry.specs.Target.{placeOf}
-use Rattle.arm64_entry.specs.Change.{silent, branchTarget, thunkServes, dtraceSiteInsn, branch, page21, difference, changeOf}
+use Rattle.arm64_fixup_entry.specs.Target.{placeOf}
+use Rattle.arm64_fixup_entry.specs.Change.{silent, branchTarget, thunkServes, dtraceSiteInsn, branch, page21, difference, changeOf}
 use Rattle.arm64_fixup.specs.Walk.{entryAt, targetAt, entries, consumed, reportsOf, Fixed, changeAt, workAt, fixTo}
 use Rattle.arm64_fixup.specs.Footprint.{Lone, Unreported, wordAt}
-use Rattle.arm64_entry.specs.Roles.{Page}
-use Rattle.arm64_entry.specs.declared.target.Bases.{Bases}
-use Rattle.arm64_entry.specs.declared.change.Site.{Site}
-use Rattle.arm64_entry.specs.declared.change.Traced.the-variants.{Untraced}
-use Rattle.arm64_entry.specs.declared.change.Write.{Write}
-use Rattle.arm64_entry.specs.declared.change.Told.{Told}
-use Rattle.arm64_entry.specs.declared.change.Told.the-variants.{Silent, Report}
-use Rattle.arm64_entry.specs.declared.change.Change.{Change}
-use Rattle.arm64_entry.proofs.Shapes.{of-word}
+use Rattle.arm64_fixup_entry.specs.Roles.{Page}
+use Rattle.arm64_fixup_entry.specs.declared.target.Bases.{Bases}
+use Rattle.arm64_fixup_entry.specs.declared.change.Site.{Site}
+use Rattle.arm64_fixup_entry.specs.declared.change.Traced.the-variants.{Untraced}
+use Rattle.arm64_fixup_entry.specs.declared.change.Write.{Write}
+use Rattle.arm64_fixup_entry.specs.declared.change.Told.{Told}
+use Rattle.arm64_fixup_entry.specs.declared.change.Told.the-variants.{Silent, Report}
+use Rattle.arm64_fixup_entry.specs.declared.change.Change.{Change}
+use Rattle.arm64_fixup_entry.proofs.Shapes.{of-word}
 use Rattle.arm64_fixup.proofs.Turns.{work-worked, fix-suc}
 use Rattle.arm64_fixup.proofs.Whole.{accepts}
 use Rattle.arm64_fixup.proofs.Lone.{lent-step}
-use Rattle.arm64_entry.proofs.ByType.{siteOf, branch-untraced, page-does-it}
+use Rattle.arm64_fixup_entry.proofs.ByType.{siteOf, branch-untraced, page-does-it}
 
 -- ---- whose report it is
 

@@ -14,15 +14,15 @@ use Rattle.util.proofs.Word.{length-put}
 use Rattle.macho.specs.declared.reloc.Reloc.{Reloc}
 use Rattle.macho.specs.declared.resolved.Resolved.{Resolved}
 use Rattle.macho.specs.declared.refusal.Refusal.{Refusal}
-use Rattle.arm64_entry.specs.Check.{subtracts, checkOf}
+use Rattle.arm64_fixup_entry.specs.Check.{subtracts, checkOf}
 use Rattle.arm64_fixup.specs.Walk.{entries, entryAt, targetAt, takenBy, consumed, checkAt, first, checkTo, stored, Fixed, changeAt, applied}
 use Rattle.arm64_fixup.specs.Walk.{workAt, fixTo}
-use Rattle.arm64_entry.specs.declared.target.Bases.{Bases}
-use Rattle.arm64_entry.specs.declared.check.Checked.{Checked}
-use Rattle.arm64_entry.specs.declared.check.Checked.the-variants.{Fine, Refused}
-use Rattle.arm64_entry.specs.declared.change.Write.{Write}
-use Rattle.arm64_entry.specs.declared.change.Write.the-variants.{Nothing, Word, Pointer}
-use Rattle.arm64_entry.proofs.Sound.{followed}
+use Rattle.arm64_fixup_entry.specs.declared.target.Bases.{Bases}
+use Rattle.arm64_fixup_entry.specs.declared.check.Checked.{Checked}
+use Rattle.arm64_fixup_entry.specs.declared.check.Checked.the-variants.{Fine, Refused}
+use Rattle.arm64_fixup_entry.specs.declared.change.Write.{Write}
+use Rattle.arm64_fixup_entry.specs.declared.change.Write.the-variants.{Nothing, Word, Pointer}
+use Rattle.arm64_fixup_entry.proofs.Sound.{followed}
 
 -- ---- which entries are worked
 

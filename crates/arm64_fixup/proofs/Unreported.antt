@@ -25,17 +25,17 @@ use Rattle.arm64_insn.specs.Branch.{branchReaches}
 use Rattle.arm64_insn.specs.declared.fix.Fit.{Fit}
 use Rattle.arm64_insn.specs.declared.fix.Fit.the-variants as Fit
 use Rattle.arm64_insn.proofs.Encodes.{load-store-patched}
-use Rattle.arm64_entry.specs.Target.{placeOf, targetOf, slotOf, gotTarget}
-use Rattle.arm64_entry.specs.Change.{branchTarget, thunkServes, dtraceSiteInsn, displacement, fitted, canRelax, relaxed}
-use Rattle.arm64_entry.specs.Roles.{Page, GotOffset, Offset, got-offset, Relaxed}
+use Rattle.arm64_fixup_entry.specs.Target.{placeOf, targetOf, slotOf, gotTarget}
+use Rattle.arm64_fixup_entry.specs.Change.{branchTarget, thunkServes, dtraceSiteInsn, displacement, fitted, canRelax, relaxed}
+use Rattle.arm64_fixup_entry.specs.Roles.{Page, GotOffset, Offset, got-offset, Relaxed}
 use Rattle.arm64_fixup.specs.Walk.{entryAt, targetAt, Fixed}
 use Rattle.arm64_fixup.specs.Footprint.{Lone, Unreported, wordAt}
-use Rattle.arm64_entry.specs.declared.target.Bases.{Bases}
-use Rattle.arm64_entry.specs.declared.change.Site.{Site}
-use Rattle.arm64_entry.specs.declared.change.Change.{Change}
-use Rattle.arm64_entry.specs.declared.change.Traced.the-variants.{Untraced}
-use Rattle.arm64_entry.specs.declared.change.Told.the-variants.{Silent}
-use Rattle.arm64_entry.proofs.ByType.{siteOf, offset-does-it}
+use Rattle.arm64_fixup_entry.specs.declared.target.Bases.{Bases}
+use Rattle.arm64_fixup_entry.specs.declared.change.Site.{Site}
+use Rattle.arm64_fixup_entry.specs.declared.change.Change.{Change}
+use Rattle.arm64_fixup_entry.specs.declared.change.Traced.the-variants.{Untraced}
+use Rattle.arm64_fixup_entry.specs.declared.change.Told.the-variants.{Silent}
+use Rattle.arm64_fixup_entry.proofs.ByType.{siteOf, offset-does-it}
 use Rattle.arm64_fixup.proofs.Means.{relaxed-does, adrp-add, adrp-relaxed, adrp-access}
 use Rattle.arm64_fixup.proofs.Branches.{b-stays, bl-stays, goes}
 use Rattle.arm64_fixup.proofs.Reports.{silent-test, unreported, page-in-reach, branch-in-reach}

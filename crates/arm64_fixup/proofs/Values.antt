@@ -12,14 +12,14 @@ use Rattle.util.specs.Wrap.{sum, diff}
 use Rattle.macho.specs.Types.{ARM64-RELOC-UNSIGNED, ARM64-RELOC-SUBTRACTOR, ARM64-RELOC-POINTER-TO-GOT}
 use Rattle.macho.specs.Resolved.{isTls}
 use Rattle.macho.specs.declared.reloc.Reloc.{Reloc}
-use Rattle.arm64_entry.specs.Target.{importedSymbol, placeOf, targetOf, slotOf}
-use Rattle.arm64_entry.specs.Change.{silent, unsignedValue, subtractorValue, difference, pointerToGot}
+use Rattle.arm64_fixup_entry.specs.Target.{importedSymbol, placeOf, targetOf, slotOf}
+use Rattle.arm64_fixup_entry.specs.Change.{silent, unsignedValue, subtractorValue, difference, pointerToGot}
 use Rattle.arm64_fixup.specs.Walk.{entryAt, targetAt, Fixed}
 use Rattle.arm64_fixup.specs.Footprint.{Lone, wordAt, pointerAt}
-use Rattle.arm64_entry.specs.declared.target.Bases.{Bases}
-use Rattle.arm64_entry.specs.declared.change.Change.{Change}
-use Rattle.arm64_entry.specs.declared.change.Write.the-variants.{Word, Pointer}
-use Rattle.arm64_entry.proofs.ByType.{unsigned-does, subtractor-does, pointer-does}
+use Rattle.arm64_fixup_entry.specs.declared.target.Bases.{Bases}
+use Rattle.arm64_fixup_entry.specs.declared.change.Change.{Change}
+use Rattle.arm64_fixup_entry.specs.declared.change.Write.the-variants.{Word, Pointer}
+use Rattle.arm64_fixup_entry.proofs.ByType.{unsigned-does, subtractor-does, pointer-does}
 use Rattle.arm64_fixup.proofs.Lone.{stores-word, stores-pointer}
 
 -- sums and differences are 64-bit numbers

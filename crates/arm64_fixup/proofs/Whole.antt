@@ -11,11 +11,11 @@ use Rattle.macho.specs.declared.refusal.Refusal.{Refusal}
 use Rattle.arm64_fixup.specs.Walk.{checkAll, Fixed, fixAll}
 use Rattle.arm64_fixup.specs.Answer.{disagree, lacksSlots, checkLists, Outcome, refused, fixed, after, outcomeOf, answerOf, sectionAfter}
 use Rattle.arm64_fixup.specs.Answer.{filled, slotsAfter}
-use Rattle.arm64_entry.specs.declared.target.Bases.{Bases}
-use Rattle.arm64_entry.specs.declared.check.Checked.{Checked}
-use Rattle.arm64_entry.specs.declared.check.Checked.the-variants as C
+use Rattle.arm64_fixup_entry.specs.declared.target.Bases.{Bases}
+use Rattle.arm64_fixup_entry.specs.declared.check.Checked.{Checked}
+use Rattle.arm64_fixup_entry.specs.declared.check.Checked.the-variants as C
 use Rattle.arm64_fixup.specs.declared.walk.FixAnswer.the-variants.{Filled, Refused}
-use Rattle.arm64_entry.proofs.Sound.{passed}
+use Rattle.arm64_fixup_entry.proofs.Sound.{passed}
 
 -- lists whose lengths agree
 pub record Lists (rels targets slots : ℕ) : Type 0 where

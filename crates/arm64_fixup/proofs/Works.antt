@@ -15,19 +15,19 @@ use Rattle.macho.specs.Report.{reportBytes}
 use Rattle.macho.specs.declared.reloc.Reloc.{Reloc}
 use Rattle.macho.specs.declared.resolved.Resolved.{Resolved}
 use Rattle.macho.specs.declared.report.Report.{Report}
-use Rattle.arm64_entry.specs.Check.{checkOf}
-use Rattle.arm64_entry.specs.Change.{bytesIn, changeOf}
+use Rattle.arm64_fixup_entry.specs.Check.{checkOf}
+use Rattle.arm64_fixup_entry.specs.Change.{bytesIn, changeOf}
 use Rattle.arm64_fixup.specs.Walk.{entries, entryAt, targetAt, takenBy, consumed, checkAll, stored, reportsOf, Fixed}
 use Rattle.arm64_fixup.specs.Walk.{applied, fixTo, fixAll}
 use Rattle.arm64_fixup.specs.Answer.{filled}
-use Rattle.arm64_entry.specs.declared.target.Bases.{Bases}
-use Rattle.arm64_entry.specs.declared.check.Checked.the-variants.{Fine}
-use Rattle.arm64_entry.specs.declared.change.Told.{Told}
-use Rattle.arm64_entry.specs.declared.change.Told.the-variants as Told
-use Rattle.arm64_entry.specs.declared.change.Change.{Change}
-use Rattle.arm64_entry.proofs.Sound.{sound}
+use Rattle.arm64_fixup_entry.specs.declared.target.Bases.{Bases}
+use Rattle.arm64_fixup_entry.specs.declared.check.Checked.the-variants.{Fine}
+use Rattle.arm64_fixup_entry.specs.declared.change.Told.{Told}
+use Rattle.arm64_fixup_entry.specs.declared.change.Told.the-variants as Told
+use Rattle.arm64_fixup_entry.specs.declared.change.Change.{Change}
+use Rattle.arm64_fixup_entry.proofs.Sound.{sound}
 use Rattle.arm64_fixup.proofs.Turns.{next-worked, passes, check-worked, next-within, ended, takes, fix-next}
-use Rattle.arm64_entry.proofs.Width.{change-fits}
+use Rattle.arm64_fixup_entry.proofs.Width.{change-fits}
 
 -- ---- reports
 

@@ -11,9 +11,9 @@ use Rattle.macho.specs.Report.{reportBytes}
 use Rattle.macho.specs.declared.refusal.Refusal.{Refusal}
 use Rattle.macho.specs.declared.refusal.Refusal.the-variants.{Lengths, Slots}
 use Rattle.arm64_fixup.specs.Walk.{checkAll, Fixed, fixAll}
-use Rattle.arm64_entry.specs.declared.target.Bases.{Bases}
-use Rattle.arm64_entry.specs.declared.check.Checked.{Checked}
-use Rattle.arm64_entry.specs.declared.check.Checked.the-variants as C
+use Rattle.arm64_fixup_entry.specs.declared.target.Bases.{Bases}
+use Rattle.arm64_fixup_entry.specs.declared.check.Checked.{Checked}
+use Rattle.arm64_fixup_entry.specs.declared.check.Checked.the-variants as C
 use Rattle.arm64_fixup.specs.declared.walk.FixAnswer.{FixAnswer}
 use Rattle.arm64_fixup.specs.declared.walk.FixAnswer.the-variants.{Filled, Refused}
 

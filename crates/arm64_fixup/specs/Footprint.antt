@@ -6,11 +6,11 @@ use mathlib.Core.Bool.{false}
 use Rattle.util.specs.Choice.{choose}
 use Rattle.util.specs.Word.{le}
 use Rattle.macho.specs.declared.report.Report.{Report}
-use Rattle.arm64_entry.specs.Target.{widthOf}
-use Rattle.arm64_entry.specs.Change.{bytesIn}
+use Rattle.arm64_fixup_entry.specs.Target.{widthOf}
+use Rattle.arm64_fixup_entry.specs.Change.{bytesIn}
 use Rattle.arm64_fixup.specs.Walk.{entryAt, targetAt, entries, consumed, Fixed, changeAt, fixTo}
 use Rattle.arm64_fixup.specs.Answer.{fixed, outcomeOf}
-use Rattle.arm64_entry.specs.declared.target.Bases.{Bases}
+use Rattle.arm64_fixup_entry.specs.declared.target.Bases.{Bases}
 
 -- where entry i's bytes start
 abbrev pub offsetAt : List ℕ → ℕ → ℕ

@@ -11,16 +11,16 @@ use Rattle.macho.specs.Resolved.{resolvedAt}
 use Rattle.macho.specs.declared.reloc.Reloc.{Reloc}
 use Rattle.macho.specs.declared.resolved.Resolved.{Resolved}
 use Rattle.macho.specs.declared.report.Report as R
-use Rattle.arm64_entry.specs.Check.{subtracts, checkOf}
-use Rattle.arm64_entry.specs.Change.{changeOf}
-use Rattle.arm64_entry.specs.declared.target.Bases.{Bases}
-use Rattle.arm64_entry.specs.declared.check.Checked.{Checked}
-use Rattle.arm64_entry.specs.declared.check.Checked.the-variants.{Fine, Refused}
-use Rattle.arm64_entry.specs.declared.change.Write.{Write}
-use Rattle.arm64_entry.specs.declared.change.Write.the-variants.{Nothing, Word, Pointer}
-use Rattle.arm64_entry.specs.declared.change.Told.{Told}
-use Rattle.arm64_entry.specs.declared.change.Told.the-variants.{Silent, Report}
-use Rattle.arm64_entry.specs.declared.change.Change.{Change}
+use Rattle.arm64_fixup_entry.specs.Check.{subtracts, checkOf}
+use Rattle.arm64_fixup_entry.specs.Change.{changeOf}
+use Rattle.arm64_fixup_entry.specs.declared.target.Bases.{Bases}
+use Rattle.arm64_fixup_entry.specs.declared.check.Checked.{Checked}
+use Rattle.arm64_fixup_entry.specs.declared.check.Checked.the-variants.{Fine, Refused}
+use Rattle.arm64_fixup_entry.specs.declared.change.Write.{Write}
+use Rattle.arm64_fixup_entry.specs.declared.change.Write.the-variants.{Nothing, Word, Pointer}
+use Rattle.arm64_fixup_entry.specs.declared.change.Told.{Told}
+use Rattle.arm64_fixup_entry.specs.declared.change.Told.the-variants.{Silent, Report}
+use Rattle.arm64_fixup_entry.specs.declared.change.Change.{Change}
 
 -- entry i
 abbrev pub entryAt : List ℕ → ℕ → Reloc

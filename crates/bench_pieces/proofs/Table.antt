@@ -14,8 +14,8 @@ use Rattle.arm64_reader.specs.Read.{readRelocs}
 use Rattle.arm64_reader.proofs.Examples.{record-of, piece12}
 use Rattle.arm64_fixup.proofs.Examples as Fix
 use Rattle.arm64_fixup.proofs.Examples.{oneWord, becomes, misaligned}
-use Rattle.arm64_hints.proofs.Examples as Hints
-use Rattle.arm64_hints.proofs.Examples.{Rewrites}
+use Rattle.arm64_hint_run.proofs.Examples as Hints
+use Rattle.arm64_hint_run.proofs.Examples.{Rewrites}
 
 pub record Pieces : Type 0 where
   -- 1. ADR x0, 0x1008 from 0x1000. 2. ADR x1, 0xfff from 0x1000

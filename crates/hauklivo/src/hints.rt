@@ -1,8 +1,8 @@
 // The hint run.
-use arm64_hints::outcome::Tally;
-use arm64_hints::tally::apply_hints;
+use arm64_hint_run::outcome::Tally;
+use arm64_hint_run::tally::apply_hints;
 ghost use mathlib.Core.Path.{_≡_};
-ghost use Rattle.arm64_hints.specs.Run.{runOf, imageOf, numberOf, tallyAfter};
+ghost use Rattle.arm64_hint_run.specs.Run.{runOf, imageOf, numberOf, tallyAfter};
 
 // Works the hints on the image by the entries; `tally` gets the counts.
 #[no_mangle]

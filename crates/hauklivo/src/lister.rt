@@ -1,9 +1,9 @@
 // The word lister.
-use listing::ListAnswer;
-use listing::list;
+use lister_text::ListAnswer;
+use lister_text::list;
 ghost use mathlib.Core.Path.{_≡_};
 ghost use lib.ListN.{length};
-ghost use Rattle.listing.specs.Listing.{listOf, outAfter, numberOf, filledOf};
+ghost use Rattle.lister_text.specs.Listing.{listOf, outAfter, numberOf, filledOf};
 ghost use Rattle.hauklivo.specs.Lent.{lentNumber};
 
 // Lists words with their offsets and classes at the start of `out`; `count` gets how many bytes that is.

@@ -1,8 +1,8 @@
 // The word lister of document 01 at work: standard input is listed on standard output.
 ghost use Prim.Native.Nat.{_≤_};
 ghost use lib.ListN.{length, take};
-ghost use Rattle.listing.specs.Text.{textOf};
-ghost use Rattle.listing.specs.Puts.{Puts};
+ghost use Rattle.lister_text.specs.Text.{textOf};
+ghost use Rattle.lister_text.specs.Puts.{Puts};
 
 // How many bytes were read, and how many bytes of text they came to.
 pub struct Listed {
@@ -24,7 +24,7 @@ pub fn run(input: &mut [u8], out: &mut [u8; 110592]) -> Listed
     ensures text { λ r. ⌜ Puts (now (out .entry)) 0 (textOf (take (r .input) (now (input .exit)))) (r .text) (now (out .exit)) ⌝ }
 {
     let got = io::read_full(libc::STDIN_FILENO, input);
-    let n = listing::text(&input[..got], out);
+    let n = lister_text::text(&input[..got], out);
     write_first(out, n);
     Listed {
         input: got,

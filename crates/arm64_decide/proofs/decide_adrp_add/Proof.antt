@@ -6,8 +6,8 @@ use Rattle.arm64_decide.proofs.decide_adrp_add.Statement.{statement}
 use Rattle.arm64_decide.proofs.decide_adrp_add.Tie as tie
 use Rattle.arm64_decide.proofs.decide_adrp_add.Reads as reads
 use Rattle.arm64_decide.proofs.decide_adrp_add.Lts as lts
-use Rattle.arm64_rules.proofs.rels.has_page_pair.Reads as has-page-pair-reads
-use Rattle.arm64_adrp_rules.proofs.two.adrp_add.Reads as adrp-add-reads
+use Rattle.arm64_hint_terms.proofs.rels.has_page_pair.Reads as has-page-pair-reads
+use Rattle.arm64_hint_adrp.proofs.two.adrp_add.Reads as adrp-add-reads
 
 has-page-pair-requires : tie.Need-has-page-pair-requires
 has-page-pair-requires c κs = search needs

@@ -6,8 +6,8 @@ use Rattle.arm64_decide.proofs.decide_adrp_add_ldr.Statement.{statement
 use Rattle.arm64_decide.proofs.decide_adrp_add_ldr.Tie as tie
 use Rattle.arm64_decide.proofs.decide_adrp_add_ldr.Reads as reads
 use Rattle.arm64_decide.proofs.decide_adrp_add_ldr.Lts as lts
-use Rattle.arm64_rules.proofs.rels.has_page_pair.Reads as has-page-pair-reads
-use Rattle.arm64_adrp_rules.proofs.three.adrp_add_ldr.Reads as adrp-add-ldr-reads
+use Rattle.arm64_hint_terms.proofs.rels.has_page_pair.Reads as has-page-pair-reads
+use Rattle.arm64_hint_adrp.proofs.three.adrp_add_ldr.Reads as adrp-add-ldr-reads
 
 has-page-pair-requires : tie.Need-has-page-pair-requires
 has-page-pair-requires c κs = search needs

@@ -6,8 +6,8 @@ use Rattle.arm64_decide.proofs.decide_adrp_adrp.Statement.{statement}
 use Rattle.arm64_decide.proofs.decide_adrp_adrp.Tie as tie
 use Rattle.arm64_decide.proofs.decide_adrp_adrp.Reads as reads
 use Rattle.arm64_decide.proofs.decide_adrp_adrp.Lts as lts
-use Rattle.arm64_rules.proofs.rels.both_pages.Reads as both-pages-reads
-use Rattle.arm64_adrp_rules.proofs.two.adrp_adrp.Reads as adrp-adrp-reads
+use Rattle.arm64_hint_terms.proofs.rels.both_pages.Reads as both-pages-reads
+use Rattle.arm64_hint_adrp.proofs.two.adrp_adrp.Reads as adrp-adrp-reads
 
 both-pages-requires : tie.Need-both-pages-requires
 both-pages-requires c κs = search needs

@@ -6,8 +6,8 @@ use Rattle.arm64_decide.proofs.decide_adrp_ldr_got_ldr.Statement.{state
 use Rattle.arm64_decide.proofs.decide_adrp_ldr_got_ldr.Tie as tie
 use Rattle.arm64_decide.proofs.decide_adrp_ldr_got_ldr.Reads as reads
 use Rattle.arm64_decide.proofs.decide_adrp_ldr_got_ldr.Lts as lts
-use Rattle.arm64_got_rules.proofs.adrp_ldr_got_ldr.Reads as adrp-ldr-got-ldr-reads
-use Rattle.arm64_rules.proofs.rels.has_page_pair.Reads as has-page-pair-reads
+use Rattle.arm64_hint_got.proofs.adrp_ldr_got_ldr.Reads as adrp-ldr-got-ldr-reads
+use Rattle.arm64_hint_terms.proofs.rels.has_page_pair.Reads as has-page-pair-reads
 
 has-page-pair-requires : tie.Need-has-page-pair-requires
 has-page-pair-requires c κs = search needs

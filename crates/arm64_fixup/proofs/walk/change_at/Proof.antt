@@ -4,24 +4,24 @@ use mathlib.Core.Path.{_≡_, sym, _∙_, ap}
 use mathlib.Core.Bool.{false}
 use Prim.Native.Nat.{ℕ}
 use lib.Dec.{eqb}
-use Rattle.arm64_entry.specs.Target.{widthOf}
-use Rattle.arm64_entry.proofs.Sound.{sound, followed}
-use Rattle.arm64_entry.proofs.Width.{wide}
+use Rattle.arm64_fixup_entry.specs.Target.{widthOf}
+use Rattle.arm64_fixup_entry.proofs.Sound.{sound, followed}
+use Rattle.arm64_fixup_entry.proofs.Width.{wide}
 use borrow.Author.Tests.{eq-eqb, ne-eqb, le-leb, lt-leb, lt-ltb, le-ltb, not-true, not-false}
-use Rattle.arm64_entry.specs.Change.{changeOf}
+use Rattle.arm64_fixup_entry.specs.Change.{changeOf}
 use Rattle.util.specs.Choice.{choose}
 use borrow.Author.Needs.{needs}
 use Rattle.arm64_fixup.proofs.walk.change_at.Statement.{statement}
 use Rattle.arm64_fixup.proofs.walk.change_at.Tie as tie
 use Rattle.arm64_fixup.proofs.walk.change_at.Reads as reads
 use Rattle.arm64_fixup.proofs.walk.change_at.Lts as lts
-use Rattle.arm64_entry.proofs.change.difference.Reads as difference-reads
-use Rattle.arm64_entry.proofs.change.silent.Reads as silent-reads
-use Rattle.arm64_entry.proofs.change.subtractor_value.Reads as subtractor-value-reads
-use Rattle.arm64_entry.proofs.change.unsigned_value.Reads as unsigned-value-reads
-use Rattle.arm64_entry.proofs.change.word_change.Reads as word-change-reads
-use Rattle.arm64_entry.proofs.check.subtracts.Reads as subtracts-reads
-use Rattle.arm64_entry.proofs.target.width_of.Reads as width-of-reads
+use Rattle.arm64_fixup_entry.proofs.change.difference.Reads as difference-reads
+use Rattle.arm64_fixup_entry.proofs.change.silent.Reads as silent-reads
+use Rattle.arm64_fixup_entry.proofs.change.subtractor_value.Reads as subtractor-value-reads
+use Rattle.arm64_fixup_entry.proofs.change.unsigned_value.Reads as unsigned-value-reads
+use Rattle.arm64_fixup_entry.proofs.change.word_change.Reads as word-change-reads
+use Rattle.arm64_fixup_entry.proofs.check.subtracts.Reads as subtracts-reads
+use Rattle.arm64_fixup_entry.proofs.target.width_of.Reads as width-of-reads
 use Rattle.macho.proofs.reloc.Reloc.read.Reads as reloc-Reloc-read-reads
 use Rattle.macho.proofs.resolved.Resolved.read.Reads as resolved-Resolved-read-reads
 use Rattle.util.proofs.read32.Reads as read32-reads

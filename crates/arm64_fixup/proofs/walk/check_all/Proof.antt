@@ -7,12 +7,12 @@ use Prim.Native.Nat.{ℕ, _-_, _≤_, zero-le}
 use native.Mathlib.Omega.{arith}
 use borrow.Author.Needs.{needs}
 use Rattle.arm64_fixup.specs.Walk.{entries, consumed, checkTo}
-use Rattle.arm64_entry.specs.declared.check.Checked.the-variants.{Fine}
+use Rattle.arm64_fixup_entry.specs.declared.check.Checked.the-variants.{Fine}
 use Rattle.arm64_fixup.proofs.walk.check_all.Statement.{statement}
 use Rattle.arm64_fixup.proofs.walk.check_all.Tie as tie
 use Rattle.arm64_fixup.proofs.walk.check_all.Reads as reads
 use Rattle.arm64_fixup.proofs.walk.check_all.Lts as lts
-use Rattle.arm64_entry.proofs.check.check_entry.Reads as check-entry-reads
+use Rattle.arm64_fixup_entry.proofs.check.check_entry.Reads as check-entry-reads
 use Rattle.arm64_fixup.proofs.walk.taken.Reads as taken-reads
 use Rattle.macho.proofs.reloc.Reloc.read.Reads as reloc-Reloc-read-reads
 use Rattle.macho.proofs.resolved.Resolved.read.Reads as resolved-Resolved-read-reads

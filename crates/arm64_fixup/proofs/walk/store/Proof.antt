@@ -1,6 +1,6 @@
 -- `store` meets its contract: the write decides the case.
 use native.Mathlib.Omega.{arith}
-use Rattle.arm64_entry.specs.Change.{bytesIn}
+use Rattle.arm64_fixup_entry.specs.Change.{bytesIn}
 use borrow.Author.Tests.{eq-eqb, ne-eqb, le-leb, lt-leb, lt-ltb, le-ltb, not-true, not-false}
 use Rattle.arm64_fixup.specs.Walk.{stored}
 use borrow.Author.Needs.{needs}

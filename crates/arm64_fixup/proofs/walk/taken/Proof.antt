@@ -7,7 +7,7 @@ use Rattle.arm64_fixup.proofs.walk.taken.Statement.{statement}
 use Rattle.arm64_fixup.proofs.walk.taken.Tie as tie
 use Rattle.arm64_fixup.proofs.walk.taken.Reads as reads
 use Rattle.arm64_fixup.proofs.walk.taken.Lts as lts
-use Rattle.arm64_entry.proofs.check.subtracts.Reads as subtracts-reads
+use Rattle.arm64_fixup_entry.proofs.check.subtracts.Reads as subtracts-reads
 
 subtracts-requires : tie.Need-subtracts-requires
 subtracts-requires c κs = search needs

@@ -40,13 +40,13 @@ use denote.Triple.Walked.{says, Stays, gave-slice, gave-ref, stay-dropped, goes-
 use denote.Triple.Walked.{walkOf, Walks, ends-at, walked, walk-meets}
 use denote.Exit.{yes}
 use denote.Signature.{Slot, plain, shrSliceOf}
-use Rattle.arm64_hints.specs.Run.{runOf, imageOf, numberOf, tallyAfter}
-use Rattle.arm64_hints.specs.declared.outcome.Tally.{Tally}
-use Rattle.arm64_hints.proofs.outcome.Tally as T
-use Rattle.arm64_hints.proofs.tally.apply_hints as callee
-use Rattle.arm64_hints.proofs.tally.apply_hints.Symbol as callee-def
-use Rattle.arm64_hints.proofs.tally.apply_hints.Symbol.{name as #callee}
-use Rattle.arm64_hints.proofs.tally.apply_hints.Met as callee-thm
+use Rattle.arm64_hint_run.specs.Run.{runOf, imageOf, numberOf, tallyAfter}
+use Rattle.arm64_hint_run.specs.declared.outcome.Tally.{Tally}
+use Rattle.arm64_hint_run.proofs.outcome.Tally as T
+use Rattle.arm64_hint_run.proofs.tally.apply_hints as callee
+use Rattle.arm64_hint_run.proofs.tally.apply_hints.Symbol as callee-def
+use Rattle.arm64_hint_run.proofs.tally.apply_hints.Symbol.{name as #callee}
+use Rattle.arm64_hint_run.proofs.tally.apply_hints.Met as callee-thm
 use Rattle.hauklivo.proofs.hints.hauklivo_apply_hints.Key.{name as #self}
 use Rattle.hauklivo.proofs.hints.hauklivo_apply_hints as f
 use Rattle.hauklivo.proofs.hints.hauklivo_apply_hints.Statement as stated

@@ -1,7 +1,7 @@
 -- The answer of list by its two cases.
 use mathlib.Core.Path.{ap, sym, _∙_}
-use Rattle.listing.specs.declared.ListAnswer.{ListAnswer}
-use Rattle.listing.specs.Listing.{numberOf, filledOf}
+use Rattle.lister_text.specs.declared.ListAnswer.{ListAnswer}
+use Rattle.lister_text.specs.Listing.{numberOf, filledOf}
 use Rattle.hauklivo.proofs.Lent.{lent-kept, lent-new}
 use borrow.Author.Needs.{needs}
 use Rattle.hauklivo.proofs.lister.hauklivo_list.Statement.{statement}

@@ -1,0 +1,31 @@
+-- `pointer_to_got` meets its contract: the wrapped difference of the code is the definition's.
+use borrow.Author.Tests.{eq-eqb, ne-eqb, le-leb, lt-leb, lt-ltb, le-ltb, not-true, not-false}
+use Rattle.arm64_fixup_entry.specs.Change.{pointerToGot}
+use borrow.Author.Needs.{needs}
+use Rattle.arm64_fixup_entry.proofs.change.pointer_to_got.Statement.{statement}
+use Rattle.arm64_fixup_entry.proofs.change.pointer_to_got.Tie as tie
+use Rattle.arm64_fixup_entry.proofs.change.pointer_to_got.Reads as reads
+use Rattle.arm64_fixup_entry.proofs.change.pointer_to_got.Lts as lts
+use Rattle.arm64_fixup_entry.proofs.target.slot_of.Reads as slot-of-reads
+use Rattle.util.proofs.wrapping_sub.Reads as wrapping-sub-reads
+
+slot-of-requires : tie.Need-slot-of-requires
+slot-of-requires c κs = search needs
+
+wrapping-sub-requires : tie.Need-wrapping-sub-requires
+wrapping-sub-requires c κs = search needs
+
+cast-result : tie.Need-cast-result
+cast-result c = search needs
+
+returns : tie.Need-returns
+unfolding pointerToGot
+returns c =
+    simp (
+      c .wrapping-sub .ensures,
+      c .before .slot-of .ensures,
+    )
+
+pub pointer-to-got-spec : {M : Type 1} → statement M
+pointer-to-got-spec =
+    tie.close (tie.spec slot-of-requires wrapping-sub-requires cast-result returns)

@@ -1,0 +1,27 @@
+-- `subtractor_value` meets its contract: the wrapped difference of the code is the definition's.
+use borrow.Author.Tests.{eq-eqb, ne-eqb, le-leb, lt-leb, lt-ltb, le-ltb, not-true, not-false}
+use Rattle.arm64_fixup_entry.specs.Change.{subtractorValue}
+use borrow.Author.Needs.{needs}
+use Rattle.arm64_fixup_entry.proofs.change.subtractor_value.Statement.{statement}
+use Rattle.arm64_fixup_entry.proofs.change.subtractor_value.Tie as tie
+use Rattle.arm64_fixup_entry.proofs.change.subtractor_value.Reads as reads
+use Rattle.arm64_fixup_entry.proofs.change.subtractor_value.Lts as lts
+use Rattle.arm64_fixup_entry.proofs.target.target_of.Reads as target-of-reads
+use Rattle.util.proofs.wrapping_sub.Reads as wrapping-sub-reads
+
+target-of-requires : tie.Need-target-of-requires
+target-of-requires c κs = search needs
+
+wrapping-sub-requires : tie.Need-wrapping-sub-requires
+wrapping-sub-requires c κs = search needs
+
+returns : tie.Need-returns
+unfolding subtractorValue
+returns c =
+    simp (
+      c .wrapping-sub .ensures,
+      c .before .target-of .ensures,
+    )
+
+pub subtractor-value-spec : {M : Type 1} → statement M
+subtractor-value-spec = tie.close (tie.spec target-of-requires wrapping-sub-requires returns)

@@ -1,0 +1,154 @@
+-- `word_change` meets its contract: the type decides the choices.
+use borrow.Author.Tests.{eq-eqb, ne-eqb, le-leb, lt-leb, lt-ltb, le-ltb, not-true, not-false}
+use Rattle.arm64_fixup_entry.specs.Change.{wordChange}
+use Rattle.util.specs.Choice.{choose}
+use borrow.Author.Needs.{needs}
+use Rattle.arm64_fixup_entry.proofs.change.word_change.Statement.{statement}
+use Rattle.arm64_fixup_entry.proofs.change.word_change.Tie as tie
+use Rattle.arm64_fixup_entry.proofs.change.word_change.Reads as reads
+use Rattle.arm64_fixup_entry.proofs.change.word_change.Lts as lts
+use Rattle.arm64_fixup_entry.proofs.change.branch26.Reads as branch26-reads
+use Rattle.arm64_fixup_entry.proofs.change.got_page21.Reads as got-page21-reads
+use Rattle.arm64_fixup_entry.proofs.change.got_pageoff12.Reads as got-pageoff12-reads
+use Rattle.arm64_fixup_entry.proofs.change.page21.Reads as page21-reads
+use Rattle.arm64_fixup_entry.proofs.change.pageoff12.Reads as pageoff12-reads
+use Rattle.arm64_fixup_entry.proofs.change.pointer_to_got.Reads as pointer-to-got-reads
+use Rattle.arm64_fixup_entry.proofs.change.silent.Reads as silent-reads
+use Rattle.arm64_fixup_entry.proofs.target.got_target.Reads as got-target-reads
+use Rattle.arm64_fixup_entry.proofs.target.target_of.Reads as target-of-reads
+
+branch26-requires : tie.Need-branch26-requires
+branch26-requires c κs = search needs
+
+returns : tie.Need-returns
+unfolding wordChange choose
+returns c =
+    simp (
+      c .branch26 .ensures,
+      eq-eqb _ _ (c .before .if1 .taken),
+    )
+
+target-of-requires : tie.Need-target-of-requires
+target-of-requires c κs = search needs
+
+page21-requires : tie.Need-page21-requires
+page21-requires c κs = search needs
+
+returns-2 : tie.Need-returns-2
+unfolding wordChange choose
+returns-2 c =
+    simp (
+      c .page21 .ensures,
+      c .before .target-of .ensures,
+      eq-eqb _ _ (c .before .before .if2 .taken),
+      ne-eqb _ _ (c .before .before .before .before .if1 .left),
+    )
+
+target-of-requires-2 : tie.Need-target-of-requires-2
+target-of-requires-2 c κs = search needs
+
+pageoff12-requires : tie.Need-pageoff12-requires
+pageoff12-requires c κs = search needs
+
+returns-3 : tie.Need-returns-3
+unfolding wordChange choose
+returns-3 c =
+    simp (
+      c .pageoff12 .ensures,
+      c .before .target-of2 .ensures,
+      eq-eqb _ _ (c .before .before .if3 .taken),
+      ne-eqb _ _ (c .before .before .before .before .if2 .left),
+      ne-eqb _ _ (c .before .before .before .before .before .before .if1 .left),
+    )
+
+got-page21-requires : tie.Need-got-page21-requires
+got-page21-requires c κs = search needs
+
+returns-4 : tie.Need-returns-4
+unfolding wordChange choose
+returns-4 c =
+    simp (
+      c .got-page21 .ensures,
+      eq-eqb _ _ (c .before .if4 .taken),
+      ne-eqb _ _ (c .before .before .before .if3 .left),
+      ne-eqb _ _ (c .before .before .before .before .before .if2 .left),
+      ne-eqb _ _ (c .before .before .before .before .before .before .before .if1 .left),
+    )
+
+got-target-requires : tie.Need-got-target-requires
+got-target-requires c κs = search needs
+
+page21-requires-2 : tie.Need-page21-requires-2
+page21-requires-2 c κs = search needs
+
+returns-5 : tie.Need-returns-5
+unfolding wordChange choose
+returns-5 c =
+    simp (
+      c .page212 .ensures,
+      c .before .got-target .ensures,
+      eq-eqb _ _ (c .before .before .if5 .taken),
+      ne-eqb _ _ (c .before .before .before .before .if4 .left),
+      ne-eqb _ _ (c .before .before .before .before .before .before .if3 .left),
+      ne-eqb _ _ (c .before .before .before .before .before .before .before .before .if2 .left),
+      ne-eqb _ _ (c .before .before .before .before .before .before .before .before .before .before .if1 .left),
+    )
+
+pointer-to-got-requires : tie.Need-pointer-to-got-requires
+pointer-to-got-requires c κs = search needs
+
+silent-requires : tie.Need-silent-requires
+silent-requires c κs = search needs
+
+returns-6 : tie.Need-returns-6
+unfolding wordChange choose
+returns-6 c =
+    simp (
+      c .silent .ensures,
+      c .before .pointer-to-got .ensures,
+      eq-eqb _ _ (c .before .before .if6 .taken),
+      ne-eqb _ _ (c .before .before .before .before .if5 .left),
+      ne-eqb _ _ (c .before .before .before .before .before .before .if4 .left),
+      ne-eqb _ _ (c .before .before .before .before .before .before .before .before .if3 .left),
+      ne-eqb _ _ (c .before .before .before .before .before .before .before .before .before .before .if2 .left),
+      ne-eqb _ _ (c .before .before .before .before .before .before .before .before .before .before .before .before .if1 .left),
+    )
+
+got-pageoff12-requires : tie.Need-got-pageoff12-requires
+got-pageoff12-requires c κs = search needs
+
+returns-7 : tie.Need-returns-7
+unfolding wordChange choose
+returns-7 c =
+    simp (
+      c .got-pageoff12 .ensures,
+      ne-eqb _ _ (c .before .if6 .left),
+      ne-eqb _ _ (c .before .before .before .if5 .left),
+      ne-eqb _ _ (c .before .before .before .before .before .if4 .left),
+      ne-eqb _ _ (c .before .before .before .before .before .before .before .if3 .left),
+      ne-eqb _ _ (c .before .before .before .before .before .before .before .before .before .if2 .left),
+      ne-eqb _ _ (c .before .before .before .before .before .before .before .before .before .before .before .if1 .left),
+    )
+
+pub word-change-spec : {M : Type 1} → statement M
+word-change-spec =
+    tie.close
+    (tie.spec
+    branch26-requires
+    returns
+    target-of-requires
+    page21-requires
+    returns-2
+    target-of-requires-2
+    pageoff12-requires
+    returns-3
+    got-page21-requires
+    returns-4
+    got-target-requires
+    page21-requires-2
+    returns-5
+    pointer-to-got-requires
+    silent-requires
+    returns-6
+    got-pageoff12-requires
+    returns-7)

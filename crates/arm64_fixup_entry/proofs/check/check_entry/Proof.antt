@@ -1,0 +1,184 @@
+-- `check_entry` meets its contract: the tests on the way to each return decide the choices.
+use borrow.Author.Tests.{eq-eqb, ne-eqb, le-leb, lt-leb, lt-ltb, le-ltb, not-true, not-false}
+use Rattle.arm64_fixup_entry.specs.Check.{checkOf}
+use Rattle.util.specs.Choice.{choose}
+use borrow.Author.Needs.{needs}
+use Rattle.arm64_fixup_entry.proofs.check.check_entry.Statement.{statement}
+use Rattle.arm64_fixup_entry.proofs.check.check_entry.Tie as tie
+use Rattle.arm64_fixup_entry.proofs.check.check_entry.Reads as reads
+use Rattle.arm64_fixup_entry.proofs.check.check_entry.Lts as lts
+use Rattle.arm64_fixup_entry.proofs.check.is_lone.Reads as is-lone-reads
+use Rattle.arm64_fixup_entry.proofs.check.lacks_symbol.Reads as lacks-symbol-reads
+use Rattle.arm64_fixup_entry.proofs.check.overflows.Reads as overflows-reads
+use Rattle.arm64_fixup_entry.proofs.check.unsupported.Reads as unsupported-reads
+use Rattle.arm64_fixup_entry.proofs.target.width_of.Reads as width-of-reads
+use Rattle.macho.proofs.resolved.Resolved.is_well_formed.Reads as is-well-formed-reads
+
+cast-offset : tie.Need-cast-offset
+cast-offset c = search needs
+
+returns : tie.Need-returns
+unfolding checkOf choose
+returns c =
+    simp
+    (lt-ltb _ _ (c .if1 .taken))
+
+is-well-formed-requires : tie.Need-is-well-formed-requires
+is-well-formed-requires c κs = search needs
+
+returns-2 : tie.Need-returns-2
+unfolding checkOf choose
+returns-2 c =
+    simp (
+      not-true (c .before .is-well-formed .result) (c .if2 .taken),
+      ← c .before .is-well-formed .ensures,
+      le-ltb _ _ (c .before .before .if1 .left),
+    )
+
+overflows-requires : tie.Need-overflows-requires
+overflows-requires c κs = search needs
+
+returns-3 : tie.Need-returns-3
+unfolding checkOf choose
+returns-3 c =
+    simp (
+      c .if3 .taken,
+      ← c .before .overflows .ensures,
+      not-false (c .before .before .before .is-well-formed .result) (c .before .before .if2 .left),
+      ← c .before .before .before .is-well-formed .ensures,
+      le-ltb _ _ (c .before .before .before .before .if1 .left),
+    )
+
+unsupported-requires : tie.Need-unsupported-requires
+unsupported-requires c κs = search needs
+
+returns-4 : tie.Need-returns-4
+unfolding checkOf choose
+returns-4 c =
+    let k3 = c .before .before in
+    let k2 = k3 .before .before in
+    simp (
+      c .if4 .taken,
+      ← c .before .unsupported .ensures,
+      k3 .if3 .left,
+      ← k3 .before .overflows .ensures,
+      not-false (k2 .before .is-well-formed .result) (k2 .if2 .left),
+      ← k2 .before .is-well-formed .ensures,
+      le-ltb _ _ (k2 .before .before .if1 .left),
+    )
+
+is-lone-requires : tie.Need-is-lone-requires
+is-lone-requires c κs = search needs
+
+returns-5 : tie.Need-returns-5
+unfolding checkOf choose
+returns-5 c =
+    let k4 = c .before .before in
+    let k3 = k4 .before .before in
+    let k2 = k3 .before .before in
+    simp (
+      c .if5 .taken,
+      ← c .before .is-lone .ensures,
+      k4 .if4 .left,
+      ← k4 .before .unsupported .ensures,
+      k3 .if3 .left,
+      ← k3 .before .overflows .ensures,
+      not-false (k2 .before .is-well-formed .result) (k2 .if2 .left),
+      ← k2 .before .is-well-formed .ensures,
+      le-ltb _ _ (k2 .before .before .if1 .left),
+    )
+
+lacks-symbol-requires : tie.Need-lacks-symbol-requires
+lacks-symbol-requires c κs = search needs
+
+returns-6 : tie.Need-returns-6
+unfolding checkOf choose
+returns-6 c =
+    let k5 = c .before .before in
+    let k4 = k5 .before .before in
+    let k3 = k4 .before .before in
+    let k2 = k3 .before .before in
+    simp (
+      c .if6 .taken,
+      ← c .before .lacks-symbol .ensures,
+      k5 .if5 .left,
+      ← k5 .before .is-lone .ensures,
+      k4 .if4 .left,
+      ← k4 .before .unsupported .ensures,
+      k3 .if3 .left,
+      ← k3 .before .overflows .ensures,
+      not-false (k2 .before .is-well-formed .result) (k2 .if2 .left),
+      ← k2 .before .is-well-formed .ensures,
+      le-ltb _ _ (k2 .before .before .if1 .left),
+    )
+
+width-of-requires : tie.Need-width-of-requires
+width-of-requires c κs = search needs
+
+returns-7 : tie.Need-returns-7
+unfolding checkOf choose
+returns-7 c =
+    let k6 = c .before .before in
+    let k5 = k6 .before .before in
+    let k4 = k5 .before .before in
+    let k3 = k4 .before .before in
+    let k2 = k3 .before .before in
+    simp (
+      lt-ltb _ _ (c .if7 .taken),
+      ← c .before .width-of .ensures,
+      k6 .if6 .left,
+      ← k6 .before .lacks-symbol .ensures,
+      k5 .if5 .left,
+      ← k5 .before .is-lone .ensures,
+      k4 .if4 .left,
+      ← k4 .before .unsupported .ensures,
+      k3 .if3 .left,
+      ← k3 .before .overflows .ensures,
+      not-false (k2 .before .is-well-formed .result) (k2 .if2 .left),
+      ← k2 .before .is-well-formed .ensures,
+      le-ltb _ _ (k2 .before .before .if1 .left),
+    )
+
+returns-8 : tie.Need-returns-8
+unfolding checkOf choose
+returns-8 c =
+    let k6 = c .before .before in
+    let k5 = k6 .before .before in
+    let k4 = k5 .before .before in
+    let k3 = k4 .before .before in
+    let k2 = k3 .before .before in
+    simp (
+      le-ltb _ _ (c .if7 .left),
+      ← c .before .width-of .ensures,
+      k6 .if6 .left,
+      ← k6 .before .lacks-symbol .ensures,
+      k5 .if5 .left,
+      ← k5 .before .is-lone .ensures,
+      k4 .if4 .left,
+      ← k4 .before .unsupported .ensures,
+      k3 .if3 .left,
+      ← k3 .before .overflows .ensures,
+      not-false (k2 .before .is-well-formed .result) (k2 .if2 .left),
+      ← k2 .before .is-well-formed .ensures,
+      le-ltb _ _ (k2 .before .before .if1 .left),
+    )
+
+pub check-entry-spec : {M : Type 1} → statement M
+check-entry-spec =
+    tie.close
+    (tie.spec
+    cast-offset
+    returns
+    is-well-formed-requires
+    returns-2
+    overflows-requires
+    returns-3
+    unsupported-requires
+    returns-4
+    is-lone-requires
+    returns-5
+    lacks-symbol-requires
+    returns-6
+    width-of-requires
+    returns-7
+    returns-8)

@@ -1,0 +1,20 @@
+-- `acts_on_address` meets its contract: the first test decides the disjunction.
+use borrow.Author.Tests.{eq-eqb, ne-eqb, le-leb, lt-leb, lt-ltb, le-ltb, not-true, not-false}
+use Rattle.arm64_fixup_entry.specs.Target.{actsOnAddress}
+use Rattle.arm64_fixup_entry.proofs.target.acts_on_address.Statement.{statement}
+use Rattle.arm64_fixup_entry.proofs.target.acts_on_address.Tie as tie
+use Rattle.arm64_fixup_entry.proofs.target.acts_on_address.Reads as reads
+use Rattle.arm64_fixup_entry.proofs.target.acts_on_address.Lts as lts
+
+returns : tie.Need-returns
+returns c =
+    simp
+    (eq-eqb _ _ (c .if1 .taken))
+
+returns-2 : tie.Need-returns-2
+returns-2 c =
+    simp
+    (ne-eqb _ _ (c .if1 .left))
+
+pub acts-on-address-spec : {M : Type 1} → statement M
+acts-on-address-spec = tie.close (tie.spec returns returns-2)

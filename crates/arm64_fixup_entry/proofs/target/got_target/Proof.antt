@@ -1,0 +1,44 @@
+-- `got_target` meets its contract: the flag decides the choice.
+use borrow.Author.Tests.{eq-eqb, ne-eqb, le-leb, lt-leb, lt-ltb, le-ltb, not-true, not-false}
+use Rattle.arm64_fixup_entry.specs.Target.{gotTarget}
+use Rattle.util.specs.Choice.{choose}
+use borrow.Author.Needs.{needs}
+use Rattle.arm64_fixup_entry.proofs.target.got_target.Statement.{statement}
+use Rattle.arm64_fixup_entry.proofs.target.got_target.Tie as tie
+use Rattle.arm64_fixup_entry.proofs.target.got_target.Reads as reads
+use Rattle.arm64_fixup_entry.proofs.target.got_target.Lts as lts
+use Rattle.arm64_fixup_entry.proofs.target.slot_of.Reads as slot-of-reads
+use Rattle.arm64_fixup_entry.proofs.target.target_of.Reads as target-of-reads
+use Rattle.macho.proofs.resolved.Resolved.can_relax_got.Reads as can-relax-got-reads
+
+can-relax-got-requires : tie.Need-can-relax-got-requires
+can-relax-got-requires c κs = search needs
+
+target-of-requires : tie.Need-target-of-requires
+target-of-requires c κs = search needs
+
+returns : tie.Need-returns
+unfolding gotTarget choose
+returns c =
+    simp (
+      c .target-of .ensures,
+      c .before .if1 .taken,
+      ← c .before .before .can-relax-got .ensures,
+    )
+
+slot-of-requires : tie.Need-slot-of-requires
+slot-of-requires c κs = search needs
+
+returns-2 : tie.Need-returns-2
+unfolding gotTarget choose
+returns-2 c =
+    simp (
+      c .slot-of .ensures,
+      c .before .if1 .left,
+      ← c .before .before .can-relax-got .ensures,
+    )
+
+pub got-target-spec : {M : Type 1} → statement M
+got-target-spec =
+    tie.close
+    (tie.spec can-relax-got-requires target-of-requires returns slot-of-requires returns-2)

@@ -1,0 +1,47 @@
+-- What an entry and its resolved target say together (document 01, "Records lent by the linker", "Fix-up and hint rules").
+use Prim.Native.Nat.{ℕ, _+_}
+use mathlib.Core.Bool.{Bool, _&&_, _||_, not}
+use lib.Dec.{eqb}
+use Rattle.util.specs.Choice.{choose}
+use Rattle.util.specs.Wrap.{sum}
+use Rattle.macho.specs.Types.{ARM64-RELOC-UNSIGNED, ARM64-RELOC-SUBTRACTOR, ARM64-RELOC-PAGE21, ARM64-RELOC-PAGEOFF12}
+use Rattle.macho.specs.Reloc.{isSection}
+use Rattle.macho.specs.Resolved.{isImported, hasAddress, canRelaxGot}
+use Rattle.macho.specs.declared.reloc.Reloc.{Reloc}
+use Rattle.macho.specs.declared.resolved.Resolved.{Resolved}
+use Rattle.arm64_fixup_entry.specs.declared.target.Bases.{Bases}
+
+-- whether an entry's target is a symbol
+abbrev pub isSymbol : Reloc → Bool
+isSymbol e = not (isSection (e .target))
+
+-- an imported symbol, whose pointers dyld fills
+abbrev pub importedSymbol : Reloc → Resolved → Bool
+importedSymbol e t = isSymbol e && isImported t
+
+-- P, the place: base plus offset
+abbrev pub placeOf : Bases → Reloc → ℕ
+placeOf b e = b .base + e .offset
+
+-- S + A
+unfoldable pub targetOf : Reloc → Resolved → ℕ
+targetOf e t = sum (t .addr) (e .addend)
+
+-- G + A
+unfoldable pub slotOf : Reloc → Resolved → ℕ
+slotOf e t = sum (t .got) (e .addend)
+
+-- what a GOT or thread-local load refers to: S + A where it is relaxed, else G + A
+unfoldable pub gotTarget : Reloc → Resolved → ℕ
+gotTarget e t = choose (canRelaxGot t) (targetOf e t) (slotOf e t)
+
+-- the types that do nothing to a target without an address
+abbrev pub actsOnAddress : ℕ → Bool
+actsOnAddress ty = eqb ty ARM64-RELOC-PAGE21 || eqb ty ARM64-RELOC-PAGEOFF12
+
+-- the bytes at its offset that an entry reads or writes: none for an imported symbol's UNSIGNED and where an address is missing
+unfoldable pub widthOf : Reloc → Resolved → ℕ
+widthOf e t =
+    choose (eqb (e .ty) ARM64-RELOC-UNSIGNED) (choose (importedSymbol e t) 0 8)
+    (choose (eqb (e .ty) ARM64-RELOC-SUBTRACTOR) (choose (eqb (e .size) 4) 4 8)
+    (choose (actsOnAddress (e .ty)) (choose (hasAddress t) 4 0) 4))

@@ -1,0 +1,135 @@
+-- Demand 3: the theorems. Carried by the law of a hint's step and by order's laws of lists of planned steps.
+use mathlib.Core.Path.{_≡_, refl, sym, ap, _∙_, subst}
+use mathlib.Core.Bool.{true, false}
+use mathlib.Core.List.{List, [], _∷_, _++_}
+use Prim.Native.Nat.{ℕ, _<_}
+use native.Mathlib.Omega.{arith}
+use lib.ListN.{length}
+use Rattle.macho.specs.declared.hint.HintRecord.{HintRecord}
+use Rattle.arm64_hint_order.specs.Lists.{count, Once}
+use Rattle.arm64_hint_order.specs.Steps.{Work}
+use Rattle.arm64_hint_order.specs.Plan.{wordsAt, written, stepOf}
+use Rattle.arm64_hint_order.specs.Cursor.{hintCount, objectAt, lateAt, orderOf}
+use Rattle.arm64_hint_order.proofs.Lists.{all-map, run-append, count-append, count-here, less-or}
+use Rattle.arm64_hint_order.proofs.Own.{own-once}
+use Rattle.arm64_hint_order.proofs.Runs as Runs
+use Rattle.arm64_machine.specs.Machine.{Other, State}
+use Rattle.arm64_machine.specs.SameRun.{SameRun}
+use Rattle.arm64_machine.proofs.FairLaws as FairLaws
+use Rattle.arm64_hint_run.specs.Hint.{hintOf, isSkipped, placesOf, planOf}
+use Rattle.arm64_hint_run.specs.Run.{start, worked, runOf, imageOf}
+use Rattle.arm64_hint_run.specs.declared.outcome.Tally.{Tally}
+use Rattle.arm64_hint_run.specs.declared.run.RunAnswer.{RunAnswer}
+use Rattle.arm64_hint_run.specs.declared.run.RunAnswer.the-variants as A
+use Rattle.arm64_hint_run.proofs.Checks.{Ready, ready, each-fine}
+use Rattle.arm64_hint_run.proofs.Parts.{places-inside, in-part}
+use Rattle.arm64_hint_run.proofs.Answers.{done-fine, run-is}
+use Rattle.arm64_hint_run.proofs.Steps.{add-swap}
+use Rattle.arm64_hint_kept.specs.Demand3.{codes, partBytes, wordBytes, Kept, PartsApart, Alone, Fair, Same, Demand3, Premises, Literally}
+use Rattle.arm64_hint_kept.proofs.Step.{codes-same, addresses, step-same}
+
+-- the run's own list has each hint once, and keeps each object's own order
+pub own-list : (hints : List ℕ) → Once (hintCount hints) (orderOf hints) × Kept hints (orderOf hints)
+own-list hints = (own-once (objectAt hints) (lateAt hints) (hintCount hints), λ o. refl)
+
+module _ (image hints entries : List ℕ) (t : Tally) (e : runOf image hints entries ≡ A.Done t) where
+  -- every hint that is not skipped has its part inside the image, and its words inside its part
+  checked : (k : ℕ) → k < hintCount hints → isSkipped (hintOf hints k) ≡ false → Ready (length image) (length entries) (hintOf hints k)
+  checked k l s =
+      ready (length image) (length entries) (hintOf hints k) (hintOf hints k) refl
+      (each-fine (length image) hints (length entries) (done-fine image hints entries t e) k l) s
+
+  -- a byte of a hint's words is one of its part
+  inside-part : (k : ℕ) → k < hintCount hints → (b : ℕ) → wordBytes (hintOf hints k) b ≡ true → partBytes (hintOf hints k) b ≡ true
+  inside-part k l b w = let q = in-part image hints entries (done-fine image hints entries t e) k l b w in rw (q .0) (q .1)
+
+  -- a hint's step on an image as long as the lent one
+  step : (k : ℕ) → k < hintCount hints → isSkipped (hintOf hints k) ≡ false → (x : List ℕ) → length x ≡ length image → Fair (hintOf hints k) x
+      → Same (hintOf hints k) x (written (planOf hints entries) k x)
+  step k l s x size fair =
+      let h = hintOf hints k in
+      let r = checked k l s in
+      step-same entries h s (addresses hints k) x (all-map (λ at w. omega (arith, r .part)) (places-inside h (r .words))) fair
+
+  module _ (l : List ℕ) (once : Once (hintCount hints) l) where
+    ordered : PartsApart hints → Kept hints l → worked image hints entries l ≡ record { image = imageOf image hints entries; tally = t }
+    ordered apart kept = own ∙ run-is image hints entries t e
+      where
+        own : worked image hints entries l ≡ worked image hints entries (orderOf hints)
+        own =
+            unfold worked in
+            Runs.parts (planOf hints entries) (hintCount hints) add-swap (λ k. partBytes (hintOf hints k))
+            inside-part (objectAt hints) (lateAt hints) apart l once kept (start image)
+
+    -- a member of the list is a hint's position
+    position : (a : List ℕ) (k : ℕ) (b : List ℕ) → l ≡ a ++ k ∷ b → k < hintCount hints
+    position a k b q =
+        less-or k (hintCount hints) (λ h. h)
+        (λ h. absurd (omega (arith, ap (count k) q, count-append k a (k ∷ b), count-here k k b refl, once .none k h)))
+
+    turned : (a : List ℕ) (k : ℕ) (b : List ℕ) → l ≡ a ++ k ∷ b → isSkipped (hintOf hints k) ≡ false
+        → Fair (hintOf hints k) (worked image hints entries a .image)
+        → Same (hintOf hints k) (worked image hints entries a .image) (worked image hints entries (a ++ k ∷ []) .image)
+    turned a k b q s fair =
+        subst (λ (y : List ℕ). Same (hintOf hints k) (worked image hints entries a .image) y) (sym next)
+        (step k (position a k b q) s (worked image hints entries a .image) size fair)
+      where
+        next : worked image hints entries (a ++ k ∷ []) .image ≡ written (planOf hints entries) k (worked image hints entries a .image)
+        next = unfold worked in ap (λ (w : Work Tally). w .image) (run-append (stepOf (planOf hints entries)) a (k ∷ []) (start image))
+
+        size : length (worked image hints entries a .image) ≡ length image
+        size =
+            unfold worked in
+            ap length (Runs.image-of (planOf hints entries) (hintCount hints) a (start image)) ∙ Runs.size (planOf hints entries) (hintCount hints) a image
+
+    ended : (k : ℕ) → k < hintCount hints → isSkipped (hintOf hints k) ≡ false → Alone hints k → Fair (hintOf hints k) image
+        → Same (hintOf hints k) image (worked image hints entries l .image)
+    ended k h s alone fair =
+        subst (SameRun (codes (hintOf hints k) image)) (sym (codes-same (hintOf hints k) _ _ own)) (step k h s image refl fair)
+      where
+        own : wordsAt (placesOf (hintOf hints k)) (worked image hints entries l .image)
+            ≡ wordsAt (placesOf (hintOf hints k)) (written (planOf hints entries) k image)
+        own =
+            unfold worked in
+            ap (wordsAt (placesOf (hintOf hints k))) (Runs.image-of (planOf hints entries) (hintCount hints) l (start image))
+            ∙ Runs.ends (planOf hints entries) (hintCount hints) k h alone l once image
+
+-- DEMAND 3, of every list of a run's hint steps with each hint once
+pub demand-3 : (image hints entries : List ℕ) (t : Tally) → runOf image hints entries ≡ A.Done t
+    → (l : List ℕ) → Once (hintCount hints) l → Demand3 image hints entries l t
+demand-3 image hints entries t e l once =
+    record {
+      order = ordered image hints entries t e l once;
+      turn = turned image hints entries t e l once;
+      ends = ended image hints entries t e l once;
+    }
+
+-- the premises of the demand give those that are needed
+pub literal : (h : HintRecord) (image : List ℕ) (o : Other) (s : State) → Premises h image o s → Fair h image
+literal h image o s p = record { disjoint = p .disjoint; words = FairLaws.fair (p .words) }
+
+-- the demand word by word
+pub literally : (image hints entries : List ℕ) (l : List ℕ) (t : Tally) → Demand3 image hints entries l t → Literally image hints entries l t
+literally image hints entries l t d =
+    record {
+      order = d .order;
+      turn = λ a k b q s o z p. d .turn a k b q s (literal _ _ o z p) .agree o z;
+      ends = λ apart k h s o z data′ p. d .ends k h s (apart k h) (literal _ _ o z p) .agree o z;
+    }
+
+-- DEMAND 3 of the compiled run: `answer` is what arm64_hint_run' `run` returns and `left` the image that it leaves, each with the promise that it makes.
+-- Where it is done, its own list ends with what it left, is one of those spoken of, and of each of them the demand holds word by word
+pub of-the-run : (image hints entries left : List ℕ) (answer : RunAnswer) → answer ≡ runOf image hints entries → left ≡ imageOf image hints entries
+    → (t : Tally) → answer ≡ A.Done t
+    → (worked image hints entries (orderOf hints) ≡ record { image = left; tally = t })
+    × (Once (hintCount hints) (orderOf hints))
+    × (Kept hints (orderOf hints))
+    × ((l : List ℕ) → Once (hintCount hints) l → Literally image hints entries l t)
+of-the-run image hints entries left answer says leaves t done =
+    let e = sym says ∙ done in
+    let own = own-list hints in (
+      run-is image hints entries t e ∙ ap (λ (image : List ℕ). record { image = image; tally = t }) (sym leaves),
+      own .0,
+      own .1,
+      λ l once. literally image hints entries l t (demand-3 image hints entries t e l once),
+    )

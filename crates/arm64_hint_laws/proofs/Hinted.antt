@@ -1,0 +1,325 @@
+-- Demand 2, "LLVM's hint kinds define each hint": macho's word counts are those of LLVM's kinds, a number that is no kind declines, and a hint is
+-- only rewritten where its words and its entries are what its kind says, or one of the named exceptions stands there. By cases on the kind, on what
+-- the words decode to, and on the entries' test; the decoders' answers are the manual's forms by arm64_insn's `Decodes`.
+use mathlib.Core.Path.{_≡_, refl, sym, ap, subst, _∙_}
+use mathlib.Core.Logic.{_⊎_, inl, inr, ⊎-elim}
+use mathlib.Core.Bool.{Bool, true, false, _&&_, _||_, not, true≢false}
+use mathlib.Core.List.{List, [], _∷_}
+use Prim.Native.Nat.{ℕ}
+use native.Mathlib.Omega.{arith}
+use borrow.Author.Tests.{not-true}
+use lib.Dec.{eqb, ltb, leb}
+use lib.ListN.{length}
+use Rattle.util.specs.Choice.{choose}
+use Rattle.util.specs.Diagram.{matches}
+use Rattle.util.proofs.Choice.{split, chosen, choose-ap, both}
+use Rattle.macho.specs.Hint.{wordCount}
+use Rattle.macho.specs.Types.{MCLOH-AdrpAdrp, MCLOH-AdrpLdr, MCLOH-AdrpAddLdr, MCLOH-AdrpLdrGotLdr}
+use Rattle.macho.specs.Types.{MCLOH-AdrpAddStr, MCLOH-AdrpLdrGotStr, MCLOH-AdrpAdd, MCLOH-AdrpLdrGot}
+use Rattle.arm64_insn.specs.Adrp.{adrpOf}
+use Rattle.arm64_insn.specs.Add.{addOf}
+use Rattle.arm64_insn.specs.Encoding.{loadStore}
+use Rattle.arm64_insn.specs.Manual.{sizeIn, vIn, opcIn}
+use Rattle.arm64_insn.specs.LoadStore.{takenAsLoad, takenWord, loadStoreOf}
+use Rattle.arm64_insn.specs.Literal.{hasLiteralForm}
+use Rattle.arm64_insn.proofs.Decodes.{adrp-decodes, add-decodes, decodes-load-store, load-store-decodes, taken-decodes}
+use Rattle.arm64_insn.specs.declared.adrp.Adrp.{Adrp}
+use Rattle.arm64_insn.specs.declared.adrp.AdrpWord.the-variants as A
+use Rattle.arm64_insn.specs.declared.add.Add.{Add}
+use Rattle.arm64_insn.specs.declared.add.AddWord.the-variants as D
+use Rattle.arm64_insn.specs.declared.ldst.LoadStore.{LoadStore}
+use Rattle.arm64_insn.specs.declared.ldst.LoadStoreWord.{LoadStoreWord}
+use Rattle.arm64_insn.specs.declared.ldst.LoadStoreWord.the-variants as L
+use Rattle.arm64_hint_terms.specs.Rels.{isPageRel, isPageoffRel, isAbsent, sameReference, hasPagePair, bothPages}
+use Rattle.arm64_hint_terms.specs.Answer.{sumOf, summed}
+use Rattle.arm64_hint_adrp.specs.Two.{adrpAdrpWith, adrpAdrp, adrpLdr, adrpAddWith, adrpAdd}
+use Rattle.arm64_hint_adrp.specs.Three.{through, adrOrFold, adrpAddLdrWith, adrpAddLdr, adrpAddStrWith, adrpAddStr}
+use Rattle.arm64_hint_got.specs.Got.{gotLoad, adrpLdrGotWith, adrpLdrGot, gotLdrBy, gotLdrWith, adrpLdrGotLdr, gotStrBy, gotStrWith, adrpLdrGotStr}
+use Rattle.arm64_decide.specs.Decide.{decide}
+use Rattle.arm64_hint_terms.specs.Kinds.{Word, Adrp-Page, Adrp-GotPage, Add-PageOff, Ldr-PageOff, Ldr-GotPageOff, Ldr, Str}
+use Rattle.arm64_hint_terms.specs.Kinds.{Kind, kinds, wordsIn, wordsOf, IsAdrp, IsAdd, IsAccess, IsTaken, IsWord, IsInstead, AreWords, areCarried}
+use Rattle.arm64_hint_terms.specs.declared.answer.Insns.{Insns}
+use Rattle.arm64_hint_terms.specs.declared.answer.NewWord.the-variants.{Keep}
+use Rattle.arm64_hint_terms.specs.declared.answer.Decision.{Decision}
+use Rattle.arm64_hint_terms.specs.declared.answer.Decision.the-variants.{Declined, Nine, Rewritten}
+use Rattle.arm64_hint_terms.specs.declared.rels.Rel.{Rel}
+use Rattle.arm64_hint_terms.specs.declared.rels.Rels.{Rels}
+use Rattle.arm64_hint_adrp.specs.declared.three.Through.{Through}
+use Rattle.arm64_hint_adrp.specs.declared.three.Through.the-variants as T
+use Rattle.arm64_hint_got.specs.declared.GotLoad.{GotLoad}
+use Rattle.arm64_hint_got.specs.declared.GotLoad.the-variants as G
+use Rattle.arm64_hint_adrp.proofs.Adds.{Adds, adds}
+use Rattle.arm64_hint_got.proofs.Loads.{Loads, Makes, Got, got, eight-bytes}
+use Rattle.arm64_hint_laws.proofs.Cases as Cases
+use Rattle.arm64_hint_laws.proofs.Cases.{Literal, EachRule, by-kind}
+
+never : {P : Type 0} → _≡_ {A = ℕ} 0 1 → P
+never z = absurd (omega arith)
+
+-- how many words the kind of a number among some has
+abbrev countIn : List Kind → ℕ → ℕ
+countIn [] n = 0
+countIn (k ∷ ks) n = choose (eqb n (k .number)) (length (k .words)) (countIn ks n)
+
+count-in : (ks : List Kind) (n : ℕ) → countIn ks n ≡ length (wordsIn ks n)
+count-in [] n = refl
+count-in (k ∷ ks) n = rw (count-in ks n) (sym (choose-ap length (eqb n (k .number)) (k .words) (wordsIn ks n)))
+
+-- macho's word count is the number of LLVM's words
+pub counts : (n : ℕ) → wordCount n ≡ length (wordsOf n)
+unfolding wordCount wordsOf
+counts n = count-in kinds n
+
+-- a number that is no kind declines
+pub no-kind : (n : ℕ) (s : Insns) (r : Rels) → wordsOf n ≡ [] → decide n s r ≡ Declined
+unfolding wordsOf choose
+no-kind n s r =
+    by-kind s r (λ (k : ℕ) (d : Decision). wordsOf k ≡ [] → d ≡ Declined)
+    (record {
+      declined = λ k e. refl;
+      adrp-adrp = λ p _ e. never (cc);
+      adrp-ldr = λ p _ e. never (cc);
+      adrp-add-ldr = λ p _ e. never (cc);
+      adrp-ldr-got-ldr = λ p _ e. never (cc);
+      adrp-add-str = λ p _ e. never (cc);
+      adrp-ldr-got-str = λ p _ e. never (cc);
+      adrp-add = λ p _ e. never (cc);
+      adrp-ldr-got = λ p _ e. never (cc);
+    })
+    n
+
+-- a decision that does not write the third place
+abbrev pub KeepsThird : Decision → Type 0
+KeepsThird Declined = Unit {0}
+KeepsThird Nine = Unit {0}
+KeepsThird (Rewritten p) = p .w2 ≡ Keep
+
+-- a kind of two words never writes the third place
+pub two-words : (n : ℕ) (s : Insns) (r : Rels) → length (wordsOf n) ≡ 2 → KeepsThird (decide n s r)
+unfolding wordsOf choose
+two-words n s r =
+    by-kind s r (λ (k : ℕ) (d : Decision). length (wordsOf k) ≡ 2 → KeepsThird d)
+    (record {
+      declined = λ k e. tt;
+      adrp-adrp = λ p _ e. Cases.adrp-adrp s KeepsThird tt (λ z. refl) p;
+      adrp-ldr = λ p _ e. Cases.adrp-ldr s KeepsThird tt tt (λ ld t l. refl) p;
+      adrp-add-ldr = λ p _ e. absurd (omega arith);
+      adrp-ldr-got-ldr = λ p _ e. absurd (omega arith);
+      adrp-add-str = λ p _ e. absurd (omega arith);
+      adrp-ldr-got-str = λ p _ e. absurd (omega arith);
+      adrp-add = λ p _ e. Cases.adrp-add s KeepsThird tt (λ d t m l. refl) p;
+      adrp-ldr-got = λ p _ e. Cases.adrp-ldr-got s KeepsThird tt (λ d t m l. refl) tt (λ ld t l. refl) p;
+    })
+    n
+
+-- a hint's words, and its entries
+abbrev pub wordsAt : Insns → List ℕ
+wordsAt s = s .w0 ∷ s .w1 ∷ s .w2 ∷ []
+
+abbrev pub relsAt : Rels → List Rel
+relsAt r = r .r0 ∷ r .r1 ∷ r .r2 ∷ []
+
+-- the halves of a pair, and of two pages
+halves : (r : Rels) (n : ℕ) (got : Bool) → hasPagePair r n got ≡ true
+    → (isPageRel (r .r0) got ≡ true) × (isPageoffRel (r .r1) got ≡ true) × ((ltb n 3 || isAbsent (r .r2)) ≡ true)
+unfolding hasPagePair
+halves r n got e =
+    let f = both _ (ltb n 3 || isAbsent (r .r2)) e in
+    let g = both _ (sameReference (r .r0) (r .r1)) (f .0) in
+    let h = both (isPageRel (r .r0) got) (isPageoffRel (r .r1) got) (g .0) in
+    (h .0, h .1, f .1)
+
+two-halves : (r : Rels) (got : Bool) → hasPagePair r 2 got ≡ true → (isPageRel (r .r0) got && (isPageoffRel (r .r1) got && true)) ≡ false → ⊥
+two-halves r got e f = let h = halves r 2 got e in true≢false (rw (h .0, h .1) at f)
+
+three-halves : (r : Rels) (got : Bool) → hasPagePair r 3 got ≡ true
+    → (isPageRel (r .r0) got && (isPageoffRel (r .r1) got && (isAbsent (r .r2) && true))) ≡ false → ⊥
+three-halves r got e f = let h = halves r 3 got e in true≢false (rw (h .0, h .1, h .2) at f)
+
+two-pages : (r : Rels) → bothPages r ≡ true → (isPageRel (r .r0) false && (isPageRel (r .r1) false && true)) ≡ false → ⊥
+unfolding bothPages
+two-pages r e f = let h = both (isPageRel (r .r0) false) (isPageRel (r .r1) false) e in true≢false (rw (h .0, h .1) at f)
+
+-- a rule that declines where the entries' test is false
+unpaired : (f : Bool → Decision) → f false ≡ Declined → (pair : Bool) → (pair ≡ true → ⊥) → f pair ≡ Declined
+unpaired f e true h = absurd (h refl)
+unpaired f e false h = e
+
+got-ldr-unpaired : (s : Insns) (z : LoadStoreWord) → gotLdrWith s false z ≡ Declined
+unfolding gotLoad choose
+got-ldr-unpaired s L.Other = refl
+got-ldr-unpaired s (L.LoadStore ld) = refl
+
+got-str-unpaired : (s : Insns) (z : LoadStoreWord) → gotStrWith s false z ≡ Declined
+unfolding gotLoad
+got-str-unpaired s L.Other = refl
+got-str-unpaired s (L.LoadStore st) =
+    chosen (λ (d : Decision). d ≡ Declined) (st .«is_store») (gotStrBy s st (gotLoad s false)) Declined (unfold choose in refl) refl
+
+-- entries that are not what the kind says: the hint declines
+pub entries : (n : ℕ) (s : Insns) (r : Rels) → areCarried (wordsOf n) (relsAt r) ≡ false → decide n s r ≡ Declined
+unfolding wordsOf choose adrpAdrp adrpLdr adrpAddLdr adrpAddStr through adrpLdrGotLdr adrpLdrGotStr adrpAdd adrpLdrGot gotLoad
+entries n s r =
+    by-kind s r (λ (k : ℕ) (d : Decision). areCarried (wordsOf k) (relsAt r) ≡ false → d ≡ Declined)
+    (record {
+      declined = λ k f. refl;
+      adrp-adrp = λ p e f. unpaired (adrpAdrp s) refl p (λ t. two-pages r (e ∙ t) f);
+      adrp-ldr = λ p e f. unpaired (adrpLdr s) refl p (λ t. two-halves r false (e ∙ t) f);
+      adrp-add-ldr = λ p e f. unpaired (adrpAddLdr s) refl p (λ t. three-halves r false (e ∙ t) f);
+      adrp-ldr-got-ldr = λ p e f. unpaired (adrpLdrGotLdr s) (got-ldr-unpaired s (loadStoreOf (s .w2))) p (λ t. three-halves r true (e ∙ t) f);
+      adrp-add-str = λ p e f. unpaired (adrpAddStr s) refl p (λ t. three-halves r false (e ∙ t) f);
+      adrp-ldr-got-str = λ p e f. unpaired (adrpLdrGotStr s) (got-str-unpaired s (loadStoreOf (s .w2))) p (λ t. three-halves r true (e ∙ t) f);
+      adrp-add = λ p e f. unpaired (adrpAdd s) refl p (λ t. two-halves r false (e ∙ t) f);
+      adrp-ldr-got = λ p e f. unpaired (adrpLdrGot s) refl p (λ t. two-halves r true (e ∙ t) f);
+    })
+    n
+
+-- where it is rewritten, a hint's words are what the kind says, or what may stand there instead
+abbrev pub Worded : Insns → ℕ → Decision → Type 0
+Worded s k Declined = Unit {0}
+Worded s k Nine = Unit {0}
+Worded s k (Rewritten p) = AreWords (wordsOf k) (wordsAt s)
+
+anyway : (s : Insns) (k : ℕ) (d : Decision) → AreWords (wordsOf k) (wordsAt s) → Worded s k d
+anyway s k Declined h = tt
+anyway s k Nine h = tt
+anyway s k (Rewritten p) h = h
+
+-- what the decoders answer, in the manual's forms
+
+adrp-word : (w : ℕ) (a : Adrp) → adrpOf w ≡ A.Adrp a → IsAdrp w
+adrp-word w a e = record { rd = a .rd; imm21 = a .imm; is = adrp-decodes w a e }
+
+add-word : (w : ℕ) (d : Add) → addOf w ≡ D.Add d → IsAdd w
+add-word w d e = record { rd = d .rd; rn = d .rn; imm12 = d .imm; is = add-decodes w d e }
+
+inside : (a b : LoadStore) → L.LoadStore a ≡ L.LoadStore b → a ≡ b
+inside a b e = cc
+
+-- a load or store of the manual, or a word that is taken as a load of a vector register
+access-word : (w : ℕ) (l : LoadStore) → loadStoreOf w ≡ L.LoadStore l
+    → IsAccess w (l .«is_store») ⊎ (IsTaken w × (l .«is_store» ≡ false) × (l .«is_float» ≡ true))
+access-word w l e = go (takenWord w) refl
+  where
+    go : (t : Bool) → takenWord w ≡ t → IsAccess w (l .«is_store») ⊎ (IsTaken w × (l .«is_store» ≡ false) × (l .«is_float» ≡ true))
+    go false t =
+        let d = load-store-decodes w l e t in
+        let q = inside _ _ (sym (decodes-load-store w _ _ _ _ _ _ d) ∙ e) in
+        inl (record { size = sizeIn w; v = vIn w; opc = opcIn w; rt = _; rn = _; imm12 = _; is = d; row = ap (λ (l : LoadStore). l .«is_store») q })
+    go true t =
+        let d = taken-decodes w t in
+        let q = inside _ _ (sym (d .2) ∙ e) in
+        inr ((
+          (d .1, both (matches loadStore w) (takenAsLoad (sizeIn w) (vIn w) (opcIn w)) t .1),
+          ap (λ (l : LoadStore). l .«is_store») (sym q),
+          ap (λ (l : LoadStore). l .«is_float») (sym q),
+        ))
+
+module _ (w : ℕ) (l : LoadStore) (e : loadStoreOf w ≡ L.LoadStore l) where
+  load-word : l .«is_store» ≡ false → IsAccess w false ⊎ IsTaken w
+  load-word b = ⊎-elim (λ a. inl (subst (IsAccess w) b a)) (λ t. inr (t .0)) (access-word w l e)
+
+  general-word : l .«is_store» ≡ false → l .«is_float» ≡ false → IsAccess w false
+  general-word b g = ⊎-elim (λ a. subst (IsAccess w) b a) (λ t. absurd (true≢false (sym (t .2) ∙ g))) (access-word w l e)
+
+  store-word : l .«is_store» ≡ true → IsAccess w true
+  store-word b = ⊎-elim (λ a. subst (IsAccess w) b a) (λ t. absurd (true≢false (sym b ∙ t .1))) (access-word w l e)
+
+  last-word : IsAccess w false ⊎ (IsAccess w true ⊎ IsTaken w)
+  last-word = ⊎-elim (go (l .«is_store»)) (λ t. inr (inr (t .0))) (access-word w l e)
+    where
+      go : (b : Bool) → IsAccess w b → IsAccess w false ⊎ (IsAccess w true ⊎ IsTaken w)
+      go true a = inr (inl a)
+      go false a = inl a
+
+-- what the decoded words are, with the words that follow them
+module _ (s : Insns) where
+  literal-words : (ld : LoadStore) (target : ℕ) → Literal s ld target → AreWords (Adrp-Page ∷ Ldr-PageOff ∷ []) (wordsAt s)
+  unfolding hasLiteralForm
+  literal-words ld target l = (
+    inl (adrp-word (s .w0) (l .adrp) (l .first)),
+    (load-word (s .w1) ld (l .second) (not-true (ld .«is_store») (both (leb 4 (ld .size)) (not (ld .«is_store»)) (l .form) .1)), tt),
+  )
+
+  made-words : (d : Add) (target : ℕ) → Makes s target d → (ws : List Word) → AreWords ws (s .w2 ∷ [])
+      → AreWords (Adrp-Page ∷ Add-PageOff ∷ ws) (wordsAt s)
+  made-words d target m ws h = (inl (adrp-word (s .w0) (m .adrp) (m .first)), (inl (add-word (s .w1) d (m .second)), h))
+
+  slot-words : (ld : LoadStore) (slot : ℕ) → Loads s slot ld → (ws : List Word) → AreWords ws (s .w2 ∷ [])
+      → AreWords (Adrp-GotPage ∷ Ldr-GotPageOff ∷ ws) (wordsAt s)
+  slot-words ld slot l ws h =
+      let q = eight-bytes ld (l .adrp .rd) (l .loads) in
+      (inl (adrp-word (s .w0) (l .adrp) (l .first)), (inl (general-word (s .w1) ld (l .second) (q .loading) (q .general)), h))
+
+  relaxed-words : (d : Add) (target : ℕ) → Makes s target d → (ws : List Word) → AreWords ws (s .w2 ∷ [])
+      → AreWords (Adrp-GotPage ∷ Ldr-GotPageOff ∷ ws) (wordsAt s)
+  relaxed-words d target m ws h = (inl (adrp-word (s .w0) (m .adrp) (m .first)), (inr (add-word (s .w1) d (m .second)), h))
+
+  -- whatever is decided after a GOT load
+  got-words : (k : ℕ) (f : GotLoad → Decision) (ws : List Word) → wordsOf k ≡ Adrp-GotPage ∷ Ldr-GotPageOff ∷ ws → AreWords ws (s .w2 ∷ [])
+      → f G.Neither ≡ Declined → f G.Over ≡ Nine → (g : GotLoad) → Got s g → Worded s k (f g)
+  got-words k f ws e h n o G.Neither z = rw n tt
+  got-words k f ws e h n o G.Over z = rw o tt
+  got-words k f ws e h n o (G.Slot slot ld) l = anyway s k (f (G.Slot slot ld)) (rw e (slot-words ld slot l ws h))
+  got-words k f ws e h n o (G.Relaxed target d) m = anyway s k (f (G.Relaxed target d)) (rw e (relaxed-words d target m ws h))
+
+  -- whatever is decided of ADRP, ADD and an access
+  adds-words : (k : ℕ) (w : Word) → wordsOf k ≡ Adrp-Page ∷ Add-PageOff ∷ w ∷ [] → (addr : ℕ) (d : Add) (ls : LoadStore) → Adds s addr d ls
+      → IsWord w (s .w2) ⊎ IsInstead w (s .w2) → (x : Decision) → Worded s k x
+  adds-words k w e addr d ls t h x =
+      anyway s k x (rw e (inl (adrp-word (s .w0) (t .adrp) (t .first)), (inl (add-word (s .w1) d (t .second)), (h, tt))))
+
+  add-ldr-words : (x : Through) → ((addr : ℕ) (d : Add) (ls : LoadStore) → x ≡ T.At addr d ls → Adds s addr d ls)
+      → Worded s MCLOH-AdrpAddLdr (adrpAddLdrWith s x)
+  unfolding wordsOf choose
+  add-ldr-words T.Neither f = tt
+  add-ldr-words T.Over f = tt
+  add-ldr-words (T.At addr d ld) f =
+      let t = f addr d ld refl in
+      adds-words MCLOH-AdrpAddLdr Ldr refl addr d ld t (last-word (s .w2) ld (t .third)) (adrpAddLdrWith s (T.At addr d ld))
+
+  add-str-words : (x : Through) → ((addr : ℕ) (d : Add) (ls : LoadStore) → x ≡ T.At addr d ls → Adds s addr d ls)
+      → Worded s MCLOH-AdrpAddStr (adrpAddStrWith s x)
+  unfolding wordsOf
+  add-str-words T.Neither f = tt
+  add-str-words T.Over f = tt
+  add-str-words (T.At addr d st) f =
+      let t = f addr d st refl in
+      split (Worded s MCLOH-AdrpAddStr) (st .«is_store») _ Declined
+      (λ b. adds-words MCLOH-AdrpAddStr Str (unfold choose in refl) addr d st t (inl (store-word (s .w2) st (t .third) b))
+      (summed (sumOf addr (st .offset)) (adrOrFold s addr d st)))
+      (λ b. tt)
+
+  got-ldr-words : (pair : Bool) (z : LoadStoreWord) → loadStoreOf (s .w2) ≡ z → Worded s MCLOH-AdrpLdrGotLdr (gotLdrWith s pair z)
+  unfolding wordsOf choose
+  got-ldr-words pair L.Other e = tt
+  got-ldr-words pair (L.LoadStore ld) e =
+      got-words MCLOH-AdrpLdrGotLdr (gotLdrBy s ld) (Ldr ∷ []) refl (last-word (s .w2) ld e, tt) refl refl (gotLoad s pair) (got s pair)
+
+  got-str-words : (pair : Bool) (z : LoadStoreWord) → loadStoreOf (s .w2) ≡ z → Worded s MCLOH-AdrpLdrGotStr (gotStrWith s pair z)
+  unfolding wordsOf
+  got-str-words pair L.Other e = tt
+  got-str-words pair (L.LoadStore st) e =
+      split (Worded s MCLOH-AdrpLdrGotStr) (st .«is_store») _ Declined
+      (λ b. got-words MCLOH-AdrpLdrGotStr (gotStrBy s st) (Str ∷ []) (unfold choose in refl) (inl (store-word (s .w2) st e b), tt) refl refl
+      (gotLoad s pair) (got s pair))
+      (λ b. tt)
+
+pub worded : (n : ℕ) (s : Insns) (r : Rels) → Worded s n (decide n s r)
+unfolding wordsOf choose adrpAddLdr adrpAddStr adrpLdrGotLdr adrpLdrGotStr adrpLdrGot
+worded n s r =
+    by-kind s r (Worded s)
+    (record {
+      declined = λ k. tt;
+      adrp-adrp = λ p _.
+          Cases.adrp-adrp s (Worded s MCLOH-AdrpAdrp) tt
+          (λ z. (inl (adrp-word (s .w0) _ (z .first)), (inl (adrp-word (s .w1) _ (z .second)), tt))) p;
+      adrp-ldr = λ p _. Cases.adrp-ldr s (Worded s MCLOH-AdrpLdr) tt tt (literal-words s) p;
+      adrp-add-ldr = λ p _. add-ldr-words s (through s p) (adds s p);
+      adrp-ldr-got-ldr = λ p _. got-ldr-words s p (loadStoreOf (s .w2)) refl;
+      adrp-add-str = λ p _. add-str-words s (through s p) (adds s p);
+      adrp-ldr-got-str = λ p _. got-str-words s p (loadStoreOf (s .w2)) refl;
+      adrp-add = λ p _. Cases.adrp-add s (Worded s MCLOH-AdrpAdd) tt (λ d t m l. made-words s d t m [] tt) p;
+      adrp-ldr-got = λ p _. got-words s MCLOH-AdrpLdrGot (adrpLdrGotWith s) [] refl tt refl refl (gotLoad s p) (got s p);
+    })
+    n

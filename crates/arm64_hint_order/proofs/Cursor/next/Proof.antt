@@ -1,0 +1,78 @@
+-- `Cursor::next` meets its contract: a step in the object, or the first one in the next.
+use mathlib.Core.Path.{subst}
+use Rattle.arm64_hint_order.specs.Cursor.{SoundNext}
+use Rattle.arm64_hint_order.specs.Walk.{StepsIn}
+use Rattle.arm64_hint_order.proofs.Walk.{next-object, next-none}
+use borrow.Author.Needs.{needs}
+use Rattle.arm64_hint_order.proofs.Cursor.next.Statement.{statement}
+use Rattle.arm64_hint_order.proofs.Cursor.next.Tie as tie
+
+step-in-requires : tie.Need-step-in-requires
+step-in-requires c κs = search needs
+
+enum-known-step : tie.Need-enum-known-step
+enum-known-step c = search needs
+
+returns : tie.Need-returns
+returns c =
+    let t = c .before .before .before in
+    let a = t .before .before .args in (
+      subst (StepsIn (a .hints .now) (a .self)) (c .before .step .given .1) (t .step-in .ensures .0),
+      subst (SoundNext (a .hints .now)) (c .before .step .given .1) (t .step-in .ensures .1),
+    )
+
+enum-told : tie.Need-enum-told
+enum-told c = search needs
+
+cast-place-from : tie.Need-cast-place-from
+cast-place-from c = search needs
+
+add-place-from : tie.Need-add-place-from
+add-place-from c = search needs
+
+place-from-requires : tie.Need-place-from-requires
+place-from-requires c κs = search needs
+
+enter-requires : tie.Need-enter-requires
+enter-requires c κs = (c .if1 .taken, λ e. c .before .place-from .ensures .begins e (c .if1 .taken))
+
+step-in-requires-2 : tie.Need-step-in-requires-2
+step-in-requires-2 c κs = search needs
+
+returns-2 : tie.Need-returns-2
+returns-2 c =
+    let t = c .before .before .before .before .before .before .before in
+    let a = t .before .before .args in
+    let f = c .before .before .before .place-from in (
+      next-object (a .hints .now) (a .self) (c .before .enter .result) (f .result) (c .step-in2 .result)
+          (subst (StepsIn (a .hints .now) (a .self)) (c .before .before .before .before .before .enum-told .given .1) (t .step-in .ensures .0))
+          (f .ensures .found) (c .before .before .if1 .taken) (c .before .enter .ensures) (c .step-in2 .ensures .0),
+      c .step-in2 .ensures .1,
+    )
+
+returns-3 : tie.Need-returns-3
+returns-3 c =
+    let t = c .before .before .before .before .before in
+    let a = t .before .before .args in
+    let f = c .before .place-from in (
+      next-none (a .hints .now) (a .self) (f .result)
+          (subst (StepsIn (a .hints .now) (a .self)) (c .before .before .before .enum-told .given .1) (t .step-in .ensures .0))
+          (f .ensures .found) (c .if1 .left),
+      tt,
+    )
+
+pub next-spec : {M : Type 1} → statement M
+next-spec =
+    tie.close
+    (tie.spec
+    step-in-requires
+    enum-known-step
+    returns
+    enum-told
+    cast-place-from
+    add-place-from
+    place-from-requires
+    enter-requires
+    step-in-requires-2
+    returns-2
+    returns-3)

@@ -1,0 +1,186 @@
+-- Of an entry a run takes type, target and addend: lists of entries that agree in these have the same run, whatever the other bytes hold, the spare
+-- ones too. Carried by equal decisions; a hint that is not turned down names entries that are there.
+use mathlib.Core.Path.{_≡_, refl, sym, ap, _∙_}
+use mathlib.Core.Logic.{inl, inr}
+use mathlib.Core.Bool.{Bool, true, false}
+use mathlib.Core.List.{List}
+use Prim.Native.Nat.{ℕ, zero, suc, _+_, _*_, _/_, _≤_, _<_}
+use native.Mathlib.Omega.{arith}
+use borrow.Author.Tests.{eqb-false}
+use lib.Dec.{eqb, lit≤}
+use lib.ListN.{length, getD, set, length-set}
+use Rattle.util.specs.Choice.{choose}
+use Rattle.util.specs.Word.{le}
+use Rattle.util.proofs.Choice.{choose-true, choose-false}
+use Rattle.macho.specs.Reloc.{relocAt}
+use Rattle.macho.specs.Hint.{noEntry}
+use Rattle.macho.specs.declared.hint.HintRecord.{HintRecord}
+use Rattle.macho.specs.declared.reloc.Reloc.{Reloc}
+use Rattle.arm64_hint_terms.specs.Rels.{relAt, isPageRel, isPageoffRel, sameReference, isAbsent, hasPagePair, bothPages}
+use Rattle.arm64_decide.specs.Decide.{decide}
+use Rattle.arm64_hint_terms.specs.declared.answer.Insns.{Insns}
+use Rattle.arm64_hint_terms.specs.declared.answer.Decision.{Decision}
+use Rattle.arm64_hint_terms.specs.declared.rels.Rel.{Rel}
+use Rattle.arm64_hint_terms.specs.declared.rels.Rel.the-variants.{Entry, Absent}
+use Rattle.arm64_hint_terms.specs.declared.rels.Rels.{Rels}
+use Rattle.arm64_hint_order.specs.Lists.{All, empty, more}
+use Rattle.arm64_hint_order.specs.Steps.{Work}
+use Rattle.arm64_hint_order.specs.Plan.{wordsAt, putWords, stepOf}
+use Rattle.arm64_hint_order.specs.Cursor.{hintCount, objectAt, lateAt, orderOf}
+use Rattle.arm64_hint_order.proofs.Lists.{less-or, once-inside}
+use Rattle.arm64_hint_order.proofs.Own.{own-once}
+use Rattle.arm64_hint_order.proofs.Same.{run-same}
+use Rattle.arm64_hint_run.specs.Hint.{hintOf, isSkipped, placesOf, insnsOf, relsOf, outcomeOf, newsOf, addOutcome, planOf, Named}
+use Rattle.arm64_hint_run.specs.Check.{checkAll}
+use Rattle.arm64_hint_run.specs.Run.{start, worked, answerBy, imageBy, runOf, imageOf}
+use Rattle.arm64_hint_run.specs.declared.outcome.Outcome.{Outcome}
+use Rattle.arm64_hint_run.specs.declared.outcome.Outcome.the-variants.{Skipped, Worked}
+use Rattle.arm64_hint_run.specs.declared.outcome.Tally.{Tally}
+use Rattle.arm64_hint_run.specs.declared.check.Check.{Check}
+use Rattle.arm64_hint_run.specs.declared.check.Check.the-variants.{Fine, Refused}
+use Rattle.arm64_hint_run.proofs.Checks.{ready, each-fine}
+use Rattle.arm64_hint_run.proofs.Ignored.{le-set}
+
+-- entries that agree in type, target and addend
+pub record AlikeEntry (a b : Reloc) : Type 0 where
+  pub type : a .ty ≡ b .ty
+  pub target : a .target ≡ b .target
+  pub addend : a .addend ≡ b .addend
+
+-- neither place has an entry, or both have alike ones
+pub data SameRel : Rel → Rel → Type 0 where
+  neither : SameRel Absent Absent
+  both : {a b : Reloc} → AlikeEntry a b → SameRel (Entry a) (Entry b)
+
+-- ---- what the entries say
+
+same-page : {a b : Rel} → SameRel a b → (got : Bool) → isPageRel a got ≡ isPageRel b got
+unfolding isPageRel
+same-page neither got = refl
+same-page (both e) got = rw (e .type)
+
+same-pageoff : {a b : Rel} → SameRel a b → (got : Bool) → isPageoffRel a got ≡ isPageoffRel b got
+unfolding isPageoffRel
+same-pageoff neither got = refl
+same-pageoff (both e) got = rw (e .type)
+
+same-absent : {a b : Rel} → SameRel a b → isAbsent a ≡ isAbsent b
+unfolding isAbsent
+same-absent neither = refl
+same-absent (both e) = refl
+
+same-reference : {a b c d : Rel} → SameRel a b → SameRel c d → sameReference a c ≡ sameReference b d
+unfolding sameReference
+same-reference neither neither = refl
+same-reference neither (both f) = refl
+same-reference (both e) neither = refl
+same-reference (both e) (both f) = rw (e .target, e .addend, f .target, f .addend)
+
+module _ (r q : Rels) (first : SameRel (r .r0) (q .r0)) (second : SameRel (r .r1) (q .r1)) (third : SameRel (r .r2) (q .r2)) where
+  same-pair : (n : ℕ) (got : Bool) → hasPagePair r n got ≡ hasPagePair q n got
+  unfolding hasPagePair
+  same-pair n got = rw (same-page first got, same-pageoff second got, same-reference first second, same-absent third)
+
+  same-pages : bothPages r ≡ bothPages q
+  unfolding bothPages
+  same-pages = rw (same-page first false, same-page second false)
+
+  same-decision : (kind : ℕ) (s : Insns) → decide kind s r ≡ decide kind s q
+  unfolding decide
+  same-decision kind s = rw (same-pages, same-pair 2 false, same-pair 3 false, same-pair 3 true, same-pair 2 true)
+
+-- ---- lists of entries
+
+module _ (entries entries′ : List ℕ) (sized : length entries ≡ length entries′)
+    (alike : (k : ℕ) → k < length entries / 24 → AlikeEntry (relocAt entries (24 * k)) (relocAt entries′ (24 * k))) where
+  -- a number that names none, or one that is there
+  same-rel : (m : ℕ) → ((m ≡ noEntry → ⊥) → 24 * m + 24 ≤ length entries) → SameRel (relAt entries m) (relAt entries′ m)
+  unfolding relAt
+  same-rel m there = go (eqb m noEntry) refl
+    where
+      named : List ℕ → Rel
+      named es = Entry (relocAt es (24 * m))
+
+      go : (t : Bool) → eqb m noEntry ≡ t → SameRel (relAt entries m) (relAt entries′ m)
+      go true e = rw (choose-true (eqb m noEntry) Absent (named entries) e, choose-true (eqb m noEntry) Absent (named entries′) e) neither
+      go false e =
+          rw (choose-false (eqb m noEntry) Absent (named entries) e, choose-false (eqb m noEntry) Absent (named entries′) e)
+          (both (alike m (let l = there (eqb-false m noEntry e) in omega arith)))
+
+  same-at : {l : List ℕ} → All (λ k. (k ≡ noEntry → ⊥) → 24 * k + 24 ≤ length entries) l → (i : ℕ)
+      → SameRel (relAt entries (getD l i noEntry)) (relAt entries′ (getD l i noEntry))
+  same-at empty i = same-rel noEntry (λ ne. absurd (ne refl))
+  same-at (more {k = m} h rest) zero = same-rel m h
+  same-at (more h rest) (suc i) = same-at rest i
+
+  same-outcome : (h : HintRecord) (words : List ℕ) → (isSkipped h ≡ false → Named h (length entries)) → outcomeOf entries h words ≡ outcomeOf entries′ h words
+  unfolding outcomeOf relsOf
+  same-outcome h words named = go (isSkipped h) refl
+    where
+      go : (t : Bool) → isSkipped h ≡ t → outcomeOf entries h words ≡ outcomeOf entries′ h words
+      go true e = choose-true (isSkipped h) Skipped _ e ∙ sym (choose-true (isSkipped h) Skipped _ e)
+      go false e =
+          let n = same-at (named e .entries) in
+          ap (λ (d : Decision). choose (isSkipped h) Skipped (Worked d (insnsOf h words)))
+          (same-decision (relsOf entries h) (relsOf entries′ h) (n 0) (n 1) (n 2) (h .kind) (insnsOf h words))
+
+  module _ (image hints : List ℕ) (fine : checkAll (length image) hints (length entries) ≡ Fine) where
+    same-step : (k : ℕ) → k < hintCount hints → (w : Work Tally) → stepOf (planOf hints entries) k w ≡ stepOf (planOf hints entries′) k w
+    same-step k l w =
+        let h = hintOf hints k in
+        let a = same-outcome h (wordsAt (placesOf h) (w .image))
+        (λ e. ready (length image) (length entries) h h refl (each-fine (length image) hints (length entries) fine k l) e .entries) in
+        let p = ap (λ (o : Outcome). putWords (placesOf h) (newsOf o) (w .image)) a in
+        let q = ap (λ (o : Outcome). addOutcome o (w .tally)) a in
+        λ i. record { image = p i; tally = q i }
+
+    same-work : worked image hints entries (orderOf hints) ≡ worked image hints entries′ (orderOf hints)
+    unfolding worked
+    same-work =
+        run-same (stepOf (planOf hints entries)) (stepOf (planOf hints entries′)) (hintCount hints) same-step
+        (once-inside (hintCount hints) (orderOf hints) (own-once (objectAt hints) (lateAt hints) (hintCount hints))) (start image)
+
+  -- the run is the same
+  pub run-alike-entries : (image hints : List ℕ)
+      → (runOf image hints entries ≡ runOf image hints entries′) × (imageOf image hints entries ≡ imageOf image hints entries′)
+  unfolding runOf imageOf
+  run-alike-entries image hints =
+      let c = ap (checkAll (length image) hints) sized in
+      let w = go (checkAll (length image) hints (length entries)) refl in (
+        w .0 ∙ ap (λ (c : Check). answerBy c (worked image hints entries′ (orderOf hints) .tally)) c,
+        w .1 ∙ ap (λ (c : Check). imageBy c image (worked image hints entries′ (orderOf hints) .image)) c,
+      )
+    where
+      go : (c : Check) → checkAll (length image) hints (length entries) ≡ c
+          → (answerBy (checkAll (length image) hints (length entries)) (worked image hints entries (orderOf hints) .tally)
+          ≡ answerBy (checkAll (length image) hints (length entries)) (worked image hints entries′ (orderOf hints) .tally))
+          × (imageBy (checkAll (length image) hints (length entries)) image (worked image hints entries (orderOf hints) .image)
+          ≡ imageBy (checkAll (length image) hints (length entries)) image (worked image hints entries′ (orderOf hints) .image))
+      go (Refused x) e = rw e (refl, refl)
+      go Fine e =
+          let q = same-work image hints e in (
+            ap (λ (w : Work Tally). answerBy (checkAll (length image) hints (length entries)) (w .tally)) q,
+            ap (λ (w : Work Tally). imageBy (checkAll (length image) hints (length entries)) image (w .image)) q,
+          )
+
+-- ---- one byte: the spare ones of an entry
+
+pub spare-bytes : (entries : List ℕ) (k i v : ℕ) → 12 ≤ i → i < 16 → (image hints : List ℕ)
+    → (runOf image hints (set entries (24 * k + i) v) ≡ runOf image hints entries)
+    × (imageOf image hints (set entries (24 * k + i) v) ≡ imageOf image hints entries)
+unfolding relocAt
+spare-bytes entries k i v h l =
+    run-alike-entries (set entries (24 * k + i) v) entries (length-set entries (24 * k + i) v)
+    (λ j b. record {
+      type = beside j 1 4 (lit≤ tt);
+      target = beside j 4 8 (lit≤ tt);
+      addend = after j;
+    })
+  where
+    beside : (j n o : ℕ) → o + n ≤ 12 → le n (set entries (24 * k + i) v) (24 * j + o) ≡ le n entries (24 * j + o)
+    beside j n o b =
+        le-set n entries (24 * j + o) (24 * k + i) v (less-or k j (λ w. inr (omega arith)) (λ w. inl (omega arith)))
+
+    after : (j : ℕ) → le 8 (set entries (24 * k + i) v) (24 * j + 16) ≡ le 8 entries (24 * j + 16)
+    after j =
+        le-set 8 entries (24 * j + 16) (24 * k + i) v (less-or j k (λ w. inl (omega arith)) (λ w. inr (omega arith)))

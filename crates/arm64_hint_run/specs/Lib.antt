@@ -1,0 +1,4 @@
+-- The definitions that the contracts of arm64_hint_run cite.
+pub mod Hint
+pub mod Check
+pub mod Run

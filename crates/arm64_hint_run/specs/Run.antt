@@ -1,0 +1,61 @@
+-- The hint run (document 01, "Fix-up and hint rules" and "The runs of demand 3"; arch/arm64.rs, `apply_hints`): its answer, and the image that it leaves.
+use Prim.Native.Nat.{ℕ}
+use mathlib.Core.List.{List}
+use lib.ListN.{length}
+use Rattle.macho.specs.Refusal as Refusal
+use Rattle.arm64_hint_order.specs.Lists.{runList}
+use Rattle.arm64_hint_order.specs.Steps.{Work}
+use Rattle.arm64_hint_order.specs.Plan.{stepOf}
+use Rattle.arm64_hint_order.specs.Cursor.{orderOf}
+use Rattle.arm64_hint_run.specs.Hint.{planOf}
+use Rattle.arm64_hint_run.specs.Check.{checkAll}
+use Rattle.arm64_hint_run.specs.declared.outcome.Tally.{Tally}
+use Rattle.arm64_hint_run.specs.declared.check.Check.{Check}
+use Rattle.arm64_hint_run.specs.declared.check.Check.the-variants as C
+use Rattle.arm64_hint_run.specs.declared.run.RunAnswer.{RunAnswer}
+use Rattle.arm64_hint_run.specs.declared.run.RunAnswer.the-variants as A
+use Rattle.arm64_hint_run.specs.declared.tally.RunEnd.{RunEnd}
+
+-- four zeros
+abbrev pub zeros : Tally
+zeros = record { rewritten = 0; skipped = 0; declined = 0; «turned_down» = 0 }
+
+-- what the first step works on: the lent image, and four zeros
+abbrev pub start : List ℕ → Work Tally
+start image = record { image = image; tally = zeros }
+
+-- image and tally after the steps of a list of hint positions
+unfoldable pub worked : List ℕ → List ℕ → List ℕ → List ℕ → Work Tally
+worked image hints entries l = runList (stepOf (planOf hints entries)) l (start image)
+
+-- the counts, or the first refusal
+abbrev pub answerBy : Check → Tally → RunAnswer
+answerBy C.Fine t = A.Done t
+answerBy (C.Refused x) t = A.Refused x
+
+-- the image as it was, or the new one
+abbrev pub imageBy : Check → List ℕ → List ℕ → List ℕ
+imageBy C.Fine old new = new
+imageBy (C.Refused x) old new = old
+
+-- what a run answers: the first refusal, or the counts of the steps in the order of work
+unfoldable pub runOf : List ℕ → List ℕ → List ℕ → RunAnswer
+runOf image hints entries = answerBy (checkAll (length image) hints (length entries)) (worked image hints entries (orderOf hints) .tally)
+
+-- the image that it leaves: unchanged where it is turned down
+unfoldable pub imageOf : List ℕ → List ℕ → List ℕ → List ℕ
+imageOf image hints entries = imageBy (checkAll (length image) hints (length entries)) image (worked image hints entries (orderOf hints) .image)
+
+-- document 01's number of an answer, 0 for none
+abbrev pub numberOf : RunAnswer → ℕ
+numberOf (A.Done t) = 0
+numberOf (A.Refused x) = Refusal.numberOf x
+
+-- a lent tally after an answer: the new counts, or the old ones
+abbrev pub tallyAfter : Tally → RunAnswer → Tally
+tallyAfter old (A.Done t) = t
+tallyAfter old (A.Refused x) = old
+
+-- tally and number after an answer
+abbrev pub endOf : Tally → RunAnswer → RunEnd
+endOf old a = record { tally = tallyAfter old a; number = numberOf a }

@@ -1,0 +1,59 @@
+// The work of one hint.
+use crate::hint::is_skipped;
+use crate::hint::rels_of;
+use crate::loh::loh_adrp_add;
+use crate::loh::loh_adrp_add_ldr;
+use crate::loh::loh_adrp_add_str;
+use crate::loh::loh_adrp_adrp;
+use crate::loh::loh_adrp_ldr;
+use crate::loh::loh_adrp_ldr_got;
+use crate::loh::loh_adrp_ldr_got_ldr;
+use crate::loh::loh_adrp_ldr_got_str;
+use crate::outcome::Outcome;
+use arm64_hint_terms::rels::Rels;
+use macho::consts;
+use macho::hint::HintRecord;
+ghost use mathlib.Core.Path.{_≡_};
+ghost use Prim.Native.Nat.{_/_, _<_};
+ghost use lib.ListN.{length};
+ghost use Rattle.arm64_hint_order.specs.Plan.{answered, written};
+ghost use Rattle.arm64_hint_order.specs.Cursor.{hintCount};
+ghost use Rattle.arm64_hint_run.specs.Hint.{hintOf, ruledIn, sectionAfter, planOf, Inside};
+ghost use Rattle.arm64_hint_run.specs.Check.{checkHint};
+ghost use Rattle.arm64_hint_run.specs.declared.check.Check.the-variants.{Fine};
+
+// The rule of a hint's kind on its section: a choice over the kind in place of the Rust's function pointers.
+fn apply(section: &mut [u8], h: HintRecord, r: Rels) -> Outcome
+    requires { ⌜ Inside h (length (now section)) ⌝ }
+    ensures outcome { λ o. ⌜ o ≡ ruledIn (h .kind) h r (now (section .entry)) ⌝ }
+    ensures section { λ _. ⌜ now (section .exit) ≡ sectionAfter (h .kind) h r (now (section .entry)) ⌝ }
+{
+    let kind = h.kind;
+    match kind {
+        consts::LOH_ARM64_ADRP_ADRP => loh_adrp_adrp(section, h, r),
+        consts::LOH_ARM64_ADRP_LDR => loh_adrp_ldr(section, h, r),
+        consts::LOH_ARM64_ADRP_ADD_LDR => loh_adrp_add_ldr(section, h, r),
+        consts::LOH_ARM64_ADRP_LDR_GOT_LDR => loh_adrp_ldr_got_ldr(section, h, r),
+        consts::LOH_ARM64_ADRP_ADD_STR => loh_adrp_add_str(section, h, r),
+        consts::LOH_ARM64_ADRP_LDR_GOT_STR => loh_adrp_ldr_got_str(section, h, r),
+        consts::LOH_ARM64_ADRP_ADD => loh_adrp_add(section, h, r),
+        consts::LOH_ARM64_ADRP_LDR_GOT => loh_adrp_ldr_got(section, h, r),
+        _ => Outcome::Skipped,
+    }
+}
+
+// Works hint k on the image: lends its part to the rule of its kind.
+pub fn work(image: &mut [u8], hints: &[u8], entries: &[u8], k: usize) -> Outcome
+    requires { ⌜ (k < hintCount (now hints)) × (checkHint (length (now image)) (length (now entries) / 24) (hintOf (now hints) k) ≡ Fine) ⌝ }
+    ensures outcome { λ o. ⌜ o ≡ answered (planOf (now (hints .entry)) (now (entries .entry))) k (now (image .entry)) ⌝ }
+    ensures image { λ _. ⌜ now (image .exit) ≡ written (planOf (now (hints .entry)) (now (entries .entry))) k (now (image .entry)) ⌝ }
+{
+    let h = HintRecord::read(hints, 64 * k);
+    if is_skipped(h) {
+        return Outcome::Skipped;
+    }
+    let r = rels_of(entries, h);
+    let start = h.start as usize;
+    let end = start + h.len as usize;
+    apply(&mut image[start..end], h, r)
+}

@@ -1,0 +1,24 @@
+-- `literal_third`: the word made is the literal load's.
+use borrow.Author.Needs.{needs}
+use Rattle.arm64_hint_terms.proofs.plans.literal_third.Statement.{statement}
+use Rattle.arm64_hint_terms.proofs.plans.literal_third.Tie as tie
+use Rattle.arm64_hint_terms.proofs.plans.literal_third.Reads as reads
+use Rattle.arm64_hint_terms.proofs.plans.literal_third.Lts as lts
+use Rattle.arm64_insn.proofs.ldst.LoadStore.to_literal.Reads as to-literal-reads
+use Rattle.arm64_hint_terms.proofs.plans.rewritten.Reads as rewritten-reads
+
+to-literal-requires : tie.Need-to-literal-requires
+to-literal-requires c κs = search needs
+
+rewritten-requires : tie.Need-rewritten-requires
+rewritten-requires c κs = search needs
+
+returns : tie.Need-returns
+returns c =
+    simp (
+      c .rewritten .ensures,
+      c .before .to-literal .ensures,
+    )
+
+pub literal-third-spec : {M : Type 1} → statement M
+literal-third-spec = tie.close (tie.spec to-literal-requires rewritten-requires returns)

@@ -1,6 +1,0 @@
--- The definitions that the contracts of arm64_rules cite.
-pub mod Rels
-pub mod Answer
-pub mod Operands
-pub mod Plans
-pub mod Kinds

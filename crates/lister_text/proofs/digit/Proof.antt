@@ -1,0 +1,32 @@
+-- `digit` meets its contract, on either side of 10. Assumes nothing.
+use borrow.Author.Tests.{lt-ltb, le-ltb}
+use Rattle.util.specs.Choice.{choose}
+use borrow.Author.Needs.{needs}
+use Rattle.lister_text.proofs.digit.Statement.{statement}
+use Rattle.lister_text.proofs.digit.Tie as tie
+use Rattle.lister_text.proofs.digit.Reads as reads
+use Rattle.lister_text.proofs.digit.Lts as lts
+
+add-result : tie.Need-add-result
+add-result c = search needs
+
+cast-result : tie.Need-cast-result
+cast-result c = search needs
+
+returns : tie.Need-returns
+unfolding choose
+returns c = simp (lt-ltb _ _ (c .if1 .taken))
+
+add-result-2 : tie.Need-add-result-2
+add-result-2 c = search needs
+
+cast-result-2 : tie.Need-cast-result-2
+cast-result-2 c = search needs
+
+returns-2 : tie.Need-returns-2
+unfolding choose
+returns-2 c = simp (le-ltb _ _ (c .if1 .left))
+
+pub digit-spec : {M : Type 1} → statement M
+digit-spec =
+    tie.close (tie.spec add-result cast-result returns add-result-2 cast-result-2 returns-2)

@@ -1,0 +1,162 @@
+// The word lister of document 01: each 4-byte word of an input with its offset, its class as the hint decoders see it, and the bytes moved.
+pub mod class;
+
+use class::Class;
+use class::class_of;
+use macho::refusal::Refusal;
+ghost use mathlib.Core.Path.{_≡_};
+ghost use mathlib.Core.List.{_∷_, [], _++_};
+ghost use Prim.Native.Nat.{_+_, _*_, _/_, _≤_, _<_};
+ghost use lib.ListN.{length};
+ghost use Rattle.lister_text.specs.Text.{digitOf, hexOf, decimal, className, lineOf, linesOf, refused, textOf};
+ghost use Rattle.lister_text.specs.Puts.{Puts};
+ghost use Rattle.lister_text.specs.Listing.{listOf, outAfter};
+
+// What a listing answers: why nothing was written, or how many bytes were.
+pub enum ListAnswer {
+    Refused(Refusal),
+    Filled(usize),
+}
+
+// Puts a text at `at`, and answers where it ends.
+fn put(out: &mut [u8], at: usize, text: &[u8]) -> usize
+    requires { ⌜ at + length (now text) ≤ length (now out) ⌝ }
+    ensures { λ r. ⌜ Puts (now (out .entry)) at (now (text .entry)) r (now (out .exit)) ⌝ }
+{
+    let mut i = 0;
+    while i < text.len() {
+        out[at + i] = text[i];
+        i += 1;
+    }
+    at + i
+}
+
+// The ASCII code of a digit.
+fn digit(d: u32) -> u8
+    requires { ⌜ d < 16 ⌝ }
+    ensures { λ r. ⌜ r ≡ digitOf d ⌝ }
+{
+    if d < 10 {
+        return (48 + d) as u8;
+    }
+    (87 + d) as u8
+}
+
+// A word in hexadecimal, and a space.
+fn hex(x: u32) -> [u8; 9]
+    ensures { λ r. ⌜ r ≡ hexOf x ⌝ }
+{
+    [
+        digit(x / 0x1000_0000 % 16),
+        digit(x / 0x100_0000 % 16),
+        digit(x / 0x10_0000 % 16),
+        digit(x / 0x1_0000 % 16),
+        digit(x / 0x1000 % 16),
+        digit(x / 0x100 % 16),
+        digit(x / 0x10 % 16),
+        digit(x % 16),
+        b' ',
+    ]
+}
+
+// Puts a number below 100 in decimal and a newline.
+fn put_size(out: &mut [u8], at: usize, size: u64) -> usize
+    requires { ⌜ at + 3 ≤ length (now out) ⌝ }
+    ensures { λ r. ⌜ Puts (now (out .entry)) at (decimal size ++ (10 ∷ [])) r (now (out .exit)) ⌝ }
+{
+    if size < 10 {
+        let text = [digit((size % 10) as u32), b'\n'];
+        return put(out, at, &text);
+    }
+    let text = [
+        digit((size / 10 % 10) as u32),
+        digit((size % 10) as u32),
+        b'\n',
+    ];
+    put(out, at, &text)
+}
+
+// Puts a class and a newline.
+fn put_class(out: &mut [u8], at: usize, class: Class) -> usize
+    requires { ⌜ at + 9 ≤ length (now out) ⌝ }
+    ensures { λ r. ⌜ Puts (now (out .entry)) at (className class ++ (10 ∷ [])) r (now (out .exit)) ⌝ }
+{
+    match class {
+        Class::Adrp => put(out, at, b"adrp\n"),
+        Class::Add => put(out, at, b"add\n"),
+        Class::Load(size) => {
+            let next = put(out, at, b"load ");
+            put_size(out, next, size)
+        }
+        Class::Store(size) => {
+            let next = put(out, at, b"store ");
+            put_size(out, next, size)
+        }
+        Class::Other => put(out, at, b"other\n"),
+    }
+}
+
+// Puts the line of a word.
+fn put_line(out: &mut [u8], at: usize, offset: u32, word: u32) -> usize
+    requires { ⌜ at + 27 ≤ length (now out) ⌝ }
+    ensures { λ r. ⌜ Puts (now (out .entry)) at (lineOf offset word) r (now (out .exit)) ⌝ }
+{
+    let left = hex(offset);
+    let right = hex(word);
+    let first = put(out, at, &left);
+    let second = put(out, first, &right);
+    put_class(out, second, class_of(word))
+}
+
+// Puts the lines of whole words.
+fn put_lines(input: &[u8], out: &mut [u8]) -> usize
+    requires { ⌜ (length (now input) ≤ 16384) × (27 * (length (now input) / 4) ≤ length (now out)) ⌝ }
+    ensures { λ r. ⌜ Puts (now (out .entry)) 0 (linesOf (now (input .entry)) (length (now (input .entry)) / 4)) r (now (out .exit)) ⌝ }
+{
+    let n = input.len() / 4;
+    let mut i = 0;
+    let mut at = 0;
+    while i < n {
+        at = put_line(out, at, (4 * i) as u32, util::read32(input, 4 * i));
+        i += 1;
+    }
+    at
+}
+
+// Lists words at the start of out, which has 27 bytes or more for each.
+pub fn list(words: &[u8], out: &mut [u8]) -> ListAnswer
+    ensures answer { λ r. ⌜ r ≡ listOf (now (words .entry)) (length (now (out .entry))) ⌝ }
+    ensures out { λ _. ⌜ now (out .exit) ≡ outAfter (now (words .entry)) (now (out .entry)) ⌝ }
+{
+    if words.len() > 16384 {
+        return ListAnswer::Refused(Refusal::Slots);
+    }
+    if out.len() < 27 * (words.len() / 4) {
+        return ListAnswer::Refused(Refusal::Slots);
+    }
+    if words.len() % 4 != 0 {
+        return ListAnswer::Refused(Refusal::Lengths);
+    }
+    ListAnswer::Filled(put_lines(words, out))
+}
+
+// Puts `refused N` and a newline at the start of out.
+fn put_refused(out: &mut [u8], number: u8) -> usize
+    requires { ⌜ (10 ≤ length (now out)) × (number < 10) ⌝ }
+    ensures { λ r. ⌜ Puts (now (out .entry)) 0 (refused number) r (now (out .exit)) ⌝ }
+{
+    let last = digit(number as u32);
+    let text = [b'r', b'e', b'f', b'u', b's', b'e', b'd', b' ', last, b'\n'];
+    put(out, 0, &text)
+}
+
+// Puts what the lister prints of an input at the start of out, and answers how many bytes that is.
+pub fn text(input: &[u8], out: &mut [u8; 110592]) -> usize
+    ensures { λ r. ⌜ Puts (now (out .entry)) 0 (textOf (now (input .entry))) r (now (out .exit)) ⌝ }
+    ensures { λ r. ⌜ r ≤ 110592 ⌝ }
+{
+    match list(input, out) {
+        ListAnswer::Refused(refusal) => put_refused(out, refusal.number()),
+        ListAnswer::Filled(n) => n,
+    }
+}
