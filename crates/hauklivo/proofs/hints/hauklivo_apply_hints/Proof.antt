@@ -194,4 +194,4 @@ hauklivo-apply-hints-spec 𝓤 H 𝓜 𝓖 𝓡 =
     (tables 𝓤 H 𝓜 𝓡 code.env .C) (tables 𝓤 H 𝓜 𝓡 code.env .Λ) #self code.function (code.unfolded 𝓤 H 𝓜 𝓡)
     (meets 𝓤 H (𝓖 .A) (givenOf 𝓤 H 𝓜 𝓖) (𝓜 .mem) (𝓡 .run) (tablesOf 𝓤 H 𝓜 (tables 𝓤 H 𝓜 𝓡 code.env))
     (cited 𝓤 H (Callee 𝓤 H (𝓖 .A) (𝓜 .mem) (𝓡 .run)) 𝓜 𝓡 code.env #callee callee-def.routine
-    code.calls-arm64-hints·tally·apply-hints (callee-thm.met 𝓤 H 𝓜 𝓖 𝓡)))
+    code.calls-arm64-hint-run·tally·apply-hints (callee-thm.met 𝓤 H 𝓜 𝓖 𝓡)))

@@ -204,5 +204,5 @@ has-page-pair-spec 𝓤 H 𝓜 𝓖 𝓡 =
     entered 𝓤 H (tripleOf 𝓤 H (𝓖 .A) f.signature (f.spec 𝓤 H (𝓖 .A) (𝓜 .mem) (𝓡 .run)))
     (tables 𝓤 H 𝓜 𝓡 code.env .C) (tables 𝓤 H 𝓜 𝓡 code.env .Λ) #has-page-pair code.function (code.unfolded 𝓤 H 𝓜 𝓡)
     (has-page-pair-meets 𝓤 H (𝓖 .A) (givenOf 𝓤 H 𝓜 𝓖) (𝓜 .mem) (𝓡 .run) (tablesOf 𝓤 H 𝓜 (tables 𝓤 H 𝓜 𝓡 code.env))
-    (cited 𝓤 H (PagePairIn 𝓤 H (𝓖 .A) (𝓜 .mem) (𝓡 .run)) 𝓜 𝓡 code.env #page-pair-in page-pair-in-def.routine code.calls-arm64-held·place·page-pair-in
+    (cited 𝓤 H (PagePairIn 𝓤 H (𝓖 .A) (𝓜 .mem) (𝓡 .run)) 𝓜 𝓡 code.env #page-pair-in page-pair-in-def.routine code.calls-arm64-hint-words·place·page-pair-in
     (page-pair-in-thm.met 𝓤 H 𝓜 𝓖 𝓡)))
