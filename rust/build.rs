@@ -7,9 +7,7 @@ fn main() {
     println!("cargo:rerun-if-env-changed=HAUKLIVO_LIB_DIR");
     let folder = match env::var_os("HAUKLIVO_LIB_DIR") {
         Some(folder) => PathBuf::from(folder),
-        None => {
-            PathBuf::from(env::var_os("CARGO_MANIFEST_DIR").unwrap()).join("../target/staticlib")
-        }
+        None => PathBuf::from(env::var_os("CARGO_MANIFEST_DIR").unwrap()).join("../target/staticlib"),
     };
     let library = folder.join("libhauklivo.a");
     if !library.is_file() {

@@ -83,7 +83,7 @@ fn words(rng: &mut Rng, kind: u8) -> [u32; 3] {
     let pages = if rng.one_in(2) { rng.below(200) } else { 0x1000 + rng.below(0x1000) } as u32;
     let adrp = 0x9000_0000 | (pages & 3) << 29 | (pages >> 2) << 5 | page;
     let imm = rng.below(256) as u32;
-    let add = 0x9100_0000 | imm * 16 << 10 | page << 5 | made;
+    let add = 0x9100_0000 | ((imm * 16) << 10) | page << 5 | made;
     let slot = 0xf940_0000 | imm << 10 | page << 5 | made;
     let loads = [0xf940_0000, 0xf940_0000, 0xb940_0000, 0x3dc0_0000, 0x3940_0000];
     let stores = [0xf900_0000, 0xf900_0000, 0xb900_0000, 0x3d80_0000, 0x3900_0000];

@@ -92,10 +92,7 @@ impl FixingUp {
         let object = ObjectFile {
             mf: MappedFile { name: "object".into() },
             symbols: (0..targets.len() as u32).collect(),
-            sect_hdrs: vec![
-                MachSection::default(),
-                MachSection { addr: 0, flags: S_THREAD_LOCAL_REGULAR },
-            ],
+            sect_hdrs: vec![MachSection::default(), MachSection { addr: 0, flags: S_THREAD_LOCAL_REGULAR }],
             ..Default::default()
         };
         let ctx = Context::<Arm64> {

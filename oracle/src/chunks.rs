@@ -94,11 +94,7 @@ pub mod lazy_helpers {
     }
 
     /// The helper of entry `r`'s target, a symbol or a section of the entry's own number.
-    pub fn load_helper<E: Target>(
-        ctx: &Context<E>,
-        _isec: usize,
-        r: &Reloc,
-    ) -> Option<(u64, bool)> {
+    pub fn load_helper<E: Target>(ctx: &Context<E>, _isec: usize, r: &Reloc) -> Option<(u64, bool)> {
         let (RelocTarget::Sym(i) | RelocTarget::Section(i)) = r.target();
         ctx.symbols[i].load_helper()
     }
@@ -168,11 +164,7 @@ pub mod delay_init {
         crate::left_out()
     }
 
-    pub fn load_helper<E: Target>(
-        _ctx: &Context<E>,
-        _isec: usize,
-        _r: &Reloc,
-    ) -> Option<(u64, bool)> {
+    pub fn load_helper<E: Target>(_ctx: &Context<E>, _isec: usize, _r: &Reloc) -> Option<(u64, bool)> {
         None
     }
 }

@@ -105,11 +105,7 @@ fn apply_hint(image: &mut [u8], hint: &HintRecord, entries: &[Reloc]) -> Result<
 /// parts within the image, words within their parts, entries that are there, addresses that
 /// go with the offsets, and one answer for an offset that is named twice. An overflow is a stop
 /// here, and ends the run.
-pub fn apply_hints_linked(
-    image: &mut [u8],
-    hints: &[u8],
-    entries: &[u8],
-) -> Option<Result<(), Stop>> {
+pub fn apply_hints_linked(image: &mut [u8], hints: &[u8], entries: &[u8]) -> Option<Result<(), Stop>> {
     let linked = Linked::new(image.len(), hints, entries)?;
     Some(caught(|| linked.run(image)))
 }

@@ -49,12 +49,7 @@ pub fn has_merged_subsecs(_hdr: &MachSection) -> bool {
 
 /// The section a record that is not extern names: ordinals count from 1, and the addend is
 /// lessened by the section's address, wrapping.
-pub fn section_target(
-    file: &Path,
-    sections: &[MachSection],
-    r: &MachRel,
-    addend: u64,
-) -> (RelocTarget, i64) {
+pub fn section_target(file: &Path, sections: &[MachSection], r: &MachRel, addend: u64) -> (RelocTarget, i64) {
     match r.idx().checked_sub(1).and_then(|i| Some((i, sections.get(i as usize)?))) {
         Some((i, hdr)) => (RelocTarget::Section(i), addend.wrapping_sub(hdr.addr) as i64),
         None => crate::fatal!("{}: no such section: {}", file.display(), r.idx()),

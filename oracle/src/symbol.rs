@@ -45,11 +45,7 @@ impl Symbol {
 
     /// What a branch to the symbol is to DTrace.
     pub fn site_kind(&self) -> Option<SiteKind> {
-        if self.has(PROBE) {
-            Some(SiteKind::Probe)
-        } else {
-            self.has(IS_ENABLED).then_some(SiteKind::IsEnabled)
-        }
+        if self.has(PROBE) { Some(SiteKind::Probe) } else { self.has(IS_ENABLED).then_some(SiteKind::IsEnabled) }
     }
 
     pub fn name(&self) -> &'static [u8] {

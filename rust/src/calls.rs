@@ -1,8 +1,8 @@
 //! The calls of libhauklivo.a, as safe functions.
 
 use crate::raw::{
-    hauklivo_apply_hints, hauklivo_apply_reloc_alloc, hauklivo_list, hauklivo_read_relocs,
-    hauklivo_write_stub, hauklivo_write_thunk,
+    hauklivo_apply_hints, hauklivo_apply_reloc_alloc, hauklivo_list, hauklivo_read_relocs, hauklivo_write_stub,
+    hauklivo_write_thunk,
 };
 use crate::{Refusal, Tally};
 
@@ -41,12 +41,7 @@ fn settled<T>(number: u8, answer: T) -> Result<T, Refusal> {
 /// [`Unsupported`](Refusal::Unsupported), [`Bounds`](Refusal::Bounds) of the word that it must fit,
 /// [`Unfit`](Refusal::Unfit), [`Bounds`](Refusal::Bounds) of a stored addend,
 /// [`NoSection`](Refusal::NoSection).
-pub fn read_relocs(
-    contents: &[u8],
-    records: &[u8],
-    sections: &[u64],
-    slots: &mut [u8],
-) -> Result<usize, Refusal> {
+pub fn read_relocs(contents: &[u8], records: &[u8], sections: &[u64], slots: &mut [u8]) -> Result<usize, Refusal> {
     let mut count = 0;
     // SAFETY: every pointer comes with its slice's own length, and what is written is borrowed
     // mutably here.
@@ -148,9 +143,7 @@ pub fn apply_reloc_alloc(
 pub fn write_stub(bytes: &mut [u8], address: u64, pointer: u64) -> Result<bool, Refusal> {
     let mut reaches = 0;
     // SAFETY: as in read_relocs.
-    let number = unsafe {
-        hauklivo_write_stub(bytes.as_mut_ptr(), bytes.len(), address, pointer, &mut reaches)
-    };
+    let number = unsafe { hauklivo_write_stub(bytes.as_mut_ptr(), bytes.len(), address, pointer, &mut reaches) };
     settled(number, reaches == 1)
 }
 
@@ -250,8 +243,6 @@ pub const LINE: usize = 27;
 pub fn list(words: &[u8], out: &mut [u8]) -> Result<usize, Refusal> {
     let mut count = 0;
     // SAFETY: as in read_relocs.
-    let number = unsafe {
-        hauklivo_list(words.as_ptr(), words.len(), out.as_mut_ptr(), out.len(), &mut count)
-    };
+    let number = unsafe { hauklivo_list(words.as_ptr(), words.len(), out.as_mut_ptr(), out.len(), &mut count) };
     settled(number, count)
 }

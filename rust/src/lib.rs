@@ -54,8 +54,5 @@ pub mod records;
 mod refusal;
 
 pub use calls::{LINE, apply_hints, apply_reloc_alloc, list, read_relocs, write_stub, write_thunk};
-pub use records::{
-    Hint, MachRel, Place, Record, Reloc, Report, ReportKind, Resolved, Tally, Target, flag, kind,
-    ty,
-};
+pub use records::{Hint, MachRel, Place, Record, Reloc, Report, ReportKind, Resolved, Tally, Target, flag, kind, ty};
 pub use refusal::Refusal;

@@ -37,13 +37,7 @@ unsafe extern "C" {
     ) -> u8;
 
     /// See [`write_stub`](crate::write_stub); `reaches` gets 1 or 0, only where 0 comes back.
-    pub fn hauklivo_write_stub(
-        bytes: *mut u8,
-        bytes_len: usize,
-        address: u64,
-        pointer: u64,
-        reaches: *mut u8,
-    ) -> u8;
+    pub fn hauklivo_write_stub(bytes: *mut u8, bytes_len: usize, address: u64, pointer: u64, reaches: *mut u8) -> u8;
 
     /// See [`write_thunk`](crate::write_thunk).
     pub fn hauklivo_write_thunk(bytes: *mut u8, bytes_len: usize, address: u64, target: u64) -> u8;
@@ -60,11 +54,5 @@ unsafe extern "C" {
     ) -> u8;
 
     /// See [`list`](crate::list()); `count` is written only where 0 comes back.
-    pub fn hauklivo_list(
-        words: *const u8,
-        words_len: usize,
-        out: *mut u8,
-        out_len: usize,
-        count: *mut usize,
-    ) -> u8;
+    pub fn hauklivo_list(words: *const u8, words_len: usize, out: *mut u8, out_len: usize, count: *mut usize) -> u8;
 }

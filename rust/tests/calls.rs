@@ -1,8 +1,7 @@
 //! Every call, with each refusal that it can give and the lent bytes unchanged after it.
 
 use hauklivo::{
-    Hint, MachRel, Place, Record, Refusal, Reloc, Report, ReportKind, Resolved, Tally, Target,
-    flag, kind, ty,
+    Hint, MachRel, Place, Record, Refusal, Reloc, Report, ReportKind, Resolved, Tally, Target, flag, kind, ty,
 };
 
 const FILL: u8 = 0xa5;
@@ -35,15 +34,7 @@ fn read_all(records: &[MachRel]) -> Result<Vec<Reloc>, Refusal> {
 fn reader_reads() {
     assert_eq!(read_all(&[]), Ok(vec![]));
     // ADDEND -1 and PAGE21 of symbol 5: the offset is the ADDEND record's.
-    let entry = Reloc {
-        offset: 4,
-        ty: ty::PAGE21,
-        size: 4,
-        is_pcrel: 1,
-        target: 5,
-        addend: -1,
-        ..Reloc::default()
-    };
+    let entry = Reloc { offset: 4, ty: ty::PAGE21, size: 4, is_pcrel: 1, target: 5, addend: -1, ..Reloc::default() };
     assert_eq!(read_all(&[record(4, 0xa4ffffff), record(8, 0x3d000005)]), Ok(vec![entry]));
     // A difference: SUBTRACTOR, then the UNSIGNED of 4 bytes that it takes, stored as NOP.
     let pair = [record(0, 0x1c000001), record(0, 0x0c000002)];
@@ -71,10 +62,7 @@ fn reader_refuses() {
     assert_eq!(read_all(&[record(0, 0x06000000)]), Err(Refusal::NoSection));
     assert_eq!(read_all(&[record(0, 0x06000003)]), Err(Refusal::NoSection));
     // A good record before a bad one is not kept.
-    assert_eq!(
-        read_all(&[record(0, 0x3d000005), record(0, 0xf0000000)]),
-        Err(Refusal::Unsupported)
-    );
+    assert_eq!(read_all(&[record(0, 0x3d000005), record(0, 0xf0000000)]), Err(Refusal::Unsupported));
 }
 
 /// A section after a fix-up at 0x1000 with thread-local storage from 0x100, and the reports. What
@@ -113,10 +101,7 @@ fn at(address: u64) -> Resolved {
 fn fixup_fixes() {
     assert_eq!(fix(&[], &[]), Ok((vec![], vec![])));
     let branch = Resolved { branch: 0xffc, ..Resolved::default() };
-    assert_eq!(
-        fix(&[0x94000000], &[(entry(0, ty::BRANCH26, 4), branch)]),
-        Ok((bytes(&[0x97ffffff]), vec![]))
-    );
+    assert_eq!(fix(&[0x94000000], &[(entry(0, ty::BRANCH26, 4), branch)]), Ok((bytes(&[0x97ffffff]), vec![])));
     let tls = Resolved { flags: flag::HAS_ADDRESS | flag::THREAD_LOCAL, ..at(0x180) };
     assert_eq!(fix(&[7, 8], &[(entry(0, ty::UNSIGNED, 8), tls)]), Ok((bytes(&[0x80, 0]), vec![])));
     let pair = [(entry(4, ty::SUBTRACTOR, 4), at(0x3000)), (entry(4, ty::UNSIGNED, 4), at(0x2ff0))];
@@ -149,9 +134,8 @@ fn fixup_reports() {
 fn fixup_refuses() {
     let pointer = entry(0, ty::UNSIGNED, 8).to_bytes();
     let target = at(0x2000).to_bytes();
-    let lists = |entries: &[u8], targets: &[u8], slots| {
-        fix_bytes(&[FILL; 8], 0x1000, entries, targets, slots).unwrap_err()
-    };
+    let lists =
+        |entries: &[u8], targets: &[u8], slots| fix_bytes(&[FILL; 8], 0x1000, entries, targets, slots).unwrap_err();
     assert_eq!(lists(&pointer[..23], &target, 24), Refusal::Lengths);
     assert_eq!(lists(&pointer, &target[..47], 24), Refusal::Lengths);
     assert_eq!(lists(&pointer, &[], 24), Refusal::Lengths);
@@ -193,8 +177,7 @@ fn numbers_in_order() {
     assert_eq!(fix(entry(6, ty::SUBTRACTOR, 8), at(0)), Refusal::LoneSubtractor); // not Bounds
     let section = Reloc { target: Target::SECTION, ..entry(6, ty::POINTER_TO_GOT, 4) };
     assert_eq!(fix(section, at(0)), Refusal::NeedsSymbol); // not Bounds
-    let high =
-        fix_bytes(&[FILL; 8], u64::MAX, Reloc::bytes(&[entry(1, 200, 8)]), &at(0).to_bytes(), 24);
+    let high = fix_bytes(&[FILL; 8], u64::MAX, Reloc::bytes(&[entry(1, 200, 8)]), &at(0).to_bytes(), 24);
     assert_eq!(high, Err(Refusal::Overflow)); // not Unsupported
 }
 
@@ -223,11 +206,7 @@ fn halves() -> [Reloc; 2] {
 /// A hint whose words stand one after another from `start`, the first at `address`, with the entries
 /// 0 and 1 on the first two.
 fn hint(kind: u8, words: u8, object: u32, start: u32, address: u64) -> Hint {
-    let place = |i: u32, entry| Place {
-        offset: 4 * i,
-        entry,
-        address: address.wrapping_add(4 * u64::from(i)),
-    };
+    let place = |i: u32, entry| Place { offset: 4 * i, entry, address: address.wrapping_add(4 * u64::from(i)) };
     let places = [place(0, 0), place(1, 1), place(2, Place::WITHOUT_ENTRY)];
     Hint { kind, words, object, start, length: 4 * u32::from(words), places, ..Hint::default() }
 }
@@ -251,11 +230,7 @@ fn hints_work() {
     for (kind, before, after) in [
         (kind::ADRP_LDR, vec![0x90000000, 0xf9400401], [NOP, 0x58000021].to_vec()),
         (kind::ADRP_ADD, vec![0x90000000, 0x91000c00], [0x70000000, NOP].to_vec()),
-        (
-            kind::ADRP_ADD_STR,
-            vec![0x90001000, 0x91004000, 0xf9000001],
-            vec![0x90001000, NOP, 0xf9000801],
-        ),
+        (kind::ADRP_ADD_STR, vec![0x90001000, 0x91004000, 0xf9000001], vec![0x90001000, NOP, 0xf9000801]),
     ] {
         let hints = [hint(kind, before.len() as u8, 0, 0, 0x1000)];
         assert_eq!(work(&before, &hints), Ok((bytes(&after), one)));
@@ -338,33 +313,11 @@ fn refused_calls_leave_numbers() {
     // SAFETY: slices of this function, none lent twice.
     unsafe {
         let s = none.as_ptr();
-        let number = raw::hauklivo_read_relocs(
-            s,
-            0,
-            [0; 7].as_ptr(),
-            7,
-            sections.as_ptr(),
-            0,
-            p,
-            24,
-            &mut count,
-        );
+        let number = raw::hauklivo_read_relocs(s, 0, [0; 7].as_ptr(), 7, sections.as_ptr(), 0, p, 24, &mut count);
         assert_eq!((number, count), (1, 77));
         let mut b = none;
         let b = b.as_mut_ptr();
-        let number = raw::hauklivo_apply_reloc_alloc(
-            b,
-            0,
-            0,
-            0,
-            [0; 7].as_ptr(),
-            7,
-            s,
-            0,
-            p,
-            24,
-            &mut count,
-        );
+        let number = raw::hauklivo_apply_reloc_alloc(b, 0, 0, 0, [0; 7].as_ptr(), 7, s, 0, p, 24, &mut count);
         assert_eq!((number, count), (1, 77));
         assert_eq!((raw::hauklivo_write_stub(b, 0, 0, 0, &mut reaches), reaches), (3, 77));
         assert_eq!(raw::hauklivo_write_thunk(b, 0, 0, 0), 3);
@@ -401,15 +354,9 @@ fn records_convert() {
     assert_eq!((report.place, report.target), (0x0f0e0d0c0b0a0908, 0x1716151413121110));
     let list: Vec<u8> = (0..64).collect();
     let h = Hint::from_bytes(&list).unwrap();
-    assert_eq!(
-        (h.kind, h.words, h.object, h.start, h.length),
-        (0, 1, 0x07060504, 0x0b0a0908, 0x0f0e0d0c)
-    );
+    assert_eq!((h.kind, h.words, h.object, h.start, h.length), (0, 1, 0x07060504, 0x0b0a0908, 0x0f0e0d0c));
     assert_eq!((h.places[1].offset, h.places[1].entry), (0x23222120, 0x27262524));
-    assert_eq!(
-        (h.places[0].address, h.places[2].address),
-        (0x1f1e1d1c1b1a1918, 0x3f3e3d3c3b3a3938)
-    );
+    assert_eq!((h.places[0].address, h.places[2].address), (0x1f1e1d1c1b1a1918, 0x3f3e3d3c3b3a3938));
     for target in [Target::Symbol(7), Target::Section(7)] {
         assert_eq!(Reloc { target: target.pack(), ..Reloc::default() }.target(), target);
     }

@@ -92,7 +92,7 @@ pub fn steps(pairs: &[(Reloc, Resolved)]) -> Vec<usize> {
 
 /// Numbers 1 and 2, of the lengths of lists.
 pub fn of_lengths(entries: usize, targets: usize, slots: usize) -> Option<u8> {
-    if entries % 24 != 0 || targets % 48 != 0 {
+    if !entries.is_multiple_of(24) || !targets.is_multiple_of(48) {
         return Some(1);
     }
     let n = entries / 24;

@@ -229,7 +229,7 @@ fn adrp_add_access(n: &[Named], stores: bool) -> Ended {
     if let Some(way) = literal_or_adr(n, target % 4 == 0, target, target, stores) {
         return Ok(way);
     }
-    when(address % size != 0, Way::FoldUnaligned)?;
+    when(!address.is_multiple_of(size), Way::FoldUnaligned)?;
     when(offset != 0, Way::FoldOffset)?;
     Ok(if is_store && !stores { Way::FoldStore } else { Way::Fold })
 }
@@ -290,13 +290,13 @@ fn relaxed(n: &[Named], kind: u8, target: u64) -> Ended {
     let offset = immediate(n[2].word) * size;
     let stores = kind == 6;
     let mut end = target;
-    if !stores && !is_store && size >= 4 && target % 4 == 0 {
+    if !stores && !is_store && size >= 4 && target.is_multiple_of(4) {
         end = target.checked_add(offset).ok_or(Way::SecondSum)?;
     }
-    if let Some(way) = literal_or_adr(n, target % 4 == 0, end, target, stores) {
+    if let Some(way) = literal_or_adr(n, target.is_multiple_of(4), end, target, stores) {
         return Ok(way);
     }
-    when(target % size != 0, Way::FoldUnaligned)?;
+    when(!target.is_multiple_of(size), Way::FoldUnaligned)?;
     when(if stores { offset != 0 } else { immediate(n[1].word) + offset >= 4096 }, Way::FoldOffset)?;
     Ok(if is_store && !stores { Way::FoldStore } else { Way::Fold })
 }

@@ -82,7 +82,7 @@ impl Case {
 /// Number 1, of the lengths of lists.
 pub fn of_lengths(hints: usize, entries: usize) -> Option<u8> {
     let most = u32::MAX as usize;
-    let is_list = |len: usize, size: usize| len % size == 0 && len / size <= most;
+    let is_list = |len: usize, size: usize| len.is_multiple_of(size) && len / size <= most;
     (!is_list(hints, Hint::SIZE) || !is_list(entries, Reloc::SIZE)).then_some(1)
 }
 

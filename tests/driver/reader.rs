@@ -41,7 +41,7 @@ pub type Answer = Result<Vec<u8>, u8>;
 /// Numbers 1 and 2, of the lengths of lists.
 pub fn of_lengths(records: usize, sections: usize, slots: usize) -> Option<u8> {
     let most = u32::MAX as usize;
-    if records % 8 != 0 || records / 8 > most || sections > most {
+    if !records.is_multiple_of(8) || records / 8 > most || sections > most {
         return Some(1);
     }
     (slots < 24 * (records / 8)).then_some(2)

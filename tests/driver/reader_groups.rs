@@ -215,7 +215,7 @@ fn damaged(index: u64, world: &World, table: &mut Table) -> Verdict {
 fn damage(rng: &mut Rng, case: &mut Case) {
     let records = case.records.len();
     match rng.below(8) {
-        0 | 1 | 2 => flip(rng, &mut case.records),
+        0..=2 => flip(rng, &mut case.records),
         3 => flip(rng, &mut case.contents),
         4 => {
             let len = case.contents.len();

@@ -68,10 +68,8 @@ fn answer(line: &str) -> String {
     let fields: Vec<&str> = line.split_whitespace().collect();
     match fields[..] {
         ["read", contents, records, sections] => {
-            let sections: Vec<u64> = bytes(sections)
-                .chunks_exact(8)
-                .map(|s| u64::from_le_bytes(s.try_into().unwrap()))
-                .collect();
+            let sections: Vec<u64> =
+                bytes(sections).chunks_exact(8).map(|s| u64::from_le_bytes(s.try_into().unwrap())).collect();
             match oracle::read_relocs(&bytes(contents), &bytes(records), &sections) {
                 Ok(entries) => format!("entries {}", hex(&entries)),
                 Err(stop) => stopped(stop.reader_number(), &stop),
@@ -80,13 +78,7 @@ fn answer(line: &str) -> String {
         ["fix", section, base, tls, entries, targets] => {
             let mut section = bytes(section);
             let (entries, targets) = (bytes(entries), bytes(targets));
-            match oracle::apply_reloc_alloc(
-                &mut section,
-                number(base),
-                number(tls),
-                &entries,
-                &targets,
-            ) {
+            match oracle::apply_reloc_alloc(&mut section, number(base), number(tls), &entries, &targets) {
                 Ok(fixed) => format!("fixed {} {}", hex(&section), hex(&fixed.reports)),
                 Err(stop) => stopped(stop.fixup_number(), &stop),
             }

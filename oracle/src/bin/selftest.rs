@@ -44,10 +44,7 @@ struct Facts {
 }
 
 fn target(f: Facts) -> Vec<u8> {
-    let mut t: Vec<u8> = [f.address, f.got, f.branch, f.thunk, f.helper]
-        .iter()
-        .flat_map(|a| a.to_le_bytes())
-        .collect();
+    let mut t: Vec<u8> = [f.address, f.got, f.branch, f.thunk, f.helper].iter().flat_map(|a| a.to_le_bytes()).collect();
     t.extend(words(&[f.flags, 0]));
     t
 }
@@ -84,9 +81,8 @@ fn fix_one(word: u32, base: u64, e: &[u8], f: Facts) -> Result<(u32, Vec<u8>), u
 fn sequence(kind: u8, list: &[u32]) -> Vec<u32> {
     let mut image = words(list);
     let entries = [entry(0, 3, 4, 5, 0), entry(4, 4, 4, 5, 0)].concat();
-    let places: Vec<_> = (0..list.len() as u32)
-        .map(|i| (4 * i, if i < 2 { i } else { NO_ENTRY }, 0x1000 + 4 * i as u64))
-        .collect();
+    let places: Vec<_> =
+        (0..list.len() as u32).map(|i| (4 * i, if i < 2 { i } else { NO_ENTRY }, 0x1000 + 4 * i as u64)).collect();
     let hints = hint(kind, 0, (0, image.len() as u32), &places);
     let mut linked = image.clone();
     let run = oracle::apply_hints(&mut image, &hints, &entries).unwrap();
@@ -104,29 +100,17 @@ fn bench_pieces() {
     assert_eq!(Arm64::adrp_page(0xf0ff_ffe0, 0x1234), 0);
     assert_eq!(sequence(2, &[0x9000_0000, 0xf940_0401]), [NOP, 0x5800_0021]);
     assert_eq!(sequence(7, &[0x9000_0000, 0x9100_0c00]), [0x7000_0000, NOP]);
-    assert_eq!(
-        sequence(5, &[0x9000_1000, 0x9100_4000, 0xf900_0001]),
-        [0x9000_1000, NOP, 0xf900_0801]
-    );
+    assert_eq!(sequence(5, &[0x9000_1000, 0x9100_4000, 0xf900_0001]), [0x9000_1000, NOP, 0xf900_0801]);
     let at = |address| Facts { address, flags: ADDRESS, ..Default::default() };
     let pageoff = entry(0, 4, 4, 5, 0);
     assert_eq!(Arm64::write_add_ldst(0xf940_0000, 0x1238), Ok(0xf941_1c00));
     assert_eq!(Arm64::write_add_ldst(0xf940_0000, 0x1234), Err(8));
     assert_eq!(fix_one(0xf940_0000, 0x1000, &pageoff, at(0x1238)), Ok((0xf941_1c00, vec![])));
-    assert_eq!(
-        fix_one(0xf940_0000, 0x1000, &pageoff, at(0x1234)),
-        Ok((0xf940_0000, report(0, 3, 8, 0, 0)))
-    );
+    assert_eq!(fix_one(0xf940_0000, 0x1000, &pageoff, at(0x1234)), Ok((0xf940_0000, report(0, 3, 8, 0, 0))));
     let branch = Facts { branch: 0xffc, ..Default::default() };
-    assert_eq!(
-        fix_one(0x9400_0000, 0x1000, &entry(0, 2, 4, 5, 0), branch),
-        Ok((0x97ff_ffff, vec![]))
-    );
+    assert_eq!(fix_one(0x9400_0000, 0x1000, &entry(0, 2, 4, 5, 0), branch), Ok((0x97ff_ffff, vec![])));
     let relaxed = Facts { address: 0x1234, flags: RELAXES, ..Default::default() };
-    assert_eq!(
-        fix_one(0xf940_0000, 0x1000, &entry(0, 6, 4, 5, 0), relaxed),
-        Ok((0x9108_d000, vec![]))
-    );
+    assert_eq!(fix_one(0xf940_0000, 0x1000, &entry(0, 6, 4, 5, 0), relaxed), Ok((0x9108_d000, vec![])));
     let mut page = entry(0, 3, 4, 5, -1);
     page[6] = 1;
     let records = [record(0, 0xa4ff_ffff), record(0, 0x3d00_0005)].concat();
@@ -157,8 +141,7 @@ fn stops() {
     assert_eq!(read(&[0; 8], &record(0, 0x0600_0001)), Ok(entry(0, 0, 8, SECTION, -0x100)));
 
     let fix = |len: usize, base: u64, e: &[u8]| {
-        oracle::apply_reloc_alloc(&mut vec![0; len], base, 0, e, &target(Facts::default()))
-            .unwrap_err()
+        oracle::apply_reloc_alloc(&mut vec![0; len], base, 0, e, &target(Facts::default())).unwrap_err()
     };
     assert!(matches!(fix(8, u64::MAX, &entry(1, 2, 4, 0, 0)), Stop::Overflow(_)));
     assert!(matches!(fix(8, 0, &entry(0, 7, 4, SECTION, 0)), Stop::NoneUnwrap(_)));
@@ -198,8 +181,7 @@ fn facts() {
     assert_eq!(page(Facts { address: far, ..at }).unwrap().1, report(0, 1, 0, 0x1000, far));
     let mut section = words(&[0x9000_0000]);
     let none = target(Facts { flags: 0, ..at });
-    let fixed =
-        oracle::apply_reloc_alloc(&mut section, 0, 0, &entry(0, 3, 4, 0, 0), &none).unwrap();
+    let fixed = oracle::apply_reloc_alloc(&mut section, 0, 0, &entry(0, 3, 4, 0, 0), &none).unwrap();
     assert_eq!(fixed.without_address, [0]);
 
     let branch = |sym, a, f| fix_one(0x1400_0000, 0x1000, &entry(0, 2, 4, sym, a), f);
@@ -213,10 +195,7 @@ fn facts() {
     assert_eq!(branch(0, 0, Facts { flags: PROBE, ..out }), Ok((NOP, vec![])));
     assert_eq!(branch(0, 0, Facts { flags: IS_ENABLED, ..out }), Ok((0xd280_0000, vec![])));
     let section = Facts { address: 0x1008, ..out };
-    assert_eq!(
-        branch(SECTION, 0, Facts { flags: PROBE | THUNK, ..section }),
-        Ok((0x1400_0002, vec![]))
-    );
+    assert_eq!(branch(SECTION, 0, Facts { flags: PROBE | THUNK, ..section }), Ok((0x1400_0002, vec![])));
 
     let got = |ty, sym, f| fix_one(0xf940_0000, 0x1000, &entry(0, ty, 4, sym, 0), f);
     let slot = Facts { address: 0x5678, got: 0x3210, helper: 0x1040, ..Default::default() };
@@ -258,14 +237,7 @@ fn facts() {
         Facts { flags: RELAXES, ..Default::default() },
         Facts { address: 4, flags: ADDRESS, ..Default::default() },
     ];
-    let fixed = oracle::apply_reloc_alloc(
-        &mut section,
-        0,
-        0,
-        &entries.concat(),
-        &list.map(target).concat(),
-    )
-    .unwrap();
+    let fixed = oracle::apply_reloc_alloc(&mut section, 0, 0, &entries.concat(), &list.map(target).concat()).unwrap();
     let expected = [report(2, 1, 0, 8, far), report(3, 4, 0, 0, 0), report(4, 3, 8, 0, 0)];
     assert_eq!(fixed.reports, expected.concat());
     assert_eq!(section[..8], [0x20, 0, 0, 0, 0, 0, 0, 0]);
@@ -351,8 +323,7 @@ fn hint_runs() {
         let mut entries = Vec::new();
         for &kind in &kinds {
             list.extend(sequence_words(&mut r, kind));
-            let page =
-                if [4, 6, 8].contains(&kind) { r.pick(&[5, 8]) } else { r.pick(&[3, 3, 5, 8]) };
+            let page = if [4, 6, 8].contains(&kind) { r.pick(&[5, 8]) } else { r.pick(&[3, 3, 5, 8]) };
             for ty in [page, if kind == 1 { page } else { page + 1 }, 2] {
                 let ty = if r.below(40) == 0 { r.below(11) as u8 } else { ty };
                 let (target, addend) = if r.below(40) == 0 { (6, 1) } else { (5, 0) };
@@ -433,8 +404,7 @@ fn overlaps() {
             bytes[3] = 0x91;
             bytes[4..4 + k].copy_from_slice(&free[3 - k..3]);
             let word = |at: usize| u32::from_le_bytes(bytes[at..at + 4].try_into().unwrap());
-            let (Some(add), Some(access)) = (Arm64::parse_add(word(0)), Arm64::parse_ldst(word(k)))
-            else {
+            let (Some(add), Some(access)) = (Arm64::parse_add(word(0)), Arm64::parse_ldst(word(k))) else {
                 continue;
             };
             cases += 1;

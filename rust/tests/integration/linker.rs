@@ -70,9 +70,7 @@ pub struct ObjectFile {
 impl ObjectFile {
     /// The subsection that holds the words of a hint.
     pub fn hint_subsec(&self, isecs: &[InputSection], addrs: &[u64]) -> Option<usize> {
-        let holds = |s: &InputSection, a| {
-            a >= u64::from(s.input_addr) && a < u64::from(s.input_addr + s.size)
-        };
+        let holds = |s: &InputSection, a| a >= u64::from(s.input_addr) && a < u64::from(s.input_addr + s.size);
         isecs.iter().position(|s| addrs.iter().all(|&a| holds(s, a)))
     }
 }
@@ -110,14 +108,7 @@ impl InputSection {
         Some(0)
     }
 
-    pub fn check_text_reloc<E>(
-        &self,
-        ctx: &Context<E>,
-        _isec_id: usize,
-        _rels: &[Reloc],
-        i: usize,
-        addr: u64,
-    ) {
+    pub fn check_text_reloc<E>(&self, ctx: &Context<E>, _isec_id: usize, _rels: &[Reloc], i: usize, addr: u64) {
         ctx.told.borrow_mut().push(format!("pointer {i} at {addr:x}"));
     }
 
@@ -217,6 +208,8 @@ pub mod delay_init {
 }
 
 pub mod stubs {
+    // the machine that mold-macho names
+    #[allow(clippy::extra_unused_type_parameters)]
     pub fn entry_offset<E>(i: u32) -> u64 {
         12 * u64::from(i)
     }

@@ -34,8 +34,7 @@ pub struct Reloc {
 // SAFETY: both are repr(C) without padding, and of integers alone.
 unsafe impl hauklivo::Record for MachRel {}
 unsafe impl hauklivo::Record for Reloc {}
-const _: () =
-    assert!(MachRel::SIZE == hauklivo::MachRel::SIZE && Reloc::SIZE == hauklivo::Reloc::SIZE);
+const _: () = assert!(MachRel::SIZE == hauklivo::MachRel::SIZE && Reloc::SIZE == hauklivo::Reloc::SIZE);
 
 fn read_relocs(
     file_name: &Path,
@@ -71,30 +70,22 @@ fn resolved(ctx: &Context<Arm64>, isec_id: usize, rels: &[Reloc], base: u64) -> 
     targets
 }
 
-fn facts(
-    ctx: &Context<Arm64>,
-    isec_id: usize,
-    rels: &[Reloc],
-    i: usize,
-    base: u64,
-    t: &mut Resolved,
-) {
+fn facts(ctx: &Context<Arm64>, isec_id: usize, rels: &[Reloc], i: usize, base: u64, t: &mut Resolved) {
     let (isec, r) = (&ctx.isecs[isec_id], &rels[i]);
     let file = &ctx.objs[isec.file as usize];
     let p = base.wrapping_add(r.offset as u64);
     let sym = r.sym(file);
     if r.ty == ty::GOT_LOAD_PAGE21
-        && let Some((helper, own)) = lazy_helpers::load_helper(ctx, isec_id, r)
-            .or_else(|| delay_init::load_helper(ctx, isec_id, r))
+        && let Some((helper, own)) =
+            lazy_helpers::load_helper(ctx, isec_id, r).or_else(|| delay_init::load_helper(ctx, isec_id, r))
     {
-        (t.helper, t.flags) = (helper, flag::HAS_HELPER | flag::HELPER_OWN * u32::from(own));
+        (t.helper, t.flags) = (helper, flag::HAS_HELPER | (flag::HELPER_OWN * u32::from(own)));
         return;
     }
     match (r.ty, sym) {
         (ty::UNSIGNED, _) => {
             isec.check_text_reloc(ctx, isec_id, rels, i, p);
-            t.flags |= flag::IMPORTED
-                * u32::from(sym.is_some_and(|id| ctx.symbols[id].binds_as_import(ctx)));
+            t.flags |= flag::IMPORTED * u32::from(sym.is_some_and(|id| ctx.symbols[id].binds_as_import(ctx)));
             t.flags |= flag::THREAD_LOCAL * u32::from(r.refers_to_tls(ctx, file));
         }
         (ty::BRANCH26, Some(id)) => match dtrace::site_kind(ctx, id) {
@@ -107,9 +98,7 @@ fn facts(
                 }
             }
         },
-        (ty::PAGE21 | ty::PAGEOFF12, _) => {
-            t.flags |= flag::HAS_ADDRESS * u32::from(isec.target_has_address(ctx, r))
-        }
+        (ty::PAGE21 | ty::PAGEOFF12, _) => t.flags |= flag::HAS_ADDRESS * u32::from(isec.target_has_address(ctx, r)),
         (ty::GOT_LOAD_PAGE21..=ty::TLVP_LOAD_PAGEOFF12, Some(id)) => {
             if r.ty != ty::POINTER_TO_GOT && ctx.symbols[id].can_relax_got(ctx) {
                 t.flags |= flag::RELAXES_GOT;
@@ -121,13 +110,7 @@ fn facts(
     }
 }
 
-fn apply_reloc_alloc(
-    ctx: &Context<Arm64>,
-    rels: &[Reloc],
-    isec_id: usize,
-    base: u64,
-    buf: &mut [u8],
-) {
+fn apply_reloc_alloc(ctx: &Context<Arm64>, rels: &[Reloc], isec_id: usize, base: u64, buf: &mut [u8]) {
     let isec = &ctx.isecs[isec_id];
     let targets = resolved(ctx, isec_id, rels, base);
     let mut reports = vec![Report::default(); rels.len()]; // better kept by the thread, like targets
@@ -164,11 +147,7 @@ fn write_thunk(ctx: &Context<Arm64>, addr: u64, syms: &[SymbolId], buf: &mut [u8
     }
 }
 
-fn hint_insns(
-    ctx: &Context<Arm64>,
-    obj: &ObjectFile,
-    addrs: &[u64],
-) -> Option<(usize, Range<usize>, [Place; 3])> {
+fn hint_insns(ctx: &Context<Arm64>, obj: &ObjectFile, addrs: &[u64]) -> Option<(usize, Range<usize>, [Place; 3])> {
     let id = obj.hint_subsec(&ctx.isecs, addrs)?;
     let isec = &ctx.isecs[id];
     if !isec.is_emitted() || isec.offset == u32::MAX {
@@ -207,8 +186,7 @@ fn apply_hints(ctx: &Context<Arm64>, buf: &mut [u8]) {
                 continue;
             }
             let Some((id, range, places)) = hint_insns(ctx, obj, addrs) else { continue };
-            let hint =
-                Hint { kind: *kind, words, length: range.len() as u32, places, ..Hint::default() };
+            let hint = Hint { kind: *kind, words, length: range.len() as u32, places, ..Hint::default() };
             parts.entry(id).or_insert((range, Vec::new())).1.push(hint);
         }
         for (id, (range, hints)) in parts {
@@ -227,8 +205,7 @@ fn apply_hints(ctx: &Context<Arm64>, buf: &mut [u8]) {
 fn sketches_are_these() {
     let here = include_str!("main.rs");
     let document = include_str!("../../../docs/INTEGRATION.md");
-    let blocks: Vec<_> =
-        document.split("```rust\n").skip(1).map(|rest| rest.split("```").next().unwrap()).collect();
+    let blocks: Vec<_> = document.split("```rust\n").skip(1).map(|rest| rest.split("```").next().unwrap()).collect();
     assert!(blocks.len() >= 6);
     for block in blocks {
         assert!(here.contains(block), "not in main.rs:\n{block}");
@@ -247,22 +224,11 @@ fn record(offset: u32, idx: u32, is_pcrel: bool, p2size: u8, ty: u8) -> MachRel 
 /// One object with symbols 0 (near) and 1 (imported), and with a subsection of 40 bytes at 0x1000.
 fn context(rels: Vec<Reloc>) -> Context<Arm64> {
     let near = Symbol { addr: 0x2010, got: 0x3000, thunk: Some(0x1800), ..Symbol::default() };
-    let far = Symbol {
-        got: 0x3008,
-        is_imported: true,
-        site: Some(SiteKind::IsEnabled),
-        ..Symbol::default()
-    };
+    let far = Symbol { got: 0x3008, is_imported: true, site: Some(SiteKind::IsEnabled), ..Symbol::default() };
     let probe = Symbol { site: Some(SiteKind::Probe), ..Symbol::default() };
     let loh = vec![(7, vec![0, 4]), (9, vec![]), (7, vec![0])];
     Context {
-        objs: vec![ObjectFile {
-            is_reachable: true,
-            symbols: vec![0, 1, 2],
-            loh,
-            rels,
-            ..ObjectFile::default()
-        }],
+        objs: vec![ObjectFile { is_reachable: true, symbols: vec![0, 1, 2], loh, rels, ..ObjectFile::default() }],
         isecs: vec![InputSection { size: 40, ..InputSection::default() }],
         symbols: vec![near, far, probe],
         stubs: Stubs { symbols: vec![1] },
@@ -274,8 +240,7 @@ fn context(rels: Vec<Reloc>) -> Context<Arm64> {
 
 #[test]
 fn reads_fixes_and_works_hints() {
-    let mut section =
-        bytes(&[0x90000000, 0x91000000, 0x94000000, 0x94000000, 0x90000000, 0, 0, 0, 0, 0]);
+    let mut section = bytes(&[0x90000000, 0x91000000, 0x94000000, 0x94000000, 0x90000000, 0, 0, 0, 0, 0]);
     let records = [
         record(0, 0, true, 2, ty::PAGE21),
         record(4, 0, false, 2, ty::PAGEOFF12),
@@ -303,12 +268,7 @@ fn reads_fixes_and_works_hints() {
 #[test]
 fn taken_entries_are_not_asked() {
     let entry = |offset, ty| Reloc { offset, ty, size: 8, target: 1, ..Reloc::default() };
-    let rels = [
-        entry(0, ty::SUBTRACTOR),
-        entry(0, ty::PAGE21),
-        entry(8, ty::SUBTRACTOR),
-        entry(8, ty::SUBTRACTOR),
-    ];
+    let rels = [entry(0, ty::SUBTRACTOR), entry(0, ty::PAGE21), entry(8, ty::SUBTRACTOR), entry(8, ty::SUBTRACTOR)];
     let rels = [&rels[..], &[Reloc { is_subtracted: 1, ..entry(16, ty::UNSIGNED) }]].concat();
     let ctx = context(rels);
     let targets = resolved(&ctx, 0, &ctx.objs[0].rels, 0x1000);
