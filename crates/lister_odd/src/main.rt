@@ -1,6 +1,0 @@
-// The word lister on 7 bytes, which are no whole words.
-fn main() {
-    let mut input = [0u8; 16385];
-    let mut out = [0u8; 110592];
-    lister_io::run(&mut input, &mut out);
-}
