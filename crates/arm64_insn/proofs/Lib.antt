@@ -2,6 +2,7 @@
 pub mod ManualClasses
 pub mod Manual
 pub mod ManualTargets
+pub mod Kept
 pub mod ManualMasks
 pub mod ManualAssembled
 pub mod ManualLines

@@ -18,9 +18,17 @@ pub enum AddWord {
 }
 
 impl Add {
+    // sf, op, S, 100010 and sh: bits 31..22.
     pub const MASK: u32 = 0xffc0_0000;
 
+    // sf 1, op 0, S 0, 100010, sh 0.
     pub const FIXED: u32 = 0x9100_0000;
+
+    // Of either width: op, S, 100010 and sh, bits 30..22.
+    pub const EITHER_MASK: u32 = 0x7fc0_0000;
+
+    // Of either width: op 0, S 0, 100010, sh 0.
+    pub const EITHER_FIXED: u32 = 0x1100_0000;
 
     // The Rust's parse_add.
     pub fn decode(insn: u32) -> AddWord
@@ -49,5 +57,5 @@ pub fn is_add(insn: u32) -> bool
 pub fn is_add_either(insn: u32) -> bool
     ensures { λ r. ⌜ r ≡ matches addUnshifted insn ⌝ }
 {
-    insn & 0x7fc0_0000 == 0x1100_0000
+    insn & Add::EITHER_MASK == Add::EITHER_FIXED
 }

@@ -17,9 +17,17 @@ pub enum AdrpWord {
 }
 
 impl Adrp {
+    // op and 10000: bits 31 and 28..24.
     pub const MASK: u32 = 0x9f00_0000;
 
+    // op 1, 10000.
     pub const FIXED: u32 = 0x9000_0000;
+
+    // Those of ADR: op 0, 10000.
+    pub const ADR_FIXED: u32 = 0x1000_0000;
+
+    // immlo and immhi: bits 30..29 and 23..5.
+    pub const IMM: u32 = 0x60ff_ffe0;
 
     // The Rust's is_adrp, with the fields.
     pub fn decode(insn: u32) -> AdrpWord
@@ -50,5 +58,5 @@ pub fn adr(rd: u32, target: u64, pc: u64) -> u32
     ensures { λ r. ⌜ r ≡ adrWord rd target pc ⌝ }
 {
     let delta = (util::wrapping_sub(target, pc) % 0x20_0000) as u32;
-    0x1000_0000 + (delta % 4) * 0x2000_0000 + (delta / 4) * 0x20 + rd
+    Adrp::ADR_FIXED + (delta % 4) * 0x2000_0000 + (delta / 4) * 0x20 + rd
 }

@@ -1,4 +1,6 @@
 // Words with their page or page offset replaced.
+use crate::add::Add;
+use crate::adrp::Adrp;
 use crate::ldst::LoadStore;
 use crate::page::page_offset;
 ghost use mathlib.Core.Path.{_≡_};
@@ -10,15 +12,11 @@ pub const NOP: u32 = 0xd503_201f;
 // "movz x0, #0": what BRANCH26 writes at an is-enabled site.
 pub const IS_ENABLED: u32 = 0xd280_0000;
 
-const ADRP_IMM: u32 = 0x60ff_ffe0;
-
-const IMM12: u32 = 0x003f_fc00;
-
 // The word of an ADRP at lo, pointed at hi's page (the Rust's write_adrp).
 pub fn write_adrp_word(insn: u32, hi: u64, lo: u64) -> u32
     ensures { λ r. ⌜ r ≡ adrpWith insn hi lo ⌝ }
 {
-    (insn & !ADRP_IMM) + page_offset(hi, lo)
+    (insn & !Adrp::IMM) + page_offset(hi, lo)
 }
 
 // log2 of the bytes that imm12 of an ADD, LDR or STR counts.
@@ -26,7 +24,7 @@ fn scale_of(insn: u32) -> u32
     ensures { λ r. ⌜ r ≡ scaleOf insn ⌝ }
 {
     if insn & LoadStore::MASK == LoadStore::FIXED {
-        if insn & 0xc480_0000 == 0x0480_0000 {
+        if insn & LoadStore::QUAD_MASK == LoadStore::QUAD_FIXED {
             return 4;
         }
         return insn / 0x4000_0000 % 4;
@@ -49,12 +47,12 @@ pub fn write_add_ldst_word(insn: u32, val: u64) -> Fit
         return Fit::Misaligned(size as u32);
     }
     let imm = (val % 0x1000 / size) as u32;
-    Fit::Word((insn & !IMM12) + imm * 0x400)
+    Fit::Word((insn & !LoadStore::IMM12) + imm * 0x400)
 }
 
 // The LDR or ADD of a relaxed GOT load: "add Xn, Xm, #pageoff" of the same registers.
 pub fn relaxed_word(insn: u32, target: u64) -> u32
     ensures { λ r. ⌜ r ≡ relaxedWord insn target ⌝ }
 {
-    0x9100_0000 + insn % 0x400 + ((target % 0x1000) as u32) * 0x400
+    Add::FIXED + insn % 0x400 + ((target % 0x1000) as u32) * 0x400
 }

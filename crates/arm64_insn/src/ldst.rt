@@ -61,9 +61,50 @@ pub enum LoadStoreWord {
 }
 
 impl LoadStore {
+    // 111 and 01: bits 29..27 and 25..24.
     pub const MASK: u32 = 0x3b00_0000;
 
+    // 111, 01.
     pub const FIXED: u32 = 0x3900_0000;
+
+    // Within the class, what tells 16 bytes of a vector register: size, V and the high bit of opc, bits 31..30, 26 and 23.
+    pub const QUAD_MASK: u32 = 0xc480_0000;
+
+    // size 00, V 1, opc 1x.
+    pub const QUAD_FIXED: u32 = 0x0480_0000;
+
+    // LDR of Wt or Xt: the high bit of size, 111, V, 01 and opc, bits 31 and 29..22.
+    pub const LDR_MASK: u32 = 0xbfc0_0000;
+
+    // size 1x, 111, V 0, 01, opc 01.
+    pub const LDR_FIXED: u32 = 0xb940_0000;
+
+    // LDR of Xt: size 11, 111, V 0, 01, opc 01.
+    pub const LDR_X: u32 = 0xf940_0000;
+
+    // imm12, of an ADD too: bits 21..10.
+    pub const IMM12: u32 = 0x003f_fc00;
+
+    // All but Rn and imm12: size, 111, V, 01, opc and Rt, bits 31..22 and 4..0.
+    pub const BUT_ADDRESS: u32 = 0xffc0_001f;
+
+    // Bits 31..24 of a load register (literal), opc 011 V 00, of Wt: opc 00, V 0.
+    pub const LITERAL_W: u32 = 0x18;
+
+    // Of Xt: opc 01, V 0.
+    pub const LITERAL_X: u32 = 0x58;
+
+    // LDRSW: opc 10, V 0.
+    pub const LITERAL_SW: u32 = 0x98;
+
+    // Of St: opc 00, V 1.
+    pub const LITERAL_S: u32 = 0x1c;
+
+    // Of Dt: opc 01, V 1.
+    pub const LITERAL_D: u32 = 0x5c;
+
+    // Of Qt: opc 10, V 1.
+    pub const LITERAL_Q: u32 = 0x9c;
 
     // The Rust's parse_ldst.
     pub fn decode(insn: u32) -> LoadStoreWord
@@ -117,7 +158,7 @@ impl LoadStore {
     {
         let size = self.size;
         let imm = (offset / size) as u32;
-        (self.insn & 0xffc0_001f) + base * 0x20 + imm * 0x400
+        (self.insn & Self::BUT_ADDRESS) + base * 0x20 + imm * 0x400
     }
 }
 
@@ -127,25 +168,25 @@ fn literal_op(size: u64, is_float: bool, is_ldrsw: bool) -> u32
 {
     if size == 4 {
         if is_float {
-            return 0x1c;
+            return LoadStore::LITERAL_S;
         }
         if is_ldrsw {
-            return 0x98;
+            return LoadStore::LITERAL_SW;
         }
-        return 0x18;
+        return LoadStore::LITERAL_W;
     }
     if size == 8 {
         if is_float {
-            return 0x5c;
+            return LoadStore::LITERAL_D;
         }
-        return 0x58;
+        return LoadStore::LITERAL_X;
     }
-    0x9c
+    LoadStore::LITERAL_Q
 }
 
 // Whether a word is "ldr Xt|Wt, [Xn, #imm]".
 pub fn is_ldr_imm(insn: u32) -> bool
     ensures { λ r. ⌜ r ≡ matches ldrImmediate insn ⌝ }
 {
-    insn & 0xbfc0_0000 == 0xb940_0000
+    insn & LoadStore::LDR_MASK == LoadStore::LDR_FIXED
 }

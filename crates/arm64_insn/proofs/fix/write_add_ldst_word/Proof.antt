@@ -1,27 +1,22 @@
 -- `write_add_ldst_word` meets its contract: the mask keeps the fields beside imm12, and the page offset has room there. Assumes nothing.
 use mathlib.Core.Path.{ap}
-use mathlib.Core.List.{List, [], _∷_}
 use Prim.Native.Nat.{_%_, _^_}
 use native.Mathlib.Omega.{arith}
 use native.Mathlib.Nat.{div-le-self}
 use borrow.Author.Tests.{eq-eqb, ne-eqb}
 use lib.Pow.{pow-pos, pow-mono}
 use Rattle.util.specs.Choice.{choose}
-use Rattle.util.specs.Diagram.{Part, free, fixed}
 use Rattle.util.proofs.Diagram.{kept}
 use Rattle.arm64_insn.specs.Fix.{scaleOf, offsetWith}
 use Rattle.arm64_insn.specs.declared.fix.Fit.the-variants.{Word}
 use Rattle.arm64_insn.proofs.Scale.{scale-le, scaled}
+use Rattle.arm64_insn.proofs.Kept.{besideImm12}
 use borrow.Author.Needs.{needs}
 use Rattle.arm64_insn.proofs.fix.write_add_ldst_word.Statement.{statement}
 use Rattle.arm64_insn.proofs.fix.write_add_ldst_word.Tie as tie
 use Rattle.arm64_insn.proofs.fix.write_add_ldst_word.Reads as reads
 use Rattle.arm64_insn.proofs.fix.write_add_ldst_word.Lts as lts
 use Rattle.arm64_insn.proofs.fix.scale_of.Reads as scale-of-reads
-
--- Rt and Rn, and bits 31 to 22
-abbrev rest : List Part
-rest = fixed 10 0 ∷ free 12 ∷ fixed 10 0 ∷ []
 
 scale-of-requires : tie.Need-scale-of-requires
 scale-of-requires c κs = search needs
@@ -66,14 +61,14 @@ add-t12 : tie.Need-add-t12
 add-t12 c =
     let a = c .before .before .args in
     let e = scaled (a .insn) (c .before .scale-of .result) (c .before .scale-of .ensures) in
-    rw (e, kept rest (a .insn)) (omega (arith, div-le-self (a .val % 4096) (2 ^ scaleOf (a .insn))))
+    rw (e, kept besideImm12 (a .insn)) (omega (arith, div-le-self (a .val % 4096) (2 ^ scaleOf (a .insn))))
 
 returns-2 : tie.Need-returns-2
 unfolding offsetWith choose
 returns-2 c =
     let a = c .before .before .args in
     let e = scaled (a .insn) (c .before .scale-of .result) (c .before .scale-of .ensures) in
-    rw (e, eq-eqb _ _ (rw e at (c .if1 .left)), kept rest (a .insn)) (ap Word (omega arith))
+    rw (e, eq-eqb _ _ (rw e at (c .if1 .left)), kept besideImm12 (a .insn)) (ap Word (omega arith))
 
 pub write-add-ldst-word-spec : {M : Type 1} → statement M
 write-add-ldst-word-spec =

@@ -1,18 +1,13 @@
 -- `with_base` meets its contract: the mask keeps the 10 high bits and the register. Assumes nothing.
-use mathlib.Core.List.{List, [], _∷_}
 use native.Mathlib.Omega.{arith}
-use Rattle.util.specs.Diagram.{Part, free, fixed}
 use Rattle.util.proofs.Diagram.{kept}
 use Rattle.arm64_insn.specs.Literal.{baseWord}
+use Rattle.arm64_insn.proofs.Kept.{besideAddress}
 use borrow.Author.Needs.{needs}
 use Rattle.arm64_insn.proofs.ldst.LoadStore.with_base.Statement.{statement}
 use Rattle.arm64_insn.proofs.ldst.LoadStore.with_base.Tie as tie
 use Rattle.arm64_insn.proofs.ldst.LoadStore.with_base.Reads as reads
 use Rattle.arm64_insn.proofs.ldst.LoadStore.with_base.Lts as lts
-
--- Rt, and bits 31 to 22
-abbrev ends : List Part
-ends = fixed 5 0 ∷ free 17 ∷ fixed 10 0 ∷ []
 
 div-imm : tie.Need-div-imm
 div-imm c = search needs
@@ -24,17 +19,17 @@ mul-result : tie.Need-mul-result
 mul-result c = search needs
 
 add-result : tie.Need-add-result
-add-result c = rw (kept ends (c .before .args .self .insn)) (omega arith)
+add-result c = rw (kept besideAddress (c .before .args .self .insn)) (omega arith)
 
 mul-result-2 : tie.Need-mul-result-2
 mul-result-2 c = search needs
 
 add-result-2 : tie.Need-add-result-2
-add-result-2 c = rw (kept ends (c .before .args .self .insn)) (omega arith)
+add-result-2 c = rw (kept besideAddress (c .before .args .self .insn)) (omega arith)
 
 returns : tie.Need-returns
 unfolding baseWord
-returns c = rw (kept ends (c .before .args .self .insn)) (omega arith)
+returns c = rw (kept besideAddress (c .before .args .self .insn)) (omega arith)
 
 pub with-base-spec : {M : Type 1} → statement M
 with-base-spec =
