@@ -1,22 +1,24 @@
--- Demand 3: the theorems. Carried by the law of a hint's step and by order's laws of lists of planned steps.
+-- Demand 3: the theorems. Carried by the law of a hint's step and by the order's laws of lists of steps.
 use mathlib.Core.Path.{_≡_, refl, sym, ap, _∙_, subst}
 use mathlib.Core.Bool.{true, false}
 use mathlib.Core.List.{List, [], _∷_, _++_}
 use Prim.Native.Nat.{ℕ, _<_}
 use native.Mathlib.Omega.{arith}
 use lib.ListN.{length}
+use Rattle.util.proofs.All.{all-map}
+use Rattle.util.proofs.Cases.{less-or}
 use Rattle.macho.specs.declared.hint.HintRecord.{HintRecord}
+use Rattle.image.specs.Words.{wordsAt}
+use Rattle.image.specs.Steps.{Work, written, stepOf}
 use Rattle.arm64_hint_order.specs.Lists.{count, Once}
-use Rattle.arm64_hint_order.specs.Steps.{Work}
-use Rattle.arm64_hint_order.specs.Plan.{wordsAt, written, stepOf}
 use Rattle.arm64_hint_order.specs.Cursor.{hintCount, objectAt, lateAt, orderOf}
-use Rattle.arm64_hint_order.proofs.Lists.{all-map, run-append, count-append, count-here, less-or}
+use Rattle.arm64_hint_order.proofs.Lists.{run-append, count-append, count-here}
 use Rattle.arm64_hint_order.proofs.Own.{own-once}
 use Rattle.arm64_hint_order.proofs.Runs as Runs
 use Rattle.arm64_machine.specs.Machine.{Other, State}
 use Rattle.arm64_machine.specs.SameRun.{SameRun}
 use Rattle.arm64_machine.proofs.FairLaws as FairLaws
-use Rattle.arm64_hint_run.specs.Hint.{hintOf, isSkipped, placesOf, planOf}
+use Rattle.arm64_hint_run.specs.Hint.{hintOf, isSkipped, placesOf, stepsOf}
 use Rattle.arm64_hint_run.specs.Run.{start, worked, runOf, imageOf}
 use Rattle.arm64_hint_run.specs.declared.outcome.Tally.{Tally}
 use Rattle.arm64_hint_run.specs.declared.run.RunAnswer.{RunAnswer}
@@ -45,7 +47,7 @@ module _ (image hints entries : List ℕ) (t : Tally) (e : runOf image hints ent
 
   -- a hint's step on an image as long as the lent one
   step : (k : ℕ) → k < hintCount hints → isSkipped (hintOf hints k) ≡ false → (x : List ℕ) → length x ≡ length image → Fair (hintOf hints k) x
-      → Same (hintOf hints k) x (written (planOf hints entries) k x)
+      → Same (hintOf hints k) x (written (stepsOf hints entries) k x)
   step k l s x size fair =
       let h = hintOf hints k in
       let r = checked k l s in
@@ -58,7 +60,7 @@ module _ (image hints entries : List ℕ) (t : Tally) (e : runOf image hints ent
         own : worked image hints entries l ≡ worked image hints entries (orderOf hints)
         own =
             unfold worked in
-            Runs.parts (planOf hints entries) (hintCount hints) add-swap (λ k. partBytes (hintOf hints k))
+            Runs.parts (stepsOf hints entries) (hintCount hints) add-swap (λ k. partBytes (hintOf hints k))
             inside-part (objectAt hints) (lateAt hints) apart l once kept (start image)
 
     -- a member of the list is a hint's position
@@ -74,13 +76,13 @@ module _ (image hints entries : List ℕ) (t : Tally) (e : runOf image hints ent
         subst (λ (y : List ℕ). Same (hintOf hints k) (worked image hints entries a .image) y) (sym next)
         (step k (position a k b q) s (worked image hints entries a .image) size fair)
       where
-        next : worked image hints entries (a ++ k ∷ []) .image ≡ written (planOf hints entries) k (worked image hints entries a .image)
-        next = unfold worked in ap (λ (w : Work Tally). w .image) (run-append (stepOf (planOf hints entries)) a (k ∷ []) (start image))
+        next : worked image hints entries (a ++ k ∷ []) .image ≡ written (stepsOf hints entries) k (worked image hints entries a .image)
+        next = unfold worked in ap (λ (w : Work Tally). w .image) (run-append (stepOf (stepsOf hints entries)) a (k ∷ []) (start image))
 
         size : length (worked image hints entries a .image) ≡ length image
         size =
             unfold worked in
-            ap length (Runs.image-of (planOf hints entries) (hintCount hints) a (start image)) ∙ Runs.size (planOf hints entries) (hintCount hints) a image
+            ap length (Runs.image-of (stepsOf hints entries) (hintCount hints) a (start image)) ∙ Runs.size (stepsOf hints entries) (hintCount hints) a image
 
     ended : (k : ℕ) → k < hintCount hints → isSkipped (hintOf hints k) ≡ false → Alone hints k → Fair (hintOf hints k) image
         → Same (hintOf hints k) image (worked image hints entries l .image)
@@ -88,11 +90,11 @@ module _ (image hints entries : List ℕ) (t : Tally) (e : runOf image hints ent
         subst (SameRun (codes (hintOf hints k) image)) (sym (codes-same (hintOf hints k) _ _ own)) (step k h s image refl fair)
       where
         own : wordsAt (placesOf (hintOf hints k)) (worked image hints entries l .image)
-            ≡ wordsAt (placesOf (hintOf hints k)) (written (planOf hints entries) k image)
+            ≡ wordsAt (placesOf (hintOf hints k)) (written (stepsOf hints entries) k image)
         own =
             unfold worked in
-            ap (wordsAt (placesOf (hintOf hints k))) (Runs.image-of (planOf hints entries) (hintCount hints) l (start image))
-            ∙ Runs.ends (planOf hints entries) (hintCount hints) k h alone l once image
+            ap (wordsAt (placesOf (hintOf hints k))) (Runs.image-of (stepsOf hints entries) (hintCount hints) l (start image))
+            ∙ Runs.ends (stepsOf hints entries) (hintCount hints) k h alone l once image
 
 -- DEMAND 3, of every list of a run's hint steps with each hint once
 pub demand-3 : (image hints entries : List ℕ) (t : Tally) → runOf image hints entries ≡ A.Done t

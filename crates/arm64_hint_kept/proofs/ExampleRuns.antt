@@ -6,8 +6,8 @@ use Prim.Native.Nat.{ℕ}
 use native.Mathlib.Omega.{arith}
 use lib.Dec.{lit<}
 use Rattle.macho.specs.declared.hint.HintRecord.{HintRecord}
+use Rattle.image.specs.Steps.{Work}
 use Rattle.arm64_hint_order.specs.Lists.{Once}
-use Rattle.arm64_hint_order.specs.Steps.{Work}
 use Rattle.arm64_hint_order.specs.Cursor.{hintCount, orderOf}
 use Rattle.arm64_hint_run.specs.Hint.{hintOf}
 use Rattle.arm64_hint_run.specs.Run.{worked, runOf, imageOf}

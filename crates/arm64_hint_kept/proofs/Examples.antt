@@ -14,10 +14,10 @@ use Rattle.macho.specs.Types.{ARM64-RELOC-PAGE21, ARM64-RELOC-PAGEOFF12, ARM64-
 use Rattle.macho.specs.Hint.{noEntry, hintBytes, wordCount}
 use Rattle.macho.specs.declared.hint.HintInsn.{HintInsn}
 use Rattle.macho.specs.declared.hint.HintRecord.{HintRecord}
+use Rattle.image.specs.Steps.{Work}
 use Rattle.arm64_hint_terms.specs.declared.answer.Rewrite.{Rewrite}
 use Rattle.arm64_hint_terms.specs.declared.answer.Rewrite.the-variants.{Drop, Literal, Adr, Fold, Slot}
 use Rattle.arm64_hint_terms.specs.declared.answer.Decision.the-variants as D
-use Rattle.arm64_hint_order.specs.Steps.{Work}
 use Rattle.arm64_hint_order.specs.Cursor.{orderOf}
 use Rattle.arm64_machine.specs.Machine.{State, Other}
 use Rattle.arm64_machine.specs.Premises.{linksVector}

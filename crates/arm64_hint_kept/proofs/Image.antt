@@ -6,16 +6,16 @@ use native.Mathlib.Nat.{mod-eq-of-lt}
 use native.Mathlib.Omega.{arith}
 use lib.ListN.{length}
 use Rattle.util.specs.Word.{le, put}
+use Rattle.util.specs.All.{All, more}
 use Rattle.util.proofs.Word.{length-put, le-ext, le-put}
+use Rattle.util.proofs.All.{all-map}
+use Rattle.image.specs.Words.{span, inWords, wordsAt, putWords}
+use Rattle.image.specs.Local.{Apart}
+use Rattle.image.proofs.Words.{span-in, put-writes, puts-write, words-read}
+use Rattle.image.proofs.Local.{apart-sym, leaves}
 use Rattle.arm64_hint_terms.specs.declared.answer.NewWord.{NewWord}
 use Rattle.arm64_hint_terms.specs.declared.answer.NewWord.the-variants.{Keep, Set}
 use Rattle.arm64_hint_laws.proofs.Written.{Fits}
-use Rattle.arm64_hint_order.specs.Lists.{All, more}
-use Rattle.arm64_hint_order.specs.Local.{Apart}
-use Rattle.arm64_hint_order.specs.Plan.{span, inWords, wordsAt, putWords}
-use Rattle.arm64_hint_order.proofs.Lists.{all-map}
-use Rattle.arm64_hint_order.proofs.Local.{apart-sym, leaves}
-use Rattle.arm64_hint_order.proofs.Plan.{span-in, put-writes, puts-write, words-read}
 use Rattle.arm64_machine.specs.Premises.{Each}
 use Rattle.arm64_hint_words.specs.Place.{newOf}
 use Rattle.arm64_hint_kept.specs.Demand3.{Disjoint}

@@ -6,20 +6,20 @@ use Prim.Native.Nat.{ℕ, _+_, _^_, _≤_, _<_}
 use lib.Dec.{lit<}
 use lib.ListN.{length}
 use Rattle.util.specs.Word.{le}
+use Rattle.util.specs.All.{All}
 use Rattle.util.proofs.Choice.{choose-false}
 use Rattle.util.proofs.Word.{le-lt}
+use Rattle.util.proofs.Cases.{same-or}
 use Rattle.macho.specs.Hint.{insnAt, hintAt, wordCount}
 use Rattle.macho.specs.declared.hint.HintInsn.{HintInsn}
 use Rattle.macho.specs.declared.hint.HintRecord.{HintRecord}
+use Rattle.image.specs.Words.{wordsAt, putWords}
+use Rattle.image.proofs.Words.{puts-none}
 use Rattle.arm64_decide.specs.Decide.{decide}
 use Rattle.arm64_hint_terms.specs.declared.answer.Plan.{Plan}
 use Rattle.arm64_hint_terms.specs.declared.answer.Decision.{Decision}
 use Rattle.arm64_hint_terms.specs.declared.answer.Decision.the-variants.{Declined, Nine, Rewritten}
 use Rattle.arm64_hint_laws.proofs.Written.{AllFit, all-fit}
-use Rattle.arm64_hint_order.specs.Lists.{All}
-use Rattle.arm64_hint_order.specs.Plan.{wordsAt, putWords}
-use Rattle.arm64_hint_order.proofs.Lists.{same-or}
-use Rattle.arm64_hint_order.proofs.Plan.{puts-none}
 use Rattle.arm64_machine.specs.Machine.{Placed, placed}
 use Rattle.arm64_machine.specs.SameRun.{SameRun}
 use Rattle.arm64_machine.specs.Premises as Machine

@@ -7,16 +7,17 @@ use Prim.Native.Nat.{ℕ, _+_, _%_, _<_}
 use borrow.Author.Tests.{ltb-true, leb-true, eqb-true, not-true}
 use lib.Dec.{eqb, ltb, leb}
 use lib.ListN.{getD}
+use Rattle.util.specs.All.{All, empty, more}
 use Rattle.util.proofs.Choice.{both}
 use Rattle.util.proofs.Below.{every, every-at}
 use Rattle.macho.specs.declared.hint.HintRecord.{HintRecord}
-use Rattle.arm64_hint_order.specs.Lists.{All, empty, more, count, ofObj, Once, passes, bound}
-use Rattle.arm64_hint_order.specs.Local.{Apart}
-use Rattle.arm64_hint_order.specs.Plan.{span, inWords}
+use Rattle.image.specs.Words.{span, inWords}
+use Rattle.image.specs.Local.{Apart}
+use Rattle.image.proofs.Words.{spans-apart}
+use Rattle.arm64_hint_order.specs.Lists.{count, ofObj, Once, passes, bound}
 use Rattle.arm64_hint_order.specs.Cursor.{hintCount, objectAt, lateAt}
 use Rattle.arm64_hint_order.proofs.Lists.{once-of}
 use Rattle.arm64_hint_order.proofs.Own.{kept-of}
-use Rattle.arm64_hint_order.proofs.Plan.{spans-apart}
 use Rattle.arm64_insn.specs.Manual.{allocated}
 use Rattle.arm64_machine.specs.Premises.{links31, adds31, storesMade}
 use Rattle.arm64_machine.proofs.FairTest.{each, next, later, fair-by}

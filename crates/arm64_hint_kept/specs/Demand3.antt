@@ -7,11 +7,11 @@ use Prim.Native.Nat.{ℕ, _+_, _<_}
 use Rattle.util.specs.Wrap.{sum}
 use Rattle.util.specs.Word.{le}
 use Rattle.macho.specs.declared.hint.HintRecord.{HintRecord}
-use Rattle.arm64_hint_order.specs.Local.{Apart}
-use Rattle.arm64_hint_order.specs.Steps as Steps
-use Rattle.arm64_hint_order.specs.Steps.{ObjectsApart}
-use Rattle.arm64_hint_order.specs.Plan.{span, inWords}
+use Rattle.image.specs.Words.{span, inWords}
+use Rattle.image.specs.Local.{Apart}
+use Rattle.arm64_hint_order.specs.Runs as Runs
 use Rattle.arm64_hint_order.specs.Cursor.{hintCount, objectAt, lateAt}
+use Rattle.arm64_hint_order.specs.Runs.{ObjectsApart}
 use Rattle.arm64_machine.specs.Machine.{Access, State, Placed, placed, Other, run}
 use Rattle.arm64_machine.specs.SameRun.{spared, Agree, SameRun}
 use Rattle.arm64_machine.specs.Premises as Machine
@@ -43,7 +43,7 @@ Disjoint (at ∷ places) = Apart (span at 4) (inWords places) × Disjoint places
 
 -- each object's own order is kept: its hints stand in the list as in the run's order of work
 abbrev pub Kept : List ℕ → List ℕ → Type 0
-Kept hints = Steps.Kept (objectAt hints) (lateAt hints) (hintCount hints)
+Kept hints = Runs.Kept (objectAt hints) (lateAt hints) (hintCount hints)
 
 -- different objects' parts share no byte
 abbrev pub PartsApart : List ℕ → Type 0
@@ -51,7 +51,7 @@ PartsApart hints = ObjectsApart (hintCount hints) (objectAt hints) (λ k. partBy
 
 -- no other hint shares a byte with hint k
 abbrev pub Alone : List ℕ → ℕ → Type 0
-Alone hints = Steps.Alone (hintCount hints) (λ k. wordBytes (hintOf hints k))
+Alone hints = Runs.Alone (hintCount hints) (λ k. wordBytes (hintOf hints k))
 
 -- ---- the statement
 

@@ -8,9 +8,11 @@ use native.Mathlib.Omega.{arith}
 use borrow.Author.Tests.{eq-eqb, ne-eqb}
 use lib.Dec.{eqb}
 use lib.ListN.{length}
+use Rattle.util.specs.All.{All, more}
 use Rattle.util.proofs.Choice.{choose-true, choose-false}
-use Rattle.arm64_hint_order.specs.Lists.{runList, All, more, range, ofObj, Once}
-use Rattle.arm64_hint_order.proofs.Lists.{same-or, once-inside, once-range, once-same}
+use Rattle.util.proofs.Cases.{same-or}
+use Rattle.arm64_hint_order.specs.Lists.{runList, range, ofObj, Once}
+use Rattle.arm64_hint_order.proofs.Lists.{once-inside, once-range, once-same}
 
 -- r is m without its first member of k's object, which is k
 data Pull (obj : ℕ → ℕ) (k : ℕ) : List ℕ → List ℕ → Type 0 where

@@ -10,13 +10,16 @@ use lib.Dec.{eqb, lit<}
 use lib.ListN.{getD, replicate}
 use Rattle.util.specs.Choice.{choose}
 use Rattle.util.specs.Word.{le, put, bytes}
-use Rattle.arm64_hint_order.specs.Lists.{runList, empty, more, count, ofObj, Once, passes, ownList}
-use Rattle.arm64_hint_order.specs.Steps.{Work, Kept}
-use Rattle.arm64_hint_order.specs.Plan.{span, Plan, stepOf}
+use Rattle.util.specs.All.{empty, more}
+use Rattle.util.proofs.Cases.{less-or}
+use Rattle.image.specs.Words.{span}
+use Rattle.image.specs.Steps.{Work, Steps, stepOf}
+use Rattle.image.proofs.Words.{words-inside, spans-apart}
+use Rattle.arm64_hint_order.specs.Lists.{runList, count, ofObj, Once, passes, ownList}
 use Rattle.arm64_hint_order.specs.Cursor.{orderOf}
-use Rattle.arm64_hint_order.proofs.Lists.{less-or, once-of}
+use Rattle.arm64_hint_order.specs.Runs.{Kept}
+use Rattle.arm64_hint_order.proofs.Lists.{once-of}
 use Rattle.arm64_hint_order.proofs.Own.{kept-of}
-use Rattle.arm64_hint_order.proofs.Plan.{words-inside, spans-apart}
 use Rattle.arm64_hint_order.proofs.Runs.{parts}
 
 -- four hints of the objects 2, 1, 1, 1, none of kind 1
@@ -77,7 +80,7 @@ turned-round kept =
     omega arith
 
 -- two hints that put a word of their own at the same place: the order within an object shows in the image
-abbrev sharing : Plan ℕ ℕ
+abbrev sharing : Steps ℕ ℕ
 sharing = record { places = λ k. 0 ∷ []; answer = λ k ws. k; news = λ k. some (k + 7) ∷ []; add = λ k t. suc t }
 
 pub order-shows : (runList (stepOf sharing) (0 ∷ 1 ∷ []) (record { image = replicate 4 0; tally = 0 }) .image ≡ 8 ∷ 0 ∷ 0 ∷ 0 ∷ [])
@@ -86,7 +89,7 @@ unfolding le put
 order-shows = (refl, refl)
 
 -- two hints of different objects, each at a place of its own: the list 0, 1 leaves what the run, 1 and then 0, leaves
-abbrev apart : Plan ℕ ℕ
+abbrev apart : Steps ℕ ℕ
 apart = record { places = λ k. 4 * k ∷ []; answer = λ k ws. k; news = λ k. some (k + 7) ∷ []; add = λ k t. suc t }
 
 pub either-order : (w : Work ℕ) → runList (stepOf apart) (0 ∷ 1 ∷ []) w ≡ runList (stepOf apart) (1 ∷ 0 ∷ []) w

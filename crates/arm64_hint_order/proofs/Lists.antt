@@ -7,58 +7,28 @@ use Prim.Native.Nat.{ℕ, zero, suc, _+_, _-_, _≤_, _<_}
 use native.Mathlib.Omega.{arith}
 use native.Mathlib.Nat.{zero-add, add-zero, suc-add, add-suc}
 use native.Mathlib.Numerals.{add-one}
-use borrow.Author.Tests.{eq-eqb, ne-eqb, eqb-true, eqb-false, ltb-true, ltb-false}
-use lib.Dec.{eqb, ltb}
+use borrow.Author.Tests.{eq-eqb, ne-eqb}
+use lib.Dec.{eqb}
 use lib.ListN.{length, replicate, length-append}
 use Rattle.util.specs.Choice.{choose}
+use Rattle.util.specs.All.{All, empty, more}
 use Rattle.util.proofs.Choice.{split, choose-true, choose-false, choose-ap}
-use Rattle.arm64_hint_order.specs.Lists.{runList, All, empty, more, range, those, count, ofObj, Once, sel}
+use Rattle.util.proofs.All.{all-map}
+use Rattle.util.proofs.Cases.{same-or, less-or}
+use Rattle.arm64_hint_order.specs.Lists.{runList, range, those, count, ofObj, Once, sel}
 
 -- the steps of one list after those of another
 pub run-append : {S : Type 0} (step : ℕ → S → S) (l m : List ℕ) (s : S) → runList step (l ++ m) s ≡ runList step m (runList step l s)
 run-append step [] m s = refl
 run-append step (k ∷ l) m s = run-append step l m (step k s)
 
--- ---- two numbers by cases
-
-pub same-or : {G : Type 0} (j k : ℕ) → (j ≡ k → G) → (j ≢ k → G) → G
-same-or {G} j k f g = go (eqb j k) refl
-  where
-    go : (b : Bool) → eqb j k ≡ b → G
-    go true e = f (eqb-true j k e)
-    go false e = g (eqb-false j k e)
-
-pub less-or : {G : Type 0} (j k : ℕ) → (j < k → G) → (k ≤ j → G) → G
-less-or {G} j k f g = go (ltb j k) refl
-  where
-    go : (b : Bool) → ltb j k ≡ b → G
-    go true e = f (ltb-true j k e)
-    go false e = g (ltb-false j k e)
-
 -- ---- every member
 
-module _ {P : ℕ → Type 0} where
-  pub all-append : {l m : List ℕ} → All P l → All P m → All P (l ++ m)
-  all-append empty b = b
-  all-append (more h a) b = more h (all-append a b)
-
-  pub all-left : (l m : List ℕ) → All P (l ++ m) → All P l
-  all-left [] m a = empty
-  all-left (k ∷ l) m (more h a) = more h (all-left l m a)
-
-  pub all-map : {Q : ℕ → Type 0} → ((k : ℕ) → P k → Q k) → {l : List ℕ} → All P l → All Q l
-  all-map f empty = empty
-  all-map f (more {k = k} h a) = more (f k h) (all-map f a)
-
-  -- a selection's members are the list's, and pass
-  pub all-those : (p : ℕ → Bool) {l : List ℕ} → All P l → All (λ k. P k × (p k ≡ true)) (those p l)
-  all-those p empty = empty
-  all-those p (more {k = k} {l = l} h a) =
-      split (All (λ k. P k × (p k ≡ true))) (p k) (k ∷ those p l) (those p l) (λ e. more (h, e) (all-those p a)) (λ e. all-those p a)
-
-  pub all-empty : ((k : ℕ) → P k → ⊥) → {l : List ℕ} → All P l → l ≡ []
-  all-empty f empty = refl
-  all-empty f (more {k = k} h a) = absurd (f k h)
+-- a selection's members are the list's, and pass
+pub all-those : {P : ℕ → Type 0} (p : ℕ → Bool) {l : List ℕ} → All P l → All (λ k. P k × (p k ≡ true)) (those p l)
+all-those p empty = empty
+all-those {P} p (more {k = k} {l = l} h a) =
+    split (All (λ k. P k × (p k ≡ true))) (p k) (k ∷ those p l) (those p l) (λ e. more (h, e) (all-those p a)) (λ e. all-those p a)
 
 pub all-range : (lo n : ℕ) → All (λ k. (lo ≤ k) × (k < lo + n)) (range lo n)
 all-range lo zero = empty

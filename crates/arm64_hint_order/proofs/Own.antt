@@ -7,11 +7,14 @@ use Prim.Native.Nat.{ℕ, zero, suc, _+_, _-_, _≤_, _<_}
 use native.Mathlib.Omega.{arith}
 use borrow.Author.Tests.{eq-eqb, ne-eqb, eqb-true}
 use lib.Dec.{eqb}
+use Rattle.util.specs.All.{All, empty, more}
 use Rattle.util.proofs.Choice.{split, both}
-use Rattle.arm64_hint_order.specs.Lists.{All, empty, more, range, those, count, ofObj, Once, sel, inPass, passes, order, bound, ownFrom, ownList}
-use Rattle.arm64_hint_order.specs.Steps.{Kept}
+use Rattle.util.proofs.All.{all-append, all-map, all-empty}
+use Rattle.util.proofs.Cases.{same-or, less-or}
+use Rattle.arm64_hint_order.specs.Lists.{range, those, count, ofObj, Once, sel, inPass, passes, order, bound, ownFrom, ownList}
 use Rattle.arm64_hint_order.specs.Rising.{Before, by-object, by-pass, by-place, Rising, last, first}
-use Rattle.arm64_hint_order.proofs.Lists.{all-append, all-map, all-those, all-empty, all-range, those-append, those-all, those-none, same-or, less-or}
+use Rattle.arm64_hint_order.specs.Runs.{Kept}
+use Rattle.arm64_hint_order.proofs.Lists.{all-those, all-range, those-append, those-all, those-none}
 use Rattle.arm64_hint_order.proofs.Lists.{count-append, count-here, count-there, all-count, count-none, count-range, count-those-in, once-inside, once-count}
 
 -- ---- what the members have in common

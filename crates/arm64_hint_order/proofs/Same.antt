@@ -6,8 +6,10 @@ use Prim.Native.Nat.{ℕ, zero, suc, _-_, _≤_, _<_, max}
 use native.Mathlib.Omega.{arith}
 use lib.Dec.{eqb}
 use Rattle.util.specs.Choice.{choose}
-use Rattle.arm64_hint_order.specs.Lists.{runList, All, empty, more, those, sel, inPass, order, bound, ownList}
-use Rattle.arm64_hint_order.proofs.Lists.{all-map, all-range}
+use Rattle.util.specs.All.{All, empty, more}
+use Rattle.util.proofs.All.{all-map}
+use Rattle.arm64_hint_order.specs.Lists.{runList, those, sel, inPass, order, bound, ownList}
+use Rattle.arm64_hint_order.proofs.Lists.{all-range}
 
 -- equal steps
 pub run-same : {S : Type 0} (step step′ : ℕ → S → S) (n : ℕ) → ((k : ℕ) → k < n → (s : S) → step k s ≡ step′ k s) → {l : List ℕ} → All (λ k. k < n) l

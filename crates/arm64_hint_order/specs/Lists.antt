@@ -13,11 +13,6 @@ abbrev pub runList : {S : Type 0} → (ℕ → S → S) → List ℕ → S → S
 runList step [] s = s
 runList step (k ∷ l) s = runList step l (step k s)
 
--- every member has P
-pub data All (P : ℕ → Type 0) : List ℕ → Type 0 where
-  empty : All P []
-  more : {k : ℕ} {l : List ℕ} → P k → All P l → All P (k ∷ l)
-
 -- the n numbers from lo on
 abbrev pub range : ℕ → ℕ → List ℕ
 range lo zero = []

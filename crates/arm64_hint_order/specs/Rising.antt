@@ -3,7 +3,7 @@ use mathlib.Core.Path.{_≡_}
 use mathlib.Core.Bool.{Bool, true, false}
 use mathlib.Core.List.{List, [], _∷_}
 use Prim.Native.Nat.{ℕ, _<_}
-use Rattle.arm64_hint_order.specs.Lists.{All}
+use Rattle.util.specs.All.{All}
 
 -- hint i is worked before hint j
 pub data Before (obj : ℕ → ℕ) (late : ℕ → Bool) (i j : ℕ) : Type 0 where

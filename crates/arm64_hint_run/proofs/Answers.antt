@@ -18,6 +18,9 @@ use Rattle.macho.specs.declared.hint.HintInsn.{HintInsn}
 use Rattle.macho.specs.declared.hint.HintRecord.{HintRecord}
 use Rattle.macho.specs.declared.refusal.Refusal.{Refusal}
 use Rattle.macho.specs.declared.refusal.Refusal.the-variants.{Lengths}
+use Rattle.image.specs.Words.{wordsAt, putWords}
+use Rattle.image.specs.Steps.{Work, answered, written, stepOf}
+use Rattle.image.proofs.Words.{puts-none}
 use Rattle.arm64_insn.specs.Page.{adrpPage}
 use Rattle.arm64_insn.specs.Adrp.{adrpOf}
 use Rattle.arm64_insn.specs.Fix.{nopWord}
@@ -34,13 +37,10 @@ use Rattle.arm64_hint_terms.specs.declared.answer.Decision.{Decision}
 use Rattle.arm64_hint_terms.specs.declared.answer.Decision.the-variants.{Nine}
 use Rattle.arm64_hint_terms.specs.declared.rels.Rels.{Rels}
 use Rattle.arm64_hint_order.specs.Lists.{runList}
-use Rattle.arm64_hint_order.specs.Steps.{Work}
-use Rattle.arm64_hint_order.specs.Plan.{wordsAt, putWords, answered, written, stepOf}
 use Rattle.arm64_hint_order.specs.Cursor.{hintCount, orderOf}
-use Rattle.arm64_hint_order.proofs.Plan.{puts-none}
 use Rattle.arm64_hint_order.proofs.Walk.{order-length}
 use Rattle.arm64_hint_run.specs.Hint.{hintOf, isSkipped, insnsIn, placesOf, insnsOf, relsOf, outcomeOf, newsIn, newsOf}
-use Rattle.arm64_hint_run.specs.Hint.{addDecision, addOutcome, total, planOf}
+use Rattle.arm64_hint_run.specs.Hint.{addDecision, addOutcome, total, stepsOf}
 use Rattle.arm64_hint_run.specs.Check.{isList, checkLists, first, checkTo, checkAll}
 use Rattle.arm64_hint_run.specs.Run.{start, worked, answerBy, imageBy, runOf, imageOf}
 use Rattle.arm64_hint_run.specs.declared.outcome.Outcome.{Outcome}
@@ -113,10 +113,10 @@ module _ (image hints entries : List ℕ) where
         go (C.Refused y) w e = let z : _≡_ {A = ℕ} 0 1 = cc in absurd (omega arith)
 
   -- a list counts each of its steps once
-  pub total-list : (l : List ℕ) (w : Work Tally) → total (runList (stepOf (planOf hints entries)) l w .tally) ≡ total (w .tally) + length l
+  pub total-list : (l : List ℕ) (w : Work Tally) → total (runList (stepOf (stepsOf hints entries)) l w .tally) ≡ total (w .tally) + length l
   total-list [] w = omega arith
   total-list (k ∷ l) w =
-      omega (arith, total-list l (stepOf (planOf hints entries) k w), total-add (answered (planOf hints entries) k (w .image)) (w .tally))
+      omega (arith, total-list l (stepOf (stepsOf hints entries) k w), total-add (answered (stepsOf hints entries) k (w .image)) (w .tally))
 
   -- the four counts add up to the hints
   pub counts-sum : (t : Tally) → runOf image hints entries ≡ A.Done t → total t ≡ hintCount hints
@@ -126,20 +126,20 @@ module _ (image hints entries : List ℕ) where
 
 -- ---- a hint answered nine
 
-module _ (hints entries : List ℕ) (k : ℕ) (w : Work Tally) (s : Insns) (nine : answered (planOf hints entries) k (w .image) ≡ Worked Nine s) where
+module _ (hints entries : List ℕ) (k : ℕ) (w : Work Tally) (s : Insns) (nine : answered (stepsOf hints entries) k (w .image) ≡ Worked Nine s) where
   -- leaves the image, and is counted
-  pub nine-leaves : stepOf (planOf hints entries) k w ≡ record { image = w .image; tally = addDecision Nine (w .tally) }
+  pub nine-leaves : stepOf (stepsOf hints entries) k w ≡ record { image = w .image; tally = addDecision Nine (w .tally) }
   nine-leaves =
-      let p : written (planOf hints entries) k (w .image) ≡ w .image =
+      let p : written (stepsOf hints entries) k (w .image) ≡ w .image =
       ap (λ (o : Outcome). putWords (placesOf (hintOf hints k)) (newsOf o) (w .image)) nine ∙ sym (puts-none (placesOf (hintOf hints k)) (w .image)) in
-      let q : addOutcome (answered (planOf hints entries) k (w .image)) (w .tally) ≡ addDecision Nine (w .tally) =
+      let q : addOutcome (answered (stepsOf hints entries) k (w .image)) (w .tally) ≡ addDecision Nine (w .tally) =
       ap (λ (o : Outcome). addOutcome o (w .tally)) nine in
       λ i. record { image = p i; tally = q i }
 
   -- and the hints after it are worked on that
-  pub nine-goes-on : (l : List ℕ) → runList (stepOf (planOf hints entries)) (k ∷ l) w
-      ≡ runList (stepOf (planOf hints entries)) l (record { image = w .image; tally = addDecision Nine (w .tally) })
-  nine-goes-on l = ap (runList (stepOf (planOf hints entries)) l) nine-leaves
+  pub nine-goes-on : (l : List ℕ) → runList (stepOf (stepsOf hints entries)) (k ∷ l) w
+      ≡ runList (stepOf (stepsOf hints entries)) l (record { image = w .image; tally = addDecision Nine (w .tally) })
+  nine-goes-on l = ap (runList (stepOf (stepsOf hints entries)) l) nine-leaves
 
 -- ---- ADRP_ADRP on one word twice
 
@@ -206,7 +206,7 @@ pub one-word-twice : (hints entries image : List ℕ) (k : ℕ) (t : Tally) → 
     → hintOf hints k .insn1 .off ≡ hintOf hints k .insn0 .off → hintOf hints k .insn1 .addr ≡ hintOf hints k .insn0 .addr
     → isPageRel (relAt entries (hintOf hints k .insn0 .rel)) false ≡ true → isPageRel (relAt entries (hintOf hints k .insn1 .rel)) false ≡ true
     → (a : Adrp) → adrpOf (le 4 image (hintOf hints k .start + hintOf hints k .insn0 .off)) ≡ W.Adrp a
-    → stepOf (planOf hints entries) k (record { image = image; tally = t }) ≡ record {
+    → stepOf (stepsOf hints entries) k (record { image = image; tally = t }) ≡ record {
       image = put 4 image (hintOf hints k .start + hintOf hints k .insn0 .off) nopWord;
       tally = record { rewritten = t .rewritten + 1; skipped = t .skipped; declined = t .declined; «turned_down» = t .«turned_down» };
     }

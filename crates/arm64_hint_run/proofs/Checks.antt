@@ -11,16 +11,16 @@ use native.Mathlib.Numerals.{add-one}
 use borrow.Author.Tests.{eq-eqb, ne-eqb, lt-ltb, le-ltb, le-leb, lt-leb, ltb-true, ltb-false, leb-false}
 use lib.Dec.{eqb, ltb, leb}
 use lib.ListN.{length}
+use Rattle.util.specs.All.{empty, more}
 use Rattle.util.proofs.Choice.{split, choose-false, choose-first, both}
+use Rattle.util.proofs.Cases.{same-or, less-or}
 use Rattle.macho.specs.Hint.{noEntry, hintAt}
 use Rattle.macho.specs.declared.hint.HintInsn.{HintInsn}
 use Rattle.macho.specs.declared.hint.HintRecord.{HintRecord}
 use Rattle.macho.specs.declared.refusal.Refusal.{Refusal}
 use Rattle.macho.specs.declared.refusal.Refusal.the-variants.{Lengths}
-use Rattle.arm64_hint_order.specs.Lists.{empty, more}
 use Rattle.arm64_hint_order.specs.Cursor.{hintCount, objectAt}
 use Rattle.arm64_hint_order.specs.Walk.{grouped, lastOf}
-use Rattle.arm64_hint_order.proofs.Lists.{same-or, less-or}
 use Rattle.arm64_hint_order.proofs.Walk.{grouped-step}
 use Rattle.arm64_hint_words.specs.Place.{InBytes}
 use Rattle.arm64_hint_words.specs.Entry.{InEntries}

@@ -6,10 +6,10 @@ use Prim.Native.Nat.{ℕ}
 use lib.ListN.{take}
 use Rattle.macho.specs.declared.hint.HintInsn.{HintInsn}
 use Rattle.macho.specs.declared.hint.HintRecord.{HintRecord}
+use Rattle.image.specs.Words.{wordsAt, putWords}
 use Rattle.arm64_hint_terms.specs.declared.answer.Insns.{Insns}
 use Rattle.arm64_hint_terms.specs.declared.answer.Decision.{Decision}
 use Rattle.arm64_hint_terms.specs.declared.rels.Rels.{Rels}
-use Rattle.arm64_hint_order.specs.Plan.{wordsAt, putWords}
 use Rattle.arm64_hint_words.specs.Place.{offsets, wordsIn, InBytes}
 use Rattle.arm64_hint_words.specs.Entry.{relsIn, InEntries}
 use Rattle.arm64_hint_run.specs.Hint.{isSkipped, insnsAll, insnsIn, offsOf, insnsOf, relsOf, newsIn, Inside, Named}

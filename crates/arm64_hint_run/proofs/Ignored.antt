@@ -11,19 +11,20 @@ use lib.ListN.{length, set, length-set}
 use lib.Seq.{getD-set-other}
 use Rattle.util.specs.Word.{le}
 use Rattle.util.proofs.Word.{le-ext}
+use Rattle.util.proofs.Cases.{same-or}
 use Rattle.macho.specs.Record.{Field, _of_, unused}
 use Rattle.macho.specs.Hint.{insnAt, hintAt, wordCount}
 use Rattle.macho.specs.declared.hint.HintInsn.{HintInsn}
 use Rattle.macho.specs.declared.hint.HintRecord.{HintRecord}
 use Rattle.macho.proofs.RoundTrip.{value-ignores, value-ext, hint}
+use Rattle.image.specs.Words.{wordsAt, putWords}
+use Rattle.image.specs.Steps.{Work, stepOf}
 use Rattle.arm64_hint_order.specs.Lists.{runList, ownList}
-use Rattle.arm64_hint_order.specs.Steps.{Work}
-use Rattle.arm64_hint_order.specs.Plan.{wordsAt, putWords, stepOf}
 use Rattle.arm64_hint_order.specs.Cursor.{hintCount, objectAt, lateAt, orderOf}
-use Rattle.arm64_hint_order.proofs.Lists.{same-or, once-inside}
+use Rattle.arm64_hint_order.proofs.Lists.{once-inside}
 use Rattle.arm64_hint_order.proofs.Own.{own-once}
 use Rattle.arm64_hint_order.proofs.Same.{run-same, own-same}
-use Rattle.arm64_hint_run.specs.Hint.{hintOf, isSkipped, insnsIn, placesOf, insnsOf, relsOf, outcomeOf, newsOf, addOutcome, planOf}
+use Rattle.arm64_hint_run.specs.Hint.{hintOf, isSkipped, insnsIn, placesOf, insnsOf, relsOf, outcomeOf, newsOf, addOutcome, stepsOf}
 use Rattle.arm64_hint_run.specs.Check.{checkHint, first, checkLists, checkTo, checkAll}
 use Rattle.arm64_hint_run.specs.Run.{start, worked, answerBy, imageBy, runOf, imageOf}
 use Rattle.arm64_hint_run.specs.declared.outcome.Outcome.{Outcome}
@@ -96,7 +97,7 @@ module _ (hints hints′ : List ℕ) (sized : length hints ≡ length hints′)
       ∙ ap (ownList (objectAt hints′) (lateAt hints′)) same-count
 
   module _ (entries image : List ℕ) where
-    same-step : (k : ℕ) → k < hintCount hints → (w : Work Tally) → stepOf (planOf hints entries) k w ≡ stepOf (planOf hints′ entries) k w
+    same-step : (k : ℕ) → k < hintCount hints → (w : Work Tally) → stepOf (stepsOf hints entries) k w ≡ stepOf (stepsOf hints′ entries) k w
     same-step k h w =
         let a = same-answer _ _ (alike k h) entries (w .image) in
         let p = ap₂ (λ (l : List ℕ) (o : Outcome). putWords l (newsOf o) (w .image)) (same-places _ _ (alike k h)) a in
@@ -106,9 +107,9 @@ module _ (hints hints′ : List ℕ) (sized : length hints ≡ length hints′)
     same-work : worked image hints entries (orderOf hints) ≡ worked image hints′ entries (orderOf hints′)
     unfolding worked
     same-work =
-        run-same (stepOf (planOf hints entries)) (stepOf (planOf hints′ entries)) (hintCount hints) same-step
+        run-same (stepOf (stepsOf hints entries)) (stepOf (stepsOf hints′ entries)) (hintCount hints) same-step
         (once-inside (hintCount hints) (orderOf hints) (own-once (objectAt hints) (lateAt hints) (hintCount hints))) (start image)
-        ∙ ap (λ (l : List ℕ). runList (stepOf (planOf hints′ entries)) l (start image)) same-order
+        ∙ ap (λ (l : List ℕ). runList (stepOf (stepsOf hints′ entries)) l (start image)) same-order
 
     -- the run is the same
     pub run-alike : (runOf image hints entries ≡ runOf image hints′ entries) × (imageOf image hints entries ≡ imageOf image hints′ entries)

@@ -11,11 +11,15 @@ use lib.Dec.{eqb, lit≤}
 use lib.ListN.{length, getD, set, length-set}
 use Rattle.util.specs.Choice.{choose}
 use Rattle.util.specs.Word.{le}
+use Rattle.util.specs.All.{All, empty, more}
 use Rattle.util.proofs.Choice.{choose-true, choose-false}
+use Rattle.util.proofs.Cases.{less-or}
 use Rattle.macho.specs.Reloc.{relocAt}
 use Rattle.macho.specs.Hint.{noEntry}
 use Rattle.macho.specs.declared.hint.HintRecord.{HintRecord}
 use Rattle.macho.specs.declared.reloc.Reloc.{Reloc}
+use Rattle.image.specs.Words.{wordsAt, putWords}
+use Rattle.image.specs.Steps.{Work, stepOf}
 use Rattle.arm64_hint_terms.specs.Rels.{relAt, isPageRel, isPageoffRel, sameReference, isAbsent, hasPagePair, bothPages}
 use Rattle.arm64_decide.specs.Decide.{decide}
 use Rattle.arm64_hint_terms.specs.declared.answer.Insns.{Insns}
@@ -23,14 +27,11 @@ use Rattle.arm64_hint_terms.specs.declared.answer.Decision.{Decision}
 use Rattle.arm64_hint_terms.specs.declared.rels.Rel.{Rel}
 use Rattle.arm64_hint_terms.specs.declared.rels.Rel.the-variants.{Entry, Absent}
 use Rattle.arm64_hint_terms.specs.declared.rels.Rels.{Rels}
-use Rattle.arm64_hint_order.specs.Lists.{All, empty, more}
-use Rattle.arm64_hint_order.specs.Steps.{Work}
-use Rattle.arm64_hint_order.specs.Plan.{wordsAt, putWords, stepOf}
 use Rattle.arm64_hint_order.specs.Cursor.{hintCount, objectAt, lateAt, orderOf}
-use Rattle.arm64_hint_order.proofs.Lists.{less-or, once-inside}
+use Rattle.arm64_hint_order.proofs.Lists.{once-inside}
 use Rattle.arm64_hint_order.proofs.Own.{own-once}
 use Rattle.arm64_hint_order.proofs.Same.{run-same}
-use Rattle.arm64_hint_run.specs.Hint.{hintOf, isSkipped, placesOf, insnsOf, relsOf, outcomeOf, newsOf, addOutcome, planOf, Named}
+use Rattle.arm64_hint_run.specs.Hint.{hintOf, isSkipped, placesOf, insnsOf, relsOf, outcomeOf, newsOf, addOutcome, stepsOf, Named}
 use Rattle.arm64_hint_run.specs.Check.{checkAll}
 use Rattle.arm64_hint_run.specs.Run.{start, worked, answerBy, imageBy, runOf, imageOf}
 use Rattle.arm64_hint_run.specs.declared.outcome.Outcome.{Outcome}
@@ -125,7 +126,7 @@ module _ (entries entries′ : List ℕ) (sized : length entries ≡ length entr
           (same-decision (relsOf entries h) (relsOf entries′ h) (n 0) (n 1) (n 2) (h .kind) (insnsOf h words))
 
   module _ (image hints : List ℕ) (fine : checkAll (length image) hints (length entries) ≡ Fine) where
-    same-step : (k : ℕ) → k < hintCount hints → (w : Work Tally) → stepOf (planOf hints entries) k w ≡ stepOf (planOf hints entries′) k w
+    same-step : (k : ℕ) → k < hintCount hints → (w : Work Tally) → stepOf (stepsOf hints entries) k w ≡ stepOf (stepsOf hints entries′) k w
     same-step k l w =
         let h = hintOf hints k in
         let a = same-outcome h (wordsAt (placesOf h) (w .image))
@@ -137,7 +138,7 @@ module _ (entries entries′ : List ℕ) (sized : length entries ≡ length entr
     same-work : worked image hints entries (orderOf hints) ≡ worked image hints entries′ (orderOf hints)
     unfolding worked
     same-work =
-        run-same (stepOf (planOf hints entries)) (stepOf (planOf hints entries′)) (hintCount hints) same-step
+        run-same (stepOf (stepsOf hints entries)) (stepOf (stepsOf hints entries′)) (hintCount hints) same-step
         (once-inside (hintCount hints) (orderOf hints) (own-once (objectAt hints) (lateAt hints) (hintCount hints))) (start image)
 
   -- the run is the same

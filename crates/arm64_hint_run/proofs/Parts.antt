@@ -5,13 +5,14 @@ use mathlib.Core.List.{List, map}
 use Prim.Native.Nat.{ℕ, _+_, _≤_, _<_}
 use native.Mathlib.Omega.{arith}
 use lib.ListN.{length}
+use Rattle.util.specs.All.{All, empty, more}
 use Rattle.macho.specs.declared.hint.HintInsn.{HintInsn}
 use Rattle.macho.specs.declared.hint.HintRecord.{HintRecord}
-use Rattle.arm64_hint_order.specs.Lists.{All, empty, more}
-use Rattle.arm64_hint_order.specs.Plan.{span, inWords, bytesOf}
+use Rattle.image.specs.Words.{span, inWords}
+use Rattle.image.specs.Steps.{footOf}
+use Rattle.image.proofs.Words.{words-inside}
 use Rattle.arm64_hint_order.specs.Cursor.{hintCount}
-use Rattle.arm64_hint_order.proofs.Plan.{words-inside}
-use Rattle.arm64_hint_run.specs.Hint.{hintOf, isSkipped, placesOf, planOf, Inside}
+use Rattle.arm64_hint_run.specs.Hint.{hintOf, isSkipped, placesOf, stepsOf, Inside}
 use Rattle.arm64_hint_run.specs.Check.{checkAll}
 use Rattle.arm64_hint_run.specs.declared.check.Check.the-variants.{Fine}
 use Rattle.arm64_hint_run.proofs.Places.{insns-none}
@@ -28,7 +29,7 @@ places-inside h i = moved (h .start) (h .len) (i .words)
 
 -- a byte of a hint's words: the hint is not skipped, and the byte is one of its part
 pub in-part : (image hints entries : List ℕ) → checkAll (length image) hints (length entries) ≡ Fine → (k : ℕ) → k < hintCount hints → (b : ℕ)
-    → bytesOf (planOf hints entries) k b ≡ true → (isSkipped (hintOf hints k) ≡ false) × (span (hintOf hints k .start) (hintOf hints k .len) b ≡ true)
+    → footOf (stepsOf hints entries) k b ≡ true → (isSkipped (hintOf hints k) ≡ false) × (span (hintOf hints k .start) (hintOf hints k .len) b ≡ true)
 in-part image hints entries fine k l b inside = go (isSkipped (hintOf hints k)) refl
   where
     go : (t : Bool) → isSkipped (hintOf hints k) ≡ t

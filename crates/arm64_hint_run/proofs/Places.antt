@@ -8,12 +8,12 @@ use lib.Dec.{eqb}
 use lib.ListN.{take}
 use Rattle.util.specs.Choice.{choose}
 use Rattle.util.proofs.Choice.{choose-true, choose-false, chosen}
+use Rattle.util.proofs.Cases.{same-or}
 use Rattle.macho.specs.Hint.{wordCount}
 use Rattle.macho.specs.declared.hint.HintInsn.{HintInsn}
 use Rattle.macho.specs.declared.hint.HintRecord.{HintRecord}
 use Rattle.arm64_hint_terms.specs.Rels.{relAt}
 use Rattle.arm64_hint_terms.specs.declared.rels.Rel.the-variants.{Absent}
-use Rattle.arm64_hint_order.proofs.Lists.{same-or}
 use Rattle.arm64_hint_run.specs.Hint.{isSkipped, insnsAll, insnsIn, relsOf}
 
 -- what holds of each number of words

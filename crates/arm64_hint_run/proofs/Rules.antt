@@ -10,11 +10,11 @@ use Rattle.util.specs.Choice.{choose}
 use Rattle.macho.specs.Hint.{wordCount}
 use Rattle.macho.specs.declared.hint.HintInsn.{HintInsn}
 use Rattle.macho.specs.declared.hint.HintRecord.{HintRecord}
+use Rattle.image.specs.Words.{wordsAt, putWords}
 use Rattle.arm64_decide.specs.Decide.{decide}
 use Rattle.arm64_hint_terms.specs.declared.answer.Insns.{Insns}
 use Rattle.arm64_hint_terms.specs.declared.answer.Decision.{Decision}
 use Rattle.arm64_hint_terms.specs.declared.rels.Rels.{Rels}
-use Rattle.arm64_hint_order.specs.Plan.{wordsAt, putWords}
 use Rattle.arm64_hint_words.specs.Place.{offsets, wordsIn, InBytes}
 use Rattle.arm64_hint_run.specs.Hint.{isSkipped, insnsAll, offsOf, insnsOf, newsIn, ruledIn, sectionAfter, Inside}
 use Rattle.arm64_hint_run.specs.declared.outcome.Outcome.{Outcome}

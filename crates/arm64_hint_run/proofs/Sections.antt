@@ -7,11 +7,11 @@ use native.Mathlib.Omega.{arith}
 use lib.ListN.{length}
 use Rattle.util.specs.Word.{put}
 use Rattle.util.specs.Part.{part, splice}
+use Rattle.util.specs.All.{All, empty, more}
 use Rattle.util.proofs.Word.{length-put}
 use Rattle.util.proofs.Part.{length-part, splice-same, splice-put}
 use Rattle.util.proofs.Bytes.{le-part}
-use Rattle.arm64_hint_order.specs.Lists.{All, empty, more}
-use Rattle.arm64_hint_order.specs.Plan.{wordsAt, putWords}
+use Rattle.image.specs.Words.{wordsAt, putWords}
 
 module _ (image : List ℕ) (a k : ℕ) where
   -- the words of the part

@@ -10,19 +10,19 @@ use Rattle.util.proofs.Choice.{choose-true, choose-false}
 use Rattle.util.proofs.Part.{length-part}
 use Rattle.macho.specs.declared.hint.HintRecord.{HintRecord}
 use Rattle.macho.specs.declared.refusal.Refusal.{Refusal}
+use Rattle.image.specs.Words.{wordsAt, putWords}
+use Rattle.image.specs.Steps.{Work, answered, written, stepOf}
+use Rattle.image.proofs.Steps.{local-step}
 use Rattle.arm64_hint_terms.specs.declared.answer.Decision.the-variants.{Declined, Nine, Rewritten}
 use Rattle.arm64_hint_terms.specs.declared.rels.Rels.{Rels}
 use Rattle.arm64_hint_order.specs.declared.Cursor.{Cursor}
 use Rattle.arm64_hint_order.specs.declared.Next.{Next}
 use Rattle.arm64_hint_order.specs.declared.Next.the-variants.{At, Done}
 use Rattle.arm64_hint_order.specs.Lists.{runList}
-use Rattle.arm64_hint_order.specs.Steps.{Work}
-use Rattle.arm64_hint_order.specs.Plan.{wordsAt, putWords, answered, written, stepOf}
 use Rattle.arm64_hint_order.specs.Cursor.{hintCount, orderOf, rest, following, Sound, SoundNext}
-use Rattle.arm64_hint_order.proofs.Plan.{local-plan}
 use Rattle.arm64_hint_order.proofs.Walk.{turn-at, turn-done, turn-count, turn-sound, order-length}
 use Rattle.arm64_hint_run.specs.Hint.{hintOf, isSkipped, placesOf, relsOf, outcomeOf, newsOf, ruled, ruledIn, sectionAfter}
-use Rattle.arm64_hint_run.specs.Hint.{addOutcome, total, planOf, Inside}
+use Rattle.arm64_hint_run.specs.Hint.{addOutcome, total, stepsOf, Inside}
 use Rattle.arm64_hint_run.specs.Check.{checkAll}
 use Rattle.arm64_hint_run.specs.Run.{zeros, start, worked, answerBy, imageBy, runOf, imageOf}
 use Rattle.arm64_hint_run.specs.declared.outcome.Outcome.{Outcome}
@@ -50,7 +50,7 @@ inside-part image h j e fits i =
     subst (λ (l : ℕ). Inside h l) (sym (length-part image (h .start) j (omega arith) ∙ e)) i
 
 module _ (hints entries image : List ℕ) (k : ℕ) (h : HintRecord) (told : h ≡ hintOf hints k) where
-  pub skipped-step : isSkipped h ≡ true → (Skipped ≡ answered (planOf hints entries) k image) × (image ≡ written (planOf hints entries) k image)
+  pub skipped-step : isSkipped h ≡ true → (Skipped ≡ answered (stepsOf hints entries) k image) × (image ≡ written (stepsOf hints entries) k image)
   unfolding outcomeOf
   skipped-step e =
       subst (λ (g : HintRecord). (Skipped ≡ answerOf entries g image) × (image ≡ imageAfter entries g image)) told (
@@ -69,7 +69,7 @@ module _ (hints entries image : List ℕ) (k : ℕ) (h : HintRecord) (told : h �
 
     pub worked-step : {o : Outcome} {zs : List ℕ} → o ≡ ruledIn (h .kind) h r (part image (h .start) j)
         → zs ≡ sectionAfter (h .kind) h r (part image (h .start) j)
-        → (o ≡ answered (planOf hints entries) k image) × (splice image (h .start) j zs ≡ written (planOf hints entries) k image)
+        → (o ≡ answered (stepsOf hints entries) k image) × (splice image (h .start) j zs ≡ written (stepsOf hints entries) k image)
     worked-step {o} {zs} answers stores =
         subst (λ (g : HintRecord). (o ≡ answerOf entries g image) × (splice image (h .start) j zs ≡ imageAfter entries g image)) told (
           answers ∙ same-answer,
@@ -112,7 +112,7 @@ add-swap (Worked (Rewritten q) s) (Worked (Rewritten p) r) t = refl
 pub record Going (first hints entries image : List ℕ) (c : Cursor) (t : Tally) : Type 0 where
   pub sound : Sound hints c
   pub size : length image ≡ length first
-  pub left : runList (stepOf (planOf hints entries)) (rest hints c) (record { image = image; tally = t }) ≡ worked first hints entries (orderOf hints)
+  pub left : runList (stepOf (stepsOf hints entries)) (rest hints c) (record { image = image; tally = t }) ≡ worked first hints entries (orderOf hints)
   pub counted : total t + length (rest hints c) ≡ hintCount hints
 
 module _ (first hints entries : List ℕ) where
@@ -121,14 +121,14 @@ module _ (first hints entries : List ℕ) where
   going-first c e s = record {
     sound = s;
     size = refl;
-    left = ap (λ (l : List ℕ). runList (stepOf (planOf hints entries)) l (start first)) e;
+    left = ap (λ (l : List ℕ). runList (stepOf (stepsOf hints entries)) l (start first)) e;
     counted = omega (arith, ap length e, order-length hints);
   }
 
   module _ (image : List ℕ) (c : Cursor) (t : Tally) (r : Next) (g : Going first hints entries image c t) (told : following hints r ≡ rest hints c) where
     pub going-done : r ≡ Done → (t ≡ worked first hints entries (orderOf hints) .tally) × (image ≡ worked first hints entries (orderOf hints) .image)
     going-done e =
-        let w = turn-done (stepOf (planOf hints entries)) hints c r told (record { image = image; tally = t }) e ∙ g .left in
+        let w = turn-done (stepOf (stepsOf hints entries)) hints c r told (record { image = image; tally = t }) e ∙ g .left in
         (ap (λ (w : Work Tally). w .tally) w, ap (λ (w : Work Tally). w .image) w)
 
     module _ (k : ℕ) (d : Cursor) (e : r ≡ At k d) where
@@ -136,19 +136,19 @@ module _ (first hints entries : List ℕ) where
       pub room : total t < hintCount hints
       room = omega (arith, turn-count hints r k d e c told, g .counted)
 
-      pub going-next : SoundNext hints r → {o : Outcome} {y : List ℕ} {u : Tally} → o ≡ answered (planOf hints entries) k image
-          → y ≡ written (planOf hints entries) k image → u ≡ addOutcome o t → Going first hints entries y d u
+      pub going-next : SoundNext hints r → {o : Outcome} {y : List ℕ} {u : Tally} → o ≡ answered (stepsOf hints entries) k image
+          → y ≡ written (stepsOf hints entries) k image → u ≡ addOutcome o t → Going first hints entries y d u
       going-next s {o} {y} {u} answers writes adds = record {
         sound = turn-sound hints r k d e s .1;
-        size = ap length writes ∙ local-plan (planOf hints entries) k .writes .size image ∙ g .size;
+        size = ap length writes ∙ local-step (stepsOf hints entries) k .writes .size image ∙ g .size;
         left =
-            ap (runList (stepOf (planOf hints entries)) (rest hints d)) (λ i. record { image = writes i; tally = tallies i })
-            ∙ turn-at (stepOf (planOf hints entries)) hints c r told (record { image = image; tally = t }) k d e
+            ap (runList (stepOf (stepsOf hints entries)) (rest hints d)) (λ i. record { image = writes i; tally = tallies i })
+            ∙ turn-at (stepOf (stepsOf hints entries)) hints c r told (record { image = image; tally = t }) k d e
             ∙ g .left;
         counted = omega (arith, turn-count hints r k d e c told, g .counted, ap total adds ∙ total-add o t);
       }
         where
-          tallies : u ≡ addOutcome (answered (planOf hints entries) k image) t
+          tallies : u ≡ addOutcome (answered (stepsOf hints entries) k image) t
           tallies = adds ∙ ap (λ (x : Outcome). addOutcome x t) answers
 
 -- ---- the run

@@ -11,12 +11,13 @@ use Rattle.util.specs.Choice.{choose}
 use Rattle.macho.specs.Hint.{hintAt, wordCount}
 use Rattle.macho.specs.declared.hint.HintInsn.{HintInsn}
 use Rattle.macho.specs.declared.hint.HintRecord.{HintRecord}
+use Rattle.image.specs.Words.{wordsAt, putWords}
+use Rattle.image.specs.Steps.{Steps}
 use Rattle.arm64_decide.specs.Decide.{decide}
 use Rattle.arm64_hint_terms.specs.declared.answer.Insns.{Insns}
 use Rattle.arm64_hint_terms.specs.declared.answer.Decision.{Decision}
 use Rattle.arm64_hint_terms.specs.declared.answer.Decision.the-variants.{Declined, Nine, Rewritten}
 use Rattle.arm64_hint_terms.specs.declared.rels.Rels.{Rels}
-use Rattle.arm64_hint_order.specs.Plan.{wordsAt, putWords, Plan}
 use Rattle.arm64_hint_words.specs.Place.{offsets, addresses, insnsWith, newOf, InBytes}
 use Rattle.arm64_hint_words.specs.Entry.{relsIn, InEntries}
 use Rattle.arm64_hint_run.specs.declared.outcome.Outcome.{Outcome}
@@ -101,9 +102,9 @@ addOutcome (Worked d s) t = addDecision d t
 abbrev pub total : Tally → ℕ
 total t = t .rewritten + t .skipped + t .declined + t .«turned_down»
 
--- the hints of a run as a plan: hint k reads the words at its places, and its outcome says which of them get new words
-abbrev pub planOf : List ℕ → List ℕ → Plan Outcome Tally
-planOf hints entries = record {
+-- the steps of a run's hints: hint k reads the words at its places, and its outcome says which of them get new words
+abbrev pub stepsOf : List ℕ → List ℕ → Steps Outcome Tally
+stepsOf hints entries = record {
   places = λ k. placesOf (hintOf hints k);
   answer = λ k words. outcomeOf entries (hintOf hints k) words;
   news = newsOf;

@@ -3,11 +3,10 @@ use Prim.Native.Nat.{ℕ}
 use mathlib.Core.List.{List}
 use lib.ListN.{length}
 use Rattle.macho.specs.Refusal as Refusal
+use Rattle.image.specs.Steps.{Work, stepOf}
 use Rattle.arm64_hint_order.specs.Lists.{runList}
-use Rattle.arm64_hint_order.specs.Steps.{Work}
-use Rattle.arm64_hint_order.specs.Plan.{stepOf}
 use Rattle.arm64_hint_order.specs.Cursor.{orderOf}
-use Rattle.arm64_hint_run.specs.Hint.{planOf}
+use Rattle.arm64_hint_run.specs.Hint.{stepsOf}
 use Rattle.arm64_hint_run.specs.Check.{checkAll}
 use Rattle.arm64_hint_run.specs.declared.outcome.Tally.{Tally}
 use Rattle.arm64_hint_run.specs.declared.check.Check.{Check}
@@ -26,7 +25,7 @@ start image = record { image = image; tally = zeros }
 
 -- image and tally after the steps of a list of hint positions
 unfoldable pub worked : List ℕ → List ℕ → List ℕ → List ℕ → Work Tally
-worked image hints entries l = runList (stepOf (planOf hints entries)) l (start image)
+worked image hints entries l = runList (stepOf (stepsOf hints entries)) l (start image)
 
 -- the counts, or the first refusal
 abbrev pub answerBy : Check → Tally → RunAnswer

@@ -4,7 +4,7 @@ use arm64_hint_words::words::set_words;
 use macho::hint::HintInsn;
 ghost use mathlib.Core.Path.{_≡_};
 ghost use lib.ListN.{length, take};
-ghost use Rattle.arm64_hint_order.specs.Plan.{putWords};
+ghost use Rattle.image.specs.Words.{putWords};
 ghost use Rattle.arm64_hint_words.specs.Place.{offsets, InBytes};
 ghost use Rattle.arm64_hint_run.specs.Hint.{newsIn};
 

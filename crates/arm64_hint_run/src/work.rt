@@ -16,9 +16,9 @@ use macho::hint::HintRecord;
 ghost use mathlib.Core.Path.{_≡_};
 ghost use Prim.Native.Nat.{_/_, _<_};
 ghost use lib.ListN.{length};
-ghost use Rattle.arm64_hint_order.specs.Plan.{answered, written};
+ghost use Rattle.image.specs.Steps.{answered, written};
 ghost use Rattle.arm64_hint_order.specs.Cursor.{hintCount};
-ghost use Rattle.arm64_hint_run.specs.Hint.{hintOf, ruledIn, sectionAfter, planOf, Inside};
+ghost use Rattle.arm64_hint_run.specs.Hint.{hintOf, ruledIn, sectionAfter, stepsOf, Inside};
 ghost use Rattle.arm64_hint_run.specs.Check.{checkHint};
 ghost use Rattle.arm64_hint_run.specs.declared.check.Check.the-variants.{Fine};
 
@@ -45,8 +45,8 @@ fn apply(section: &mut [u8], h: HintRecord, r: Rels) -> Outcome
 // Works hint k on the image: lends its part to the rule of its kind.
 pub fn work(image: &mut [u8], hints: &[u8], entries: &[u8], k: usize) -> Outcome
     requires { ⌜ (k < hintCount (now hints)) × (checkHint (length (now image)) (length (now entries) / 24) (hintOf (now hints) k) ≡ Fine) ⌝ }
-    ensures outcome { λ o. ⌜ o ≡ answered (planOf (now (hints .entry)) (now (entries .entry))) k (now (image .entry)) ⌝ }
-    ensures image { λ _. ⌜ now (image .exit) ≡ written (planOf (now (hints .entry)) (now (entries .entry))) k (now (image .entry)) ⌝ }
+    ensures outcome { λ o. ⌜ o ≡ answered (stepsOf (now (hints .entry)) (now (entries .entry))) k (now (image .entry)) ⌝ }
+    ensures image { λ _. ⌜ now (image .exit) ≡ written (stepsOf (now (hints .entry)) (now (entries .entry))) k (now (image .entry)) ⌝ }
 {
     let h = HintRecord::read(hints, 64 * k);
     if is_skipped(h) {

@@ -6,9 +6,9 @@ use native.Mathlib.Nat.{not-suc-le-zero, le-of-suc-le-suc}
 use native.Mathlib.Omega.{arith}
 use lib.ListN.{length, getD, take}
 use Rattle.util.specs.Word.{le}
+use Rattle.util.specs.All.{All, more}
 use Rattle.macho.specs.declared.hint.HintInsn.{HintInsn}
-use Rattle.arm64_hint_order.specs.Lists.{All, more}
-use Rattle.arm64_hint_order.specs.Plan.{wordsAt}
+use Rattle.image.specs.Words.{wordsAt}
 use Rattle.arm64_hint_words.specs.Place.{placeAt, offsets, wordIn, InBytes, Fits}
 
 module _ (f : HintInsn → ℕ) where

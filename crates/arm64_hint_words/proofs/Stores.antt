@@ -9,10 +9,10 @@ use lib.ListN.{length, take}
 use Rattle.util.proofs.Choice.{choose-true, choose-false, chosen}
 use Rattle.util.proofs.Word.{length-put}
 use Rattle.macho.specs.declared.hint.HintInsn.{HintInsn}
+use Rattle.image.specs.Words.{putWords}
+use Rattle.image.proofs.Words.{puts-none, puts-first}
 use Rattle.arm64_hint_terms.specs.declared.answer.NewWord.{NewWord}
 use Rattle.arm64_hint_terms.specs.declared.answer.NewWord.the-variants.{Keep, Set}
-use Rattle.arm64_hint_order.specs.Plan.{putWords}
-use Rattle.arm64_hint_order.proofs.Plan.{puts-none, puts-first}
 use Rattle.arm64_hint_words.specs.Place.{offsets, newOf, placeAt, setIn, Fits}
 
 pub length-set-in : (bytes : List ℕ) (insns : List HintInsn) (n i : ℕ) (w : NewWord) → length (setIn bytes insns n i w) ≡ length bytes

@@ -3,11 +3,11 @@ use Prim.Native.Nat.{ℕ, _+_, _*_, _≤_}
 use mathlib.Core.Path.{_≡_}
 use mathlib.Core.List.{List, map}
 use lib.ListN.{getD}
+use Rattle.util.specs.All.{All}
 use Rattle.macho.specs.Hint.{noEntry}
 use Rattle.macho.specs.declared.hint.HintInsn.{HintInsn}
 use Rattle.arm64_hint_terms.specs.Rels.{relAt}
 use Rattle.arm64_hint_terms.specs.declared.rels.Rels.{Rels}
-use Rattle.arm64_hint_order.specs.Lists.{All}
 
 -- the numbers of the entries that places name
 abbrev pub numbers : List HintInsn → List ℕ

@@ -7,12 +7,12 @@ use lib.Dec.{ltb}
 use lib.ListN.{length, getD, take}
 use Rattle.util.specs.Choice.{choose}
 use Rattle.util.specs.Word.{put}
+use Rattle.util.specs.All.{All}
 use Rattle.macho.specs.declared.hint.HintInsn.{HintInsn}
+use Rattle.image.specs.Words.{wordsAt}
 use Rattle.arm64_hint_terms.specs.declared.answer.Insns.{Insns}
 use Rattle.arm64_hint_terms.specs.declared.answer.NewWord.{NewWord}
 use Rattle.arm64_hint_terms.specs.declared.answer.NewWord.the-variants.{Keep, Set}
-use Rattle.arm64_hint_order.specs.Lists.{All}
-use Rattle.arm64_hint_order.specs.Plan.{wordsAt}
 
 -- ---- places in a list
 

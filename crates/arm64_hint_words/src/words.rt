@@ -6,7 +6,7 @@ use macho::hint::HintInsn;
 ghost use mathlib.Core.Path.{_≡_};
 ghost use mathlib.Core.List.{[], _∷_};
 ghost use lib.ListN.{length, take};
-ghost use Rattle.arm64_hint_order.specs.Plan.{putWords};
+ghost use Rattle.image.specs.Words.{putWords};
 ghost use Rattle.arm64_hint_words.specs.Place.{offsets, newOf, wordsIn, InBytes};
 
 // The words of the places up to the word count, with their addresses. The section stays as it is.

@@ -8,3 +8,5 @@ pub mod Range
 pub mod Extend
 pub mod Bytes
 pub mod Below
+pub mod Cases
+pub mod All

@@ -5,3 +5,4 @@ pub mod Wrap
 pub mod Word
 pub mod Part
 pub mod Diagram
+pub mod All

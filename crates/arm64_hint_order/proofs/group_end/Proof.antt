@@ -3,8 +3,8 @@ use mathlib.Core.Path.{_≡_, sym, ap, _∙_}
 use Prim.Native.Nat.{ℕ, _-_, _≤_, _<_}
 use native.Mathlib.Omega.{arith}
 use borrow.Author.Needs.{needs}
+use Rattle.util.proofs.Cases.{same-or}
 use Rattle.arm64_hint_order.specs.Cursor.{hintCount, objectAt}
-use Rattle.arm64_hint_order.proofs.Lists.{same-or}
 use Rattle.arm64_hint_order.proofs.Walk.{group-to-end}
 use Rattle.arm64_hint_order.proofs.group_end.Statement.{statement}
 use Rattle.arm64_hint_order.proofs.group_end.Tie as tie

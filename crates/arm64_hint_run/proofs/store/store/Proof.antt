@@ -3,9 +3,9 @@ use mathlib.Core.Path.{_≡_, sym, ap, _∙_}
 use mathlib.Core.List.{List}
 use Prim.Native.Nat.{ℕ}
 use lib.ListN.{take}
+use Rattle.image.specs.Words.{putWords}
+use Rattle.image.proofs.Words.{puts-none}
 use Rattle.arm64_hint_terms.specs.declared.answer.Decision.{Decision}
-use Rattle.arm64_hint_order.specs.Plan.{putWords}
-use Rattle.arm64_hint_order.proofs.Plan.{puts-none}
 use Rattle.arm64_hint_words.specs.Place.{offsets}
 use Rattle.arm64_hint_run.specs.Hint.{newsIn}
 use borrow.Author.Needs.{needs}

@@ -5,7 +5,7 @@ use mathlib.Core.List.{List}
 use Prim.Native.Nat.{ℕ}
 use lib.ListN.{length, getD}
 use lib.Seq.{ext-getD}
-use Rattle.arm64_hint_order.specs.Local.{Agree, Apart, Reads, Writes, Local}
+use Rattle.image.specs.Local.{Agree, Apart, Reads, Writes, Local}
 
 pub apart-sym : {foot foot′ : ℕ → Bool} → Apart foot foot′ → Apart foot′ foot
 apart-sym a b h g = a b g h

@@ -1,4 +1,4 @@
--- A planned step is local to the bytes of its words, whatever it answers: carried by the laws of `le` and `put`.
+-- Words at places: read from their bytes alone, and stored in them alone. Carried by the laws of `le` and `put`.
 use mathlib.Core.Path.{_≡_, refl, sym, ap, ap₂, _∙_}
 use mathlib.Core.Logic.{_⊎_, inl, inr, ⊎-elim}
 use mathlib.Core.Bool.{Bool, true, false, _&&_, _||_, true≢false}
@@ -9,12 +9,12 @@ use native.Mathlib.Omega.{arith}
 use borrow.Author.Tests.{le-leb, lt-ltb, leb-true, leb-false, ltb-true, ltb-false}
 use lib.Dec.{leb, ltb}
 use lib.ListN.{length, getD, set}
+use Rattle.util.specs.All.{All, empty, more}
 use Rattle.util.specs.Word.{put}
 use Rattle.util.proofs.Choice.{both}
 use Rattle.util.proofs.Word.{length-put, getD-put-other, le-ext}
-use Rattle.arm64_hint_order.specs.Lists.{All, empty, more}
-use Rattle.arm64_hint_order.specs.Local.{Apart, Reads, Writes, Local}
-use Rattle.arm64_hint_order.specs.Plan.{span, inWords, wordsAt, putWords, Plan, bytesOf, answered, written}
+use Rattle.image.specs.Words.{span, inWords, wordsAt, putWords}
+use Rattle.image.specs.Local.{Apart, Reads, Writes}
 
 -- ---- the bytes of a word
 
@@ -77,8 +77,7 @@ module _ (foot : ℕ → Bool) where
   none-writes : Writes foot (λ x. x)
   none-writes = record { size = λ x. refl; stays = λ x b h. refl; makes = λ x y l a. a }
 
-  -- ---- the words of a plan
-
+  -- new words stored in a footprint
   pub puts-write : (places : List ℕ) (news : List (Option ℕ)) → ((b : ℕ) → inWords places b ≡ true → foot b ≡ true) → Writes foot (putWords places news)
   puts-write [] news cover = none-writes
   puts-write (at ∷ places) [] cover = none-writes
@@ -119,21 +118,3 @@ words-inside a m (more {k = at} {l = places} h rest) b e = go (words-inside a m 
     go : (inWords places b ≡ true → span a m b ≡ true) → (c : Bool) → span at 4 b ≡ c → (c || inWords places b) ≡ true → span a m b ≡ true
     go others true p q = let s = span-true at 4 b p in span-in a m b (omega arith) (omega arith)
     go others false p q = others q
-
-module _ {A T : Type 0} (p : Plan A T) (k : ℕ) where
-  -- THE LAW: a planned step is local to its words
-  pub local-plan : Local (bytesOf p k) (written p k) (answered p k)
-  local-plan = record {
-    writes = record {
-      size = λ x. puts x .size x;
-      stays = λ x b h. puts x .stays x b h;
-      makes = λ x y l a b h. ap (λ (c : A). getD (putWords (p .places k) (p .news c) x) b 0) (told x y a) ∙ puts y .makes x y l a b h;
-    };
-    reads = told;
-  }
-    where
-      told : Reads (bytesOf p k) (answered p k)
-      told x y a = ap (p .answer k) (words-read (p .places k) x y a)
-
-      puts : (x : List ℕ) → Writes (bytesOf p k) (putWords (p .places k) (p .news (answered p k x)))
-      puts x = puts-write (bytesOf p k) (p .places k) (p .news (answered p k x)) (λ b h. h)

@@ -1,21 +1,12 @@
--- Lists of hint steps on an image and a tally (document 01, "The runs of demand 3"). `write` gives the image after hint k, `out` its answer,
--- `add` the tally with one answer more, `foot` the bytes that count as hint k's.
+-- Runs of hint steps by a list (document 01, "The runs of demand 3"): their answers, lists that keep each object's order, hints that share no byte.
+-- `write` gives the image after hint k, `out` its answer, `add` the tally with one answer more, `foot` the bytes that count as hint k's.
 use mathlib.Core.Path.{_≡_}
 use mathlib.Core.Logic.{_≢_}
 use mathlib.Core.Bool.{Bool}
 use mathlib.Core.List.{List, [], _∷_}
 use Prim.Native.Nat.{ℕ, _<_}
+use Rattle.image.specs.Local.{Apart}
 use Rattle.arm64_hint_order.specs.Lists.{ofObj, ownList}
-use Rattle.arm64_hint_order.specs.Local.{Apart}
-
--- what a step works on
-pub record Work (T : Type 0) : Type 0 where
-  pub image : List ℕ
-  pub tally : T
-
--- hint k's step
-abbrev pub stepBy : {A T : Type 0} → (ℕ → List ℕ → List ℕ) → (ℕ → List ℕ → A) → (A → T → T) → ℕ → Work T → Work T
-stepBy write out add k w = record { image = write k (w .image); tally = add (out k (w .image)) (w .tally) }
 
 -- the answers of a list's steps from an image on, in the list's order
 abbrev pub answers : {A : Type 0} → (ℕ → List ℕ → List ℕ) → (ℕ → List ℕ → A) → List ℕ → List ℕ → List A
