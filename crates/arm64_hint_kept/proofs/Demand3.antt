@@ -8,17 +8,18 @@ use lib.ListN.{length}
 use Rattle.util.proofs.All.{all-map}
 use Rattle.util.proofs.Cases.{less-or}
 use Rattle.macho.specs.declared.hint.HintRecord.{HintRecord}
+use Rattle.macho.specs.Hint.{hintCount, hintOf}
 use Rattle.image.specs.Words.{wordsAt}
 use Rattle.image.specs.Steps.{Work, written, stepOf}
 use Rattle.arm64_hint_order.specs.Lists.{count, Once}
-use Rattle.arm64_hint_order.specs.Cursor.{hintCount, objectAt, lateAt, orderOf}
+use Rattle.arm64_hint_order.specs.Cursor.{objectAt, lateAt, orderOf}
 use Rattle.arm64_hint_order.proofs.Lists.{run-append, count-append, count-here}
 use Rattle.arm64_hint_order.proofs.Own.{own-once}
 use Rattle.arm64_hint_order.proofs.Runs as Runs
 use Rattle.arm64_machine.specs.Machine.{Other, State}
 use Rattle.arm64_machine.specs.SameRun.{SameRun}
 use Rattle.arm64_machine.proofs.FairLaws as FairLaws
-use Rattle.arm64_hint_run.specs.Hint.{hintOf, isSkipped, placesOf, stepsOf}
+use Rattle.arm64_hint_run.specs.Hint.{isSkipped, placesOf, stepsOf}
 use Rattle.arm64_hint_run.specs.Run.{start, worked, runOf, imageOf}
 use Rattle.arm64_hint_run.specs.declared.outcome.Tally.{Tally}
 use Rattle.arm64_hint_run.specs.declared.run.RunAnswer.{RunAnswer}

@@ -6,10 +6,10 @@ use Prim.Native.Nat.{ℕ}
 use native.Mathlib.Omega.{arith}
 use lib.Dec.{lit<}
 use Rattle.macho.specs.declared.hint.HintRecord.{HintRecord}
+use Rattle.macho.specs.Hint.{hintCount, hintOf}
 use Rattle.image.specs.Steps.{Work}
 use Rattle.arm64_hint_order.specs.Lists.{Once}
-use Rattle.arm64_hint_order.specs.Cursor.{hintCount, orderOf}
-use Rattle.arm64_hint_run.specs.Hint.{hintOf}
+use Rattle.arm64_hint_order.specs.Cursor.{orderOf}
 use Rattle.arm64_hint_run.specs.Run.{worked, runOf, imageOf}
 use Rattle.arm64_hint_run.specs.declared.outcome.Tally.{Tally}
 use Rattle.arm64_hint_run.specs.declared.run.RunAnswer.the-variants.{Done}

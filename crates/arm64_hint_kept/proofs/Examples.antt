@@ -11,7 +11,7 @@ use Rattle.util.proofs.Choice.{split}
 use Rattle.macho.specs.Record.{listBytes}
 use Rattle.macho.specs.Reloc.{relocBytes}
 use Rattle.macho.specs.Types.{ARM64-RELOC-PAGE21, ARM64-RELOC-PAGEOFF12, ARM64-RELOC-GOT-LOAD-PAGE21, ARM64-RELOC-GOT-LOAD-PAGEOFF12}
-use Rattle.macho.specs.Hint.{noEntry, hintBytes, wordCount}
+use Rattle.macho.specs.Hint.{noEntry, hintBytes, wordCount, hintOf}
 use Rattle.macho.specs.declared.hint.HintInsn.{HintInsn}
 use Rattle.macho.specs.declared.hint.HintRecord.{HintRecord}
 use Rattle.image.specs.Steps.{Work}
@@ -21,7 +21,7 @@ use Rattle.arm64_hint_terms.specs.declared.answer.Decision.the-variants as D
 use Rattle.arm64_hint_order.specs.Cursor.{orderOf}
 use Rattle.arm64_machine.specs.Machine.{State, Other}
 use Rattle.arm64_machine.specs.Premises.{linksVector}
-use Rattle.arm64_hint_run.specs.Hint.{hintOf, isSkipped, outcomeOf}
+use Rattle.arm64_hint_run.specs.Hint.{isSkipped, outcomeOf}
 use Rattle.arm64_hint_run.specs.Run.{worked, runOf, imageOf}
 use Rattle.arm64_hint_run.specs.declared.outcome.Outcome.{Outcome}
 use Rattle.arm64_hint_run.specs.declared.outcome.Outcome.the-variants.{Skipped, Worked}

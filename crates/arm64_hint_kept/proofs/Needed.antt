@@ -5,12 +5,12 @@ use mathlib.Core.List.{List, [], _∷_}
 use Prim.Native.Nat.{ℕ, suc}
 use native.Mathlib.Omega.{arith}
 use lib.Dec.{lit<}
-use Rattle.macho.specs.Hint.{noEntry}
+use Rattle.macho.specs.Hint.{noEntry, hintCount, hintOf}
 use Rattle.macho.specs.declared.hint.HintRecord.{HintRecord}
 use Rattle.arm64_hint_order.specs.Lists.{Once}
-use Rattle.arm64_hint_order.specs.Cursor.{hintCount, orderOf}
+use Rattle.arm64_hint_order.specs.Cursor.{orderOf}
 use Rattle.arm64_machine.specs.Machine.{Access}
-use Rattle.arm64_hint_run.specs.Hint.{hintOf, placesOf}
+use Rattle.arm64_hint_run.specs.Hint.{placesOf}
 use Rattle.arm64_hint_run.specs.Run.{worked, runOf, imageOf}
 use Rattle.arm64_hint_run.specs.declared.run.RunAnswer.the-variants.{Done}
 use Rattle.arm64_hint_run.proofs.Examples.{words as code, place}

@@ -10,7 +10,7 @@ use Rattle.util.specs.All.{All}
 use Rattle.util.proofs.Choice.{choose-false}
 use Rattle.util.proofs.Word.{le-lt}
 use Rattle.util.proofs.Cases.{same-or}
-use Rattle.macho.specs.Hint.{insnAt, hintAt, wordCount}
+use Rattle.macho.specs.Hint.{insnAt, hintAt, wordCount, hintOf}
 use Rattle.macho.specs.declared.hint.HintInsn.{HintInsn}
 use Rattle.macho.specs.declared.hint.HintRecord.{HintRecord}
 use Rattle.image.specs.Words.{wordsAt, putWords}
@@ -23,7 +23,7 @@ use Rattle.arm64_hint_laws.proofs.Written.{AllFit, all-fit}
 use Rattle.arm64_machine.specs.Machine.{Placed, placed}
 use Rattle.arm64_machine.specs.SameRun.{SameRun}
 use Rattle.arm64_machine.specs.Premises as Machine
-use Rattle.arm64_hint_run.specs.Hint.{hintOf, isSkipped, insnsIn, placesOf, addrsOf, insnsOf, relsOf, ruled, outcomeOf, newsIn, newsOf}
+use Rattle.arm64_hint_run.specs.Hint.{isSkipped, insnsIn, placesOf, addrsOf, insnsOf, relsOf, ruled, outcomeOf, newsIn, newsOf}
 use Rattle.arm64_hint_run.proofs.Places.{count-is, count-two, insns-three, insns-two}
 use Rattle.arm64_hint_kept.specs.Demand3.{codes, Disjoint, Fair, Same}
 use Rattle.arm64_hint_kept.proofs.Decisions.{placedOf, Addressed, after, decided}

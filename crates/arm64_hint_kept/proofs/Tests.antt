@@ -11,17 +11,18 @@ use Rattle.util.specs.All.{All, empty, more}
 use Rattle.util.proofs.Choice.{both}
 use Rattle.util.proofs.Below.{every, every-at}
 use Rattle.macho.specs.declared.hint.HintRecord.{HintRecord}
+use Rattle.macho.specs.Hint.{hintCount, hintOf}
 use Rattle.image.specs.Words.{span, inWords}
 use Rattle.image.specs.Local.{Apart}
 use Rattle.image.proofs.Words.{spans-apart}
 use Rattle.arm64_hint_order.specs.Lists.{count, ofObj, Once, passes, bound}
-use Rattle.arm64_hint_order.specs.Cursor.{hintCount, objectAt, lateAt}
+use Rattle.arm64_hint_order.specs.Cursor.{objectAt, lateAt}
 use Rattle.arm64_hint_order.proofs.Lists.{once-of}
 use Rattle.arm64_hint_order.proofs.Own.{kept-of}
 use Rattle.arm64_insn.specs.Manual.{allocated}
 use Rattle.arm64_machine.specs.Premises.{links31, adds31, storesMade}
 use Rattle.arm64_machine.proofs.FairTest.{each, next, later, fair-by}
-use Rattle.arm64_hint_run.specs.Hint.{hintOf, isSkipped, placesOf}
+use Rattle.arm64_hint_run.specs.Hint.{isSkipped, placesOf}
 use Rattle.arm64_hint_kept.specs.Demand3.{codes, Disjoint, Kept, PartsApart, Alone, Fair}
 
 -- ---- words that share no byte

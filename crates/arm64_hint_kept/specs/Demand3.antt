@@ -7,16 +7,17 @@ use Prim.Native.Nat.{ℕ, _+_, _<_}
 use Rattle.util.specs.Wrap.{sum}
 use Rattle.util.specs.Word.{le}
 use Rattle.macho.specs.declared.hint.HintRecord.{HintRecord}
+use Rattle.macho.specs.Hint.{hintCount, hintOf}
 use Rattle.image.specs.Words.{span, inWords}
 use Rattle.image.specs.Local.{Apart}
 use Rattle.arm64_hint_order.specs.Runs as Runs
-use Rattle.arm64_hint_order.specs.Cursor.{hintCount, objectAt, lateAt}
+use Rattle.arm64_hint_order.specs.Cursor.{objectAt, lateAt}
 use Rattle.arm64_hint_order.specs.Runs.{ObjectsApart}
 use Rattle.arm64_machine.specs.Machine.{Access, State, Placed, placed, Other, run}
 use Rattle.arm64_machine.specs.SameRun.{spared, Agree, SameRun}
 use Rattle.arm64_machine.specs.Premises as Machine
 use Rattle.arm64_machine.specs.Premises.{Each, touches}
-use Rattle.arm64_hint_run.specs.Hint.{hintOf, isSkipped, insnsIn, placesOf, addrsOf}
+use Rattle.arm64_hint_run.specs.Hint.{isSkipped, insnsIn, placesOf, addrsOf}
 use Rattle.arm64_hint_run.specs.Run.{worked, imageOf}
 use Rattle.arm64_hint_run.specs.declared.outcome.Tally.{Tally}
 

@@ -12,6 +12,10 @@ use Rattle.util.specs.Choice.{choose}
 use Rattle.util.specs.Word.{le, put, bytes}
 use Rattle.util.specs.All.{empty, more}
 use Rattle.util.proofs.Cases.{less-or}
+use Rattle.macho.specs.Types.{MCLOH-AdrpAdrp}
+use Rattle.macho.specs.Record.{bytesOf}
+use Rattle.macho.specs.Hint.{noEntry, insnAt, hintAt, hintBytes}
+use Rattle.macho.specs.declared.hint.HintInsn.{HintInsn}
 use Rattle.image.specs.Words.{span}
 use Rattle.image.specs.Steps.{Work, Steps, stepOf}
 use Rattle.image.proofs.Words.{words-inside, spans-apart}
@@ -22,7 +26,7 @@ use Rattle.arm64_hint_order.proofs.Lists.{once-of}
 use Rattle.arm64_hint_order.proofs.Own.{kept-of}
 use Rattle.arm64_hint_order.proofs.Runs.{parts}
 
--- four hints of the objects 2, 1, 1, 1, none of kind 1
+-- four hints of the objects 2, 1, 1, 1, none an ADRP_ADRP hint
 abbrev object : ℕ → ℕ
 object k = getD (2 ∷ 1 ∷ 1 ∷ 1 ∷ []) k 0
 
@@ -34,20 +38,23 @@ unfolding choose
 four = refl
 
 -- the same from records: kinds 2, 9, 7, 2
+abbrev nowhere : HintInsn
+nowhere = record { off = 0; rel = noEntry; addr = 0 }
+
 abbrev hint : ℕ → ℕ → List ℕ
-hint kind o = kind ∷ 0 ∷ 0 ∷ 0 ∷ bytes 4 o ++ replicate 56 0
+hint kind o = hintBytes (record { kind = kind; n = 0; object = o; start = 0; len = 0; insn0 = nowhere; insn1 = nowhere; insn2 = nowhere })
 
 abbrev records : List ℕ
 records = hint 2 2 ++ hint 9 1 ++ hint 7 1 ++ hint 2 1
 
 pub four-records : orderOf records ≡ 1 ∷ 2 ∷ 3 ∷ 0 ∷ []
-unfolding choose le bytes
+unfolding choose le bytes bytesOf insnAt hintAt hintBytes
 four-records = refl
 
--- an object whose hint of kind 1 stands first in the list, and is worked last
-pub last-of-kind-1 : ownList (λ k. 7) (λ k. eqb (getD (1 ∷ 2 ∷ 8 ∷ []) k 0) 1) 3 ≡ 1 ∷ 2 ∷ 0 ∷ []
+-- an object whose ADRP_ADRP hint stands first in the list, and is worked last
+pub adrp-adrp-last : ownList (λ k. 7) (λ k. eqb (getD (1 ∷ 2 ∷ 8 ∷ []) k 0) MCLOH-AdrpAdrp) 3 ≡ 1 ∷ 2 ∷ 0 ∷ []
 unfolding choose
-last-of-kind-1 = refl
+adrp-adrp-last = refl
 
 -- the list 0, 1, 2, 3 is another that keeps each object's own order
 pub other-once : Once 4 (0 ∷ 1 ∷ 2 ∷ 3 ∷ [])

@@ -1,4 +1,4 @@
--- Two runs over hints that agree: the order of work takes of the hints only their object numbers and whether their kinds are 1. By induction on lists.
+-- Two runs over hints that agree: the order of work takes of the hints only their object numbers and which are ADRP_ADRP hints. By induction on lists.
 use mathlib.Core.Path.{_≡_, refl, ap, ap₂, _∙_}
 use mathlib.Core.Bool.{Bool, true, false, _&&_, Bool·beq}
 use mathlib.Core.List.{List, _∷_, _++_}

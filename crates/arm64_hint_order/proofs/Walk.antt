@@ -13,11 +13,12 @@ use Rattle.util.specs.Choice.{choose}
 use Rattle.util.proofs.Choice.{choose-true, choose-false, both}
 use Rattle.util.proofs.All.{all-map}
 use Rattle.util.proofs.Cases.{same-or, less-or}
+use Rattle.macho.specs.Hint.{hintCount}
 use Rattle.arm64_hint_order.specs.declared.Cursor.{Cursor}
 use Rattle.arm64_hint_order.specs.declared.Next.{Next}
 use Rattle.arm64_hint_order.specs.declared.Next.the-variants.{At, Done}
 use Rattle.arm64_hint_order.specs.Lists.{runList, count, range, those, sel, inPass, passes}
-use Rattle.arm64_hint_order.specs.Cursor.{hintCount, objectAt, lateAt, workFrom, orderOf, passOf, leftIn, rest, following, Cut, Sound, SoundNext}
+use Rattle.arm64_hint_order.specs.Cursor.{objectAt, lateAt, workFrom, orderOf, passOf, leftIn, rest, following, Cut, Sound, SoundNext}
 use Rattle.arm64_hint_order.specs.Walk.{grouped, lastOf, Least, GroupEnd, Found, Entered, StepsIn}
 use Rattle.arm64_hint_order.proofs.Lists.{all-range, range-add, those-append, those-none, sel-take, sel-end}
 use Rattle.arm64_hint_order.proofs.Commute.{once-length}

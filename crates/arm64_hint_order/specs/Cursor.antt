@@ -1,28 +1,24 @@
--- The order of work as a cursor over the lent hint records (document 01, "Records lent by the linker": 64 bytes, kind at byte 0, object at byte 4).
+-- The order of work as a cursor over the lent hint records (document 01, "Records lent by the linker" and "Fix-up and hint rules").
 use mathlib.Core.Path.{_≡_}
 use mathlib.Core.Bool.{Bool, true}
 use mathlib.Core.List.{List, [], _∷_, _++_}
-use Prim.Native.Nat.{ℕ, suc, _+_, _*_, _/_, _≤_, _<_}
+use Prim.Native.Nat.{ℕ, suc, _+_, _≤_, _<_}
 use lib.Dec.{eqb}
-use lib.ListN.{length}
 use Rattle.util.specs.Choice.{choose}
-use Rattle.util.specs.Word.{le}
+use Rattle.macho.specs.Types.{MCLOH-AdrpAdrp}
+use Rattle.macho.specs.Hint.{hintCount, hintOf}
 use Rattle.arm64_hint_order.specs.declared.Cursor.{Cursor}
 use Rattle.arm64_hint_order.specs.declared.Next.{Next}
 use Rattle.arm64_hint_order.specs.declared.Next.the-variants.{At, Done}
 use Rattle.arm64_hint_order.specs.Lists.{sel, inPass, ownFrom, ownList}
 
--- the number of hints
-abbrev pub hintCount : List ℕ → ℕ
-hintCount s = length s / 64
-
 -- a hint's object number
 abbrev pub objectAt : List ℕ → ℕ → ℕ
-objectAt s k = le 4 s (64 * k + 4)
+objectAt s k = hintOf s k .object
 
--- whether a hint's kind is 1
+-- whether a hint is one of the second pass: an ADRP_ADRP hint
 abbrev pub lateAt : List ℕ → ℕ → Bool
-lateAt s k = eqb (le 1 s (64 * k)) 1
+lateAt s k = eqb (hintOf s k .kind) MCLOH-AdrpAdrp
 
 -- the work of the objects from o on
 abbrev pub workFrom : List ℕ → ℕ → List ℕ

@@ -4,11 +4,12 @@ use mathlib.Core.Bool.{Bool, true, _&&_}
 use mathlib.Core.List.{List, [], _∷_}
 use Prim.Native.Nat.{ℕ, zero, suc, _≤_, _<_}
 use lib.Dec.{leb}
+use Rattle.macho.specs.Hint.{hintCount}
 use Rattle.arm64_hint_order.specs.declared.Cursor.{Cursor}
 use Rattle.arm64_hint_order.specs.declared.Next.{Next}
 use Rattle.arm64_hint_order.specs.declared.Next.the-variants.{At, Done}
 use Rattle.arm64_hint_order.specs.Lists.{inPass, passes}
-use Rattle.arm64_hint_order.specs.Cursor.{hintCount, objectAt, lateAt, passOf, leftIn, rest, Cut, Sound}
+use Rattle.arm64_hint_order.specs.Cursor.{objectAt, lateAt, passOf, leftIn, rest, Cut, Sound}
 
 -- whether the object numbers of the n first hints never fall
 abbrev pub grouped : (ℕ → ℕ) → ℕ → Bool

@@ -1,12 +1,17 @@
 // The order of work of a hint run (arch/arm64.rs, `apply_hints`), as a cursor by value over the lent hint records: objects by rising number, in
-// each the hints of other kinds and then those of kind 1, by list position. Where the records come grouped by rising object number, which the
+// each the hints of other kinds and then the ADRP_ADRP hints, by list position. Where the records come grouped by rising object number, which the
 // caller tells, a walk over all of them takes time linear in their number; any other order of the records is right too, and costs three passes
 // over the list for each object.
+use macho::consts::LOH_ARM64_ADRP_ADRP;
+use macho::hint::HintRecord;
+use macho::hint::kind_at;
+use macho::hint::object_at;
 ghost use mathlib.Core.Path.{_≡_};
 ghost use mathlib.Core.Bool.{true};
 ghost use Prim.Native.Nat.{_+_, _≤_, _<_};
+ghost use Rattle.macho.specs.Hint.{hintCount};
 ghost use Rattle.arm64_hint_order.specs.Lists.{inPass};
-ghost use Rattle.arm64_hint_order.specs.Cursor.{hintCount, objectAt, lateAt, orderOf, rest, following, Cut, Sound, SoundNext};
+ghost use Rattle.arm64_hint_order.specs.Cursor.{objectAt, lateAt, orderOf, rest, following, Cut, Sound, SoundNext};
 ghost use Rattle.arm64_hint_order.specs.Walk.{grouped, Least, Placed, GroupEnd, Found, Entered, StepsIn};
 
 // Where a walk stands: in the object's pass (the second if late is set), before place at. The object's hints stand from lo up to hi.
@@ -25,20 +30,12 @@ pub enum Next {
     Done,
 }
 
-// A hint's object number.
-fn object(hints: &[u8], k: usize) -> u32
-    requires { ⌜ k < hintCount (now hints) ⌝ }
-    ensures { λ r. ⌜ r ≡ objectAt (now (hints .entry)) k ⌝ }
-{
-    util::read32(hints, 64 * k + 4)
-}
-
 // Whether a hint is one of the second pass.
 fn is_late(hints: &[u8], k: usize) -> bool
     requires { ⌜ k < hintCount (now hints) ⌝ }
     ensures { λ r. ⌜ r ≡ lateAt (now (hints .entry)) k ⌝ }
 {
-    hints[64 * k] == 1
+    kind_at(hints, k) == LOH_ARM64_ADRP_ADRP
 }
 
 // Whether a hint is one of an object's first or second pass.
@@ -46,7 +43,7 @@ fn in_pass(hints: &[u8], o: u32, late: bool, k: usize) -> bool
     requires { ⌜ k < hintCount (now hints) ⌝ }
     ensures { λ r. ⌜ r ≡ inPass (objectAt (now (hints .entry))) (lateAt (now (hints .entry))) o late k ⌝ }
 {
-    if object(hints, k) != o {
+    if object_at(hints, k) != o {
         return false;
     }
     is_late(hints, k) == late
@@ -57,14 +54,14 @@ fn group_end(hints: &[u8], p: usize) -> usize
     requires { ⌜ (p < hintCount (now hints)) × Cut (now hints) (objectAt (now hints) p) p ⌝ }
     ensures { λ r. ⌜ GroupEnd (now (hints .entry)) p r ⌝ }
 {
-    let n = hints.len() / 64;
-    let o = object(hints, p);
-    if object(hints, n - 1) == o {
+    let n = hints.len() / HintRecord::SIZE;
+    let o = object_at(hints, p);
+    if object_at(hints, n - 1) == o {
         return n;
     }
     let mut k = p + 1;
     while k < n {
-        if object(hints, k) != o {
+        if object_at(hints, k) != o {
             return k;
         }
         k += 1;
@@ -77,14 +74,14 @@ fn lesser(hints: &[u8], o: u64, best: usize, k: usize) -> usize
     requires { ⌜ (k < hintCount (now hints)) × Least (now hints) o k best ⌝ }
     ensures { λ r. ⌜ Least (now (hints .entry)) o (k + 1) r ⌝ }
 {
-    let x = object(hints, k);
+    let x = object_at(hints, k);
     if (x as u64) < o {
         return best;
     }
-    if best == hints.len() / 64 {
+    if best == hints.len() / HintRecord::SIZE {
         return k;
     }
-    if object(hints, best) <= x {
+    if object_at(hints, best) <= x {
         return best;
     }
     k
@@ -94,7 +91,7 @@ fn lesser(hints: &[u8], o: u64, best: usize, k: usize) -> usize
 fn least_from(hints: &[u8], o: u64) -> usize
     ensures { λ r. ⌜ Least (now (hints .entry)) o (hintCount (now (hints .entry))) r ⌝ }
 {
-    let n = hints.len() / 64;
+    let n = hints.len() / HintRecord::SIZE;
     let mut best = n;
     let mut k = 0;
     while k < n {
@@ -135,7 +132,7 @@ fn enter(hints: &[u8], grouped: bool, p: usize) -> Cursor
     requires { ⌜ (p < hintCount (now hints)) × (grouped ≡ true → Cut (now hints) (objectAt (now hints) p) p) ⌝ }
     ensures { λ r. ⌜ Entered (now (hints .entry)) p r ⌝ }
 {
-    let object = object(hints, p);
+    let object = object_at(hints, p);
     if grouped {
         let hi = group_end(hints, p);
         return Cursor {
@@ -151,7 +148,7 @@ fn enter(hints: &[u8], grouped: bool, p: usize) -> Cursor
         grouped: false,
         object,
         lo: 0,
-        hi: hints.len() / 64,
+        hi: hints.len() / HintRecord::SIZE,
         late: false,
         at: 0,
     }
@@ -165,7 +162,7 @@ impl Cursor {
         ensures sound { λ r. ⌜ Sound (now (hints .entry)) r ⌝ }
     {
         let p = place_from(hints, rises, 0, 0);
-        if p < hints.len() / 64 {
+        if p < hints.len() / HintRecord::SIZE {
             return enter(hints, rises, p);
         }
         Cursor {
@@ -231,7 +228,7 @@ impl Cursor {
             }
             Next::Done => {
                 let p = place_from(hints, self.grouped, self.hi, (self.object as u64) + 1);
-                if p < hints.len() / 64 {
+                if p < hints.len() / HintRecord::SIZE {
                     return enter(hints, self.grouped, p).step_in(hints);
                 }
                 return Next::Done;

@@ -13,7 +13,7 @@ use Rattle.util.specs.Choice.{choose}
 use Rattle.util.specs.Word.{le, put}
 use Rattle.util.proofs.Choice.{choose-false}
 use Rattle.macho.specs.Types.{MCLOH-AdrpAdrp}
-use Rattle.macho.specs.Hint.{wordCount}
+use Rattle.macho.specs.Hint.{wordCount, hintCount, hintOf}
 use Rattle.macho.specs.declared.hint.HintInsn.{HintInsn}
 use Rattle.macho.specs.declared.hint.HintRecord.{HintRecord}
 use Rattle.macho.specs.declared.refusal.Refusal.{Refusal}
@@ -37,9 +37,9 @@ use Rattle.arm64_hint_terms.specs.declared.answer.Decision.{Decision}
 use Rattle.arm64_hint_terms.specs.declared.answer.Decision.the-variants.{Nine}
 use Rattle.arm64_hint_terms.specs.declared.rels.Rels.{Rels}
 use Rattle.arm64_hint_order.specs.Lists.{runList}
-use Rattle.arm64_hint_order.specs.Cursor.{hintCount, orderOf}
+use Rattle.arm64_hint_order.specs.Cursor.{orderOf}
 use Rattle.arm64_hint_order.proofs.Walk.{order-length}
-use Rattle.arm64_hint_run.specs.Hint.{hintOf, isSkipped, insnsIn, placesOf, insnsOf, relsOf, outcomeOf, newsIn, newsOf}
+use Rattle.arm64_hint_run.specs.Hint.{isSkipped, insnsIn, placesOf, insnsOf, relsOf, outcomeOf, newsIn, newsOf}
 use Rattle.arm64_hint_run.specs.Hint.{addDecision, addOutcome, total, stepsOf}
 use Rattle.arm64_hint_run.specs.Check.{isList, checkLists, first, checkTo, checkAll}
 use Rattle.arm64_hint_run.specs.Run.{start, worked, answerBy, imageBy, runOf, imageOf}

@@ -14,17 +14,17 @@ use lib.ListN.{length}
 use Rattle.util.specs.All.{empty, more}
 use Rattle.util.proofs.Choice.{split, choose-false, choose-first, both}
 use Rattle.util.proofs.Cases.{same-or, less-or}
-use Rattle.macho.specs.Hint.{noEntry, hintAt}
+use Rattle.macho.specs.Hint.{noEntry, hintCount, hintOf}
 use Rattle.macho.specs.declared.hint.HintInsn.{HintInsn}
 use Rattle.macho.specs.declared.hint.HintRecord.{HintRecord}
 use Rattle.macho.specs.declared.refusal.Refusal.{Refusal}
 use Rattle.macho.specs.declared.refusal.Refusal.the-variants.{Lengths}
-use Rattle.arm64_hint_order.specs.Cursor.{hintCount, objectAt}
+use Rattle.arm64_hint_order.specs.Cursor.{objectAt}
 use Rattle.arm64_hint_order.specs.Walk.{grouped, lastOf}
 use Rattle.arm64_hint_order.proofs.Walk.{grouped-step}
 use Rattle.arm64_hint_words.specs.Place.{InBytes}
 use Rattle.arm64_hint_words.specs.Entry.{InEntries}
-use Rattle.arm64_hint_run.specs.Hint.{hintOf, isSkipped, insnsIn, Inside, Named}
+use Rattle.arm64_hint_run.specs.Hint.{isSkipped, insnsIn, Inside, Named}
 use Rattle.arm64_hint_run.specs.Check.{isList, checkLists, partPast, endsPast, namesAbsent, anyOf, checkHint, first, checkTo, checkAll, checkedAs}
 use Rattle.arm64_hint_run.specs.declared.check.Check.{Check}
 use Rattle.arm64_hint_run.specs.declared.check.Check.the-variants.{Fine, Refused}
@@ -176,7 +176,6 @@ grouped-more obj k a b c e = rw (add-one k) (e ∙ rw (a, b, c) (sym (grouped-st
 
 -- the object number of a hint that is read
 pub object-is : (hints : List ℕ) (k : ℕ) {h : HintRecord} → h ≡ hintOf hints k → h .object ≡ objectAt hints k
-unfolding hintAt
 object-is hints k e = ap (λ (h : HintRecord). h .object) e
 
 -- the check's word with that

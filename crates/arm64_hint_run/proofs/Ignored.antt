@@ -13,18 +13,18 @@ use Rattle.util.specs.Word.{le}
 use Rattle.util.proofs.Word.{le-ext}
 use Rattle.util.proofs.Cases.{same-or}
 use Rattle.macho.specs.Record.{Field, _of_, unused}
-use Rattle.macho.specs.Hint.{insnAt, hintAt, wordCount}
+use Rattle.macho.specs.Hint.{insnAt, hintAt, wordCount, hintCount, hintOf}
 use Rattle.macho.specs.declared.hint.HintInsn.{HintInsn}
 use Rattle.macho.specs.declared.hint.HintRecord.{HintRecord}
 use Rattle.macho.proofs.RoundTrip.{value-ignores, value-ext, hint}
 use Rattle.image.specs.Words.{wordsAt, putWords}
 use Rattle.image.specs.Steps.{Work, stepOf}
 use Rattle.arm64_hint_order.specs.Lists.{runList, ownList}
-use Rattle.arm64_hint_order.specs.Cursor.{hintCount, objectAt, lateAt, orderOf}
+use Rattle.arm64_hint_order.specs.Cursor.{objectAt, lateAt, orderOf}
 use Rattle.arm64_hint_order.proofs.Lists.{once-inside}
 use Rattle.arm64_hint_order.proofs.Own.{own-once}
 use Rattle.arm64_hint_order.proofs.Same.{run-same, own-same}
-use Rattle.arm64_hint_run.specs.Hint.{hintOf, isSkipped, insnsIn, placesOf, insnsOf, relsOf, outcomeOf, newsOf, addOutcome, stepsOf}
+use Rattle.arm64_hint_run.specs.Hint.{isSkipped, insnsIn, placesOf, insnsOf, relsOf, outcomeOf, newsOf, addOutcome, stepsOf}
 use Rattle.arm64_hint_run.specs.Check.{checkHint, first, checkLists, checkTo, checkAll}
 use Rattle.arm64_hint_run.specs.Run.{start, worked, answerBy, imageBy, runOf, imageOf}
 use Rattle.arm64_hint_run.specs.declared.outcome.Outcome.{Outcome}

@@ -15,7 +15,7 @@ use Rattle.util.specs.All.{All, empty, more}
 use Rattle.util.proofs.Choice.{choose-true, choose-false}
 use Rattle.util.proofs.Cases.{less-or}
 use Rattle.macho.specs.Reloc.{relocAt}
-use Rattle.macho.specs.Hint.{noEntry}
+use Rattle.macho.specs.Hint.{noEntry, hintCount, hintOf}
 use Rattle.macho.specs.declared.hint.HintRecord.{HintRecord}
 use Rattle.macho.specs.declared.reloc.Reloc.{Reloc}
 use Rattle.image.specs.Words.{wordsAt, putWords}
@@ -27,11 +27,11 @@ use Rattle.arm64_hint_terms.specs.declared.answer.Decision.{Decision}
 use Rattle.arm64_hint_terms.specs.declared.rels.Rel.{Rel}
 use Rattle.arm64_hint_terms.specs.declared.rels.Rel.the-variants.{Entry, Absent}
 use Rattle.arm64_hint_terms.specs.declared.rels.Rels.{Rels}
-use Rattle.arm64_hint_order.specs.Cursor.{hintCount, objectAt, lateAt, orderOf}
+use Rattle.arm64_hint_order.specs.Cursor.{objectAt, lateAt, orderOf}
 use Rattle.arm64_hint_order.proofs.Lists.{once-inside}
 use Rattle.arm64_hint_order.proofs.Own.{own-once}
 use Rattle.arm64_hint_order.proofs.Same.{run-same}
-use Rattle.arm64_hint_run.specs.Hint.{hintOf, isSkipped, placesOf, insnsOf, relsOf, outcomeOf, newsOf, addOutcome, stepsOf, Named}
+use Rattle.arm64_hint_run.specs.Hint.{isSkipped, placesOf, insnsOf, relsOf, outcomeOf, newsOf, addOutcome, stepsOf, Named}
 use Rattle.arm64_hint_run.specs.Check.{checkAll}
 use Rattle.arm64_hint_run.specs.Run.{start, worked, answerBy, imageBy, runOf, imageOf}
 use Rattle.arm64_hint_run.specs.declared.outcome.Outcome.{Outcome}

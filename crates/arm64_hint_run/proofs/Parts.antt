@@ -8,11 +8,11 @@ use lib.ListN.{length}
 use Rattle.util.specs.All.{All, empty, more}
 use Rattle.macho.specs.declared.hint.HintInsn.{HintInsn}
 use Rattle.macho.specs.declared.hint.HintRecord.{HintRecord}
+use Rattle.macho.specs.Hint.{hintCount, hintOf}
 use Rattle.image.specs.Words.{span, inWords}
 use Rattle.image.specs.Steps.{footOf}
 use Rattle.image.proofs.Words.{words-inside}
-use Rattle.arm64_hint_order.specs.Cursor.{hintCount}
-use Rattle.arm64_hint_run.specs.Hint.{hintOf, isSkipped, placesOf, stepsOf, Inside}
+use Rattle.arm64_hint_run.specs.Hint.{isSkipped, placesOf, stepsOf, Inside}
 use Rattle.arm64_hint_run.specs.Check.{checkAll}
 use Rattle.arm64_hint_run.specs.declared.check.Check.the-variants.{Fine}
 use Rattle.arm64_hint_run.proofs.Places.{insns-none}

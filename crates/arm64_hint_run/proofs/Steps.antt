@@ -10,6 +10,7 @@ use Rattle.util.proofs.Choice.{choose-true, choose-false}
 use Rattle.util.proofs.Part.{length-part}
 use Rattle.macho.specs.declared.hint.HintRecord.{HintRecord}
 use Rattle.macho.specs.declared.refusal.Refusal.{Refusal}
+use Rattle.macho.specs.Hint.{hintCount, hintOf}
 use Rattle.image.specs.Words.{wordsAt, putWords}
 use Rattle.image.specs.Steps.{Work, answered, written, stepOf}
 use Rattle.image.proofs.Steps.{local-step}
@@ -19,9 +20,9 @@ use Rattle.arm64_hint_order.specs.declared.Cursor.{Cursor}
 use Rattle.arm64_hint_order.specs.declared.Next.{Next}
 use Rattle.arm64_hint_order.specs.declared.Next.the-variants.{At, Done}
 use Rattle.arm64_hint_order.specs.Lists.{runList}
-use Rattle.arm64_hint_order.specs.Cursor.{hintCount, orderOf, rest, following, Sound, SoundNext}
+use Rattle.arm64_hint_order.specs.Cursor.{orderOf, rest, following, Sound, SoundNext}
 use Rattle.arm64_hint_order.proofs.Walk.{turn-at, turn-done, turn-count, turn-sound, order-length}
-use Rattle.arm64_hint_run.specs.Hint.{hintOf, isSkipped, placesOf, relsOf, outcomeOf, newsOf, ruled, ruledIn, sectionAfter}
+use Rattle.arm64_hint_run.specs.Hint.{isSkipped, placesOf, relsOf, outcomeOf, newsOf, ruled, ruledIn, sectionAfter}
 use Rattle.arm64_hint_run.specs.Hint.{addOutcome, total, stepsOf, Inside}
 use Rattle.arm64_hint_run.specs.Check.{checkAll}
 use Rattle.arm64_hint_run.specs.Run.{zeros, start, worked, answerBy, imageBy, runOf, imageOf}

@@ -5,12 +5,11 @@ use mathlib.Core.List.{List, [], _∷_}
 use lib.Dec.{eqb, ltb, leb}
 use lib.ListN.{length}
 use Rattle.util.specs.Choice.{choose}
-use Rattle.macho.specs.Hint.{noEntry}
+use Rattle.macho.specs.Hint.{noEntry, hintCount, hintOf}
 use Rattle.macho.specs.declared.hint.HintInsn.{HintInsn}
 use Rattle.macho.specs.declared.hint.HintRecord.{HintRecord}
 use Rattle.macho.specs.declared.refusal.Refusal.the-variants.{Lengths, Bounds, NoEntry}
-use Rattle.arm64_hint_order.specs.Cursor.{hintCount}
-use Rattle.arm64_hint_run.specs.Hint.{hintOf, isSkipped, insnsIn}
+use Rattle.arm64_hint_run.specs.Hint.{isSkipped, insnsIn}
 use Rattle.arm64_hint_run.specs.declared.check.Check.{Check}
 use Rattle.arm64_hint_run.specs.declared.check.Check.the-variants.{Fine, Refused}
 use Rattle.arm64_hint_run.specs.declared.check.Checked.{Checked}

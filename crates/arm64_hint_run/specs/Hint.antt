@@ -1,6 +1,6 @@
 -- A lent hint: its words, what is decided of them, and the tally (document 01, "Records lent by the linker" and "Fix-up and hint rules";
 -- arch/arm64.rs, `Hint` and `apply_hints`).
-use Prim.Native.Nat.{ℕ, _+_, _*_}
+use Prim.Native.Nat.{ℕ, _+_}
 use mathlib.Core.Path.{_≡_}
 use mathlib.Core.Bool.{Bool, false, _||_, not}
 use mathlib.Core.List.{List, [], _∷_, map}
@@ -8,7 +8,7 @@ use mathlib.Core.Option.{Option}
 use lib.Dec.{eqb}
 use lib.ListN.{getD, take}
 use Rattle.util.specs.Choice.{choose}
-use Rattle.macho.specs.Hint.{hintAt, wordCount}
+use Rattle.macho.specs.Hint.{wordCount, hintOf}
 use Rattle.macho.specs.declared.hint.HintInsn.{HintInsn}
 use Rattle.macho.specs.declared.hint.HintRecord.{HintRecord}
 use Rattle.image.specs.Words.{wordsAt, putWords}
@@ -23,10 +23,6 @@ use Rattle.arm64_hint_words.specs.Entry.{relsIn, InEntries}
 use Rattle.arm64_hint_run.specs.declared.outcome.Outcome.{Outcome}
 use Rattle.arm64_hint_run.specs.declared.outcome.Outcome.the-variants.{Skipped, Worked}
 use Rattle.arm64_hint_run.specs.declared.outcome.Tally.{Tally}
-
--- hint k of the lent hints
-abbrev pub hintOf : List ℕ → ℕ → HintRecord
-hintOf hints k = hintAt hints (64 * k)
 
 -- whether a hint is skipped: its kind is none of LLVM's, or its word count is not the kind's
 unfoldable pub isSkipped : HintRecord → Bool

@@ -16,9 +16,9 @@ use macho::hint::HintRecord;
 ghost use mathlib.Core.Path.{_≡_};
 ghost use Prim.Native.Nat.{_/_, _<_};
 ghost use lib.ListN.{length};
+ghost use Rattle.macho.specs.Hint.{hintCount, hintOf};
 ghost use Rattle.image.specs.Steps.{answered, written};
-ghost use Rattle.arm64_hint_order.specs.Cursor.{hintCount};
-ghost use Rattle.arm64_hint_run.specs.Hint.{hintOf, ruledIn, sectionAfter, stepsOf, Inside};
+ghost use Rattle.arm64_hint_run.specs.Hint.{ruledIn, sectionAfter, stepsOf, Inside};
 ghost use Rattle.arm64_hint_run.specs.Check.{checkHint};
 ghost use Rattle.arm64_hint_run.specs.declared.check.Check.the-variants.{Fine};
 

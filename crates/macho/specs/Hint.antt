@@ -1,7 +1,8 @@
--- A hint, 64 bytes (document 01, "Records lent by the linker"), and the word counts of the kinds.
-use Prim.Native.Nat.{ℕ, _+_}
+-- A hint, 64 bytes (document 01, "Records lent by the linker"), lists of hints, and the word counts of the kinds.
+use Prim.Native.Nat.{ℕ, _+_, _*_, _/_}
 use mathlib.Core.List.{List, [], _∷_, _++_}
 use lib.Dec.{eqb}
+use lib.ListN.{length}
 use Rattle.util.specs.Choice.{choose}
 use Rattle.util.specs.Word.{le}
 use Rattle.macho.specs.Types.{MCLOH-AdrpAdrp, MCLOH-AdrpLdr, MCLOH-AdrpAddLdr, MCLOH-AdrpLdrGotLdr}
@@ -31,6 +32,14 @@ hintAt s at =
       insn1 = insnAt s (at + 32);
       insn2 = insnAt s (at + 48);
     }
+
+-- the number of hints of a list
+abbrev pub hintCount : List ℕ → ℕ
+hintCount hints = length hints / 64
+
+-- hint k of a list
+abbrev pub hintOf : List ℕ → ℕ → HintRecord
+hintOf hints k = hintAt hints (64 * k)
 
 -- a place's fields in order
 abbrev pub insnFields : HintInsn → List Field

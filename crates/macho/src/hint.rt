@@ -4,9 +4,9 @@ use crate::consts;
 use util::read32;
 use util::read64;
 ghost use mathlib.Core.Path.{_≡_};
-ghost use Prim.Native.Nat.{_+_, _≤_};
+ghost use Prim.Native.Nat.{_+_, _≤_, _<_};
 ghost use lib.ListN.{length};
-ghost use Rattle.macho.specs.Hint.{insnAt, hintAt, wordCount};
+ghost use Rattle.macho.specs.Hint.{insnAt, hintAt, hintCount, hintOf, wordCount};
 
 // One of a hint's places, 16 bytes: offset in the part, entry number, the word's own address.
 pub struct HintInsn {
@@ -65,6 +65,22 @@ impl HintRecord {
             insn2: HintInsn::read(s, at + 48),
         }
     }
+}
+
+// The kind of hint k of a list. Nothing else of the hint is read.
+pub fn kind_at(hints: &[u8], k: usize) -> u8
+    requires { ⌜ k < hintCount (now hints) ⌝ }
+    ensures { λ r. ⌜ r ≡ hintOf (now (hints .entry)) k .kind ⌝ }
+{
+    read8(hints, HintRecord::SIZE * k)
+}
+
+// The object number of hint k of a list. Nothing else of the hint is read.
+pub fn object_at(hints: &[u8], k: usize) -> u32
+    requires { ⌜ k < hintCount (now hints) ⌝ }
+    ensures { λ r. ⌜ r ≡ hintOf (now (hints .entry)) k .object ⌝ }
+{
+    read32(hints, HintRecord::SIZE * k + 4)
 }
 
 // How many words a hint of a kind has; 0 where the number is no kind.

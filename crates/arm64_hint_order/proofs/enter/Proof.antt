@@ -4,8 +4,8 @@ use borrow.Author.Needs.{needs}
 use Rattle.arm64_hint_order.proofs.enter.Statement.{statement}
 use Rattle.arm64_hint_order.proofs.enter.Tie as tie
 
-object-requires : tie.Need-object-requires
-object-requires c κs = search needs
+object-at-requires : tie.Need-object-at-requires
+object-at-requires c κs = search needs
 
 group-end-requires : tie.Need-group-end-requires
 group-end-requires c κs =
@@ -14,14 +14,14 @@ group-end-requires c κs =
 
 returns : tie.Need-returns
 returns c =
-    let o = c .before .before .object in
+    let o = c .before .before .object-at in
     let r = c .before .before .before .before in
     entered-grouped _ (o .result) (r .args .p) (c .group-end .result) (o .ensures) (r .pre .0) (r .pre .1 (c .before .if1 .taken)) (c .group-end .ensures)
 
 returns-2 : tie.Need-returns-2
 returns-2 c =
     let r = c .before .before .before in
-    entered-apart _ (c .before .object .result) (r .args .p) (c .before .object .ensures) (r .pre .0)
+    entered-apart _ (c .before .object-at .result) (r .args .p) (c .before .object-at .ensures) (r .pre .0)
 
 pub enter-spec : {M : Type 1} → statement M
-enter-spec = tie.close (tie.spec object-requires group-end-requires returns returns-2)
+enter-spec = tie.close (tie.spec object-at-requires group-end-requires returns returns-2)

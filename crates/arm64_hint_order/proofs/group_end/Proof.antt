@@ -4,7 +4,8 @@ use Prim.Native.Nat.{ℕ, _-_, _≤_, _<_}
 use native.Mathlib.Omega.{arith}
 use borrow.Author.Needs.{needs}
 use Rattle.util.proofs.Cases.{same-or}
-use Rattle.arm64_hint_order.specs.Cursor.{hintCount, objectAt}
+use Rattle.macho.specs.Hint.{hintCount}
+use Rattle.arm64_hint_order.specs.Cursor.{objectAt}
 use Rattle.arm64_hint_order.proofs.Walk.{group-to-end}
 use Rattle.arm64_hint_order.proofs.group_end.Statement.{statement}
 use Rattle.arm64_hint_order.proofs.group_end.Tie as tie
@@ -15,20 +16,20 @@ Inv-loop hints p n o k₀ k = (p < k) × (k ≤ hintCount hints) × ((j : ℕ) �
 abbrev μ-loop : tie.MeasureT-loop
 μ-loop hints p n o k₀ k = hintCount hints - k
 
-object-requires : tie.Need-object-requires Inv-loop μ-loop
-object-requires c κs = search needs
+object-at-requires : tie.Need-object-at-requires Inv-loop μ-loop
+object-at-requires c κs = search needs
 
-sub-object : tie.Need-sub-object Inv-loop μ-loop
-sub-object c = omega (arith, c .before .before .pre .0)
+sub-object-at : tie.Need-sub-object-at Inv-loop μ-loop
+sub-object-at c = omega (arith, c .before .before .pre .0)
 
-object-requires-2 : tie.Need-object-requires-2 Inv-loop μ-loop
-object-requires-2 c κs = search needs
+object-at-requires-2 : tie.Need-object-at-requires-2 Inv-loop μ-loop
+object-at-requires-2 c κs = search needs
 
 returns : tie.Need-returns Inv-loop μ-loop
 returns c =
     let r = c .before .before .before .before in
     group-to-end (r .args .hints .now) (r .args .p) (r .pre .0) (r .pre .1)
-    (omega (arith, c .before .object2 .ensures, c .before .before .object .ensures))
+    (omega (arith, c .before .object-at2 .ensures, c .before .before .object-at .ensures))
 
 add-k : tie.Need-add-k Inv-loop μ-loop
 add-k c = search needs
@@ -36,8 +37,8 @@ add-k c = search needs
 loop-holds : tie.Need-loop-holds Inv-loop μ-loop
 loop-holds c = (omega arith, omega arith, λ j h g. ap (objectAt (c .before .before .before .before .args .hints .now)) (omega arith))
 
-object-requires-3 : tie.Need-object-requires-3 Inv-loop μ-loop
-object-requires-3 c κs = search needs
+object-at-requires-3 : tie.Need-object-at-requires-3 Inv-loop μ-loop
+object-at-requires-3 c κs = search needs
 
 returns-2 : tie.Need-returns-2 Inv-loop μ-loop
 returns-2 c =
@@ -46,7 +47,7 @@ returns-2 c =
       within = l .loop .inv .1;
       past = l .loop .inv .0;
       same = l .loop .inv .2;
-      other = λ h e. c .if2 .taken (c .before .object3 .ensures ∙ e ∙ sym (l .before .before .before .object .ensures));
+      other = λ h e. c .if2 .taken (c .before .object-at3 .ensures ∙ e ∙ sym (l .before .before .before .object-at .ensures));
     }
 
 add-k-2 : tie.Need-add-k-2 Inv-loop μ-loop
@@ -63,7 +64,7 @@ loop-again c =
       omega arith,
       omega arith,
       λ j h g. same-or j (l .loop .k)
-          (λ e. ap (objectAt s) e ∙ sym (c .before .object3 .ensures) ∙ c .if2 .left ∙ o .object .ensures)
+          (λ e. ap (objectAt s) e ∙ sym (c .before .object-at3 .ensures) ∙ c .if2 .left ∙ o .object-at .ensures)
           (λ ne. l .loop .inv .2 j h (omega arith)),
     )
 
@@ -78,13 +79,13 @@ group-end-spec =
     (tie.spec
     Inv-loop
     μ-loop
-    object-requires
-    sub-object
-    object-requires-2
+    object-at-requires
+    sub-object-at
+    object-at-requires-2
     returns
     add-k
     loop-holds
-    object-requires-3
+    object-at-requires-3
     returns-2
     add-k-2
     loop-less

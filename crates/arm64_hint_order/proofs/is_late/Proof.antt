@@ -1,27 +1,17 @@
--- `is_late` meets its contract: a word of one byte is that byte.
-use mathlib.Core.Path.{_≡_, sym, ap}
-use Prim.Native.Nat.{ℕ, _+_, _*_}
-use native.Mathlib.Omega.{arith}
+-- `is_late` meets its contract: the one test of the kind.
+use mathlib.Core.Path.{ap}
+use Prim.Native.Nat.{ℕ}
 use borrow.Author.Needs.{needs}
 use lib.Dec.{eqb}
-use lib.ListN.{getD}
-use Rattle.util.specs.Word.{le}
-use Rattle.util.proofs.Word.{le-one}
+use Rattle.macho.specs.Types.{MCLOH-AdrpAdrp}
 use Rattle.arm64_hint_order.proofs.is_late.Statement.{statement}
 use Rattle.arm64_hint_order.proofs.is_late.Tie as tie
 
-mul-result : tie.Need-mul-result
-mul-result c = search needs
-
-shared-slice-read-result : tie.Need-shared-slice-read-result
-shared-slice-read-result c = search needs
+kind-at-requires : tie.Need-kind-at-requires
+kind-at-requires c κs = search needs
 
 returns : tie.Need-returns
-returns c =
-    let s = c .before .args .hints .now in
-    let at : ℕ = 64 * c .before .args .k in
-    let e : le 1 s at ≡ getD s at 0 = le-one s at (omega (arith, c .shared-slice-known .given at)) in
-    ap (λ (b : ℕ). eqb b 1) (sym e)
+returns c = ap (λ (b : ℕ). eqb b MCLOH-AdrpAdrp) (c .kind-at .ensures)
 
 pub is-late-spec : {M : Type 1} → statement M
-is-late-spec = tie.close (tie.spec mul-result shared-slice-read-result returns)
+is-late-spec = tie.close (tie.spec kind-at-requires returns)

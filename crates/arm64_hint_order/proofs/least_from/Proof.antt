@@ -2,7 +2,7 @@
 use Prim.Native.Nat.{_-_, _≤_}
 use native.Mathlib.Omega.{arith}
 use borrow.Author.Needs.{needs}
-use Rattle.arm64_hint_order.specs.Cursor.{hintCount}
+use Rattle.macho.specs.Hint.{hintCount}
 use Rattle.arm64_hint_order.specs.Walk.{Least}
 use Rattle.arm64_hint_order.proofs.least_from.Statement.{statement}
 use Rattle.arm64_hint_order.proofs.least_from.Tie as tie

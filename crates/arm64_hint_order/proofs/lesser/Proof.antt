@@ -5,8 +5,8 @@ use borrow.Author.Needs.{needs}
 use Rattle.arm64_hint_order.proofs.lesser.Statement.{statement}
 use Rattle.arm64_hint_order.proofs.lesser.Tie as tie
 
-object-requires : tie.Need-object-requires
-object-requires c κs = search needs
+object-at-requires : tie.Need-object-at-requires
+object-at-requires c κs = search needs
 
 cast-if1 : tie.Need-cast-if1
 cast-if1 c = search needs
@@ -18,39 +18,39 @@ returns c =
     let l = r .pre .1 in
     least-more _ (a .o) (a .k) (a .best) (a .best) l (l .within) (l .reached)
     (λ h. (h, omega arith))
-    (λ h. absurd (omega (arith, c .before .object .ensures)))
+    (λ h. absurd (omega (arith, c .before .object-at .ensures)))
 
 returns-2 : tie.Need-returns-2
 returns-2 c =
     let r = c .before .before .before .before in
     let a = r .args in
-    least-more _ (a .o) (a .k) (a .best) (a .k) (r .pre .1) (omega arith) (λ h. omega (arith, c .before .before .object .ensures))
+    least-more _ (a .o) (a .k) (a .best) (a .k) (r .pre .1) (omega arith) (λ h. omega (arith, c .before .before .object-at .ensures))
     (λ h. absurd (omega arith))
     (λ h. (omega arith, omega arith))
 
-object-requires-2 : tie.Need-object-requires-2
-object-requires-2 c κs = search needs
+object-at-requires-2 : tie.Need-object-at-requires-2
+object-at-requires-2 c κs = search needs
 
 returns-3 : tie.Need-returns-3
 returns-3 c =
-    let k = c .before .before .before .before .object .ensures in
+    let k = c .before .before .before .before .object-at .ensures in
     let r = c .before .before .before .before .before .before in
     let a = r .args in
     let l = r .pre .1 in
     least-more _ (a .o) (a .k) (a .best) (a .best) l (l .within) (l .reached)
     (λ h. (h, omega arith))
-    (λ h. (omega (arith, l .within), omega (arith, k, c .before .object2 .ensures)))
+    (λ h. (omega (arith, l .within), omega (arith, k, c .before .object-at2 .ensures)))
 
 returns-4 : tie.Need-returns-4
 returns-4 c =
-    let k = c .before .before .before .before .object .ensures in
+    let k = c .before .before .before .before .object-at .ensures in
     let r = c .before .before .before .before .before .before in
     let a = r .args in
     least-more _ (a .o) (a .k) (a .best) (a .k) (r .pre .1) (omega arith) (λ h. omega (arith, k))
-    (λ h. (omega arith, omega (arith, k, c .before .object2 .ensures)))
+    (λ h. (omega arith, omega (arith, k, c .before .object-at2 .ensures)))
     (λ h. (omega arith, omega arith))
 
 pub lesser-spec : {M : Type 1} → statement M
 lesser-spec =
     tie.close
-    (tie.spec object-requires cast-if1 returns returns-2 object-requires-2 returns-3 returns-4)
+    (tie.spec object-at-requires cast-if1 returns returns-2 object-at-requires-2 returns-3 returns-4)

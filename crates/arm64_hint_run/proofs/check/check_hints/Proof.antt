@@ -7,7 +7,8 @@ use Prim.Native.Nat.{_-_, _≤_, zero-le}
 use native.Mathlib.Omega.{arith}
 use lib.Dec.{leb}
 use Rattle.macho.specs.declared.hint.HintRecord.{HintRecord}
-use Rattle.arm64_hint_order.specs.Cursor.{hintCount, objectAt}
+use Rattle.macho.specs.Hint.{hintCount}
+use Rattle.arm64_hint_order.specs.Cursor.{objectAt}
 use Rattle.arm64_hint_order.specs.Walk.{grouped, lastOf}
 use Rattle.arm64_hint_run.specs.Check.{checkHint, checkTo}
 use Rattle.arm64_hint_run.specs.declared.check.Check.the-variants.{Fine}

@@ -4,9 +4,9 @@ use Prim.Native.Nat.{ℕ, _/_}
 use native.Mathlib.Omega.{arith}
 use borrow.Author.Needs.{needs}
 use lib.ListN.{length}
+use Rattle.macho.specs.Hint.{hintOf}
 use Rattle.arm64_hint_order.specs.Cursor.{rest}
 use Rattle.arm64_hint_order.proofs.Walk.{turn-count, turn-sound}
-use Rattle.arm64_hint_run.specs.Hint.{hintOf}
 use Rattle.arm64_hint_run.specs.Check.{checkHint}
 use Rattle.arm64_hint_run.specs.declared.check.Check.the-variants.{Fine}
 use Rattle.arm64_hint_run.proofs.Checks.{few-hints, each-fine}
