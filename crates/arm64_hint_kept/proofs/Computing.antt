@@ -21,11 +21,12 @@ use Rattle.arm64_hint_adrp.specs.Two.{samePage, adrpAdrp, ldrSecond, ldrAtPage,
 use Rattle.arm64_hint_adrp.specs.Three.{addAccess, through, foldThird, adrOrFold, loadThrough, adrpAddLdr, adrpAddStr}
 use Rattle.arm64_hint_got.specs.Got.{loadsSlot, slotLoad, relaxedLoad, gotLoad, adrpLdrGot, slotTo, gotLiteral, foldLoad, adrOrFoldLoad, relaxedTo}
 use Rattle.arm64_hint_got.specs.Got.{relaxedLdr, adrpLdrGotLdr, relaxedStr, adrpLdrGotStr}
-use Rattle.arm64_decide.specs.Decide.{decide}
+use Rattle.arm64_hint_laws.specs.Decide.{decide}
 use Rattle.arm64_machine.specs.Machine.{action, read, write, setX, setSP, setV, setMemory, listed, base, moved}
 use Rattle.arm64_machine.specs.Premises.{links31, adds31, storesMade}
-use Rattle.arm64_hint_run.specs.Hint.{isSkipped, insnsIn, insnsOf, relsOf, outcomeOf}
-use Rattle.arm64_hint_run.specs.Check.{isList, checkLists, checkHint, checkTo, checkAll}
+use Rattle.arm64_hint_places.specs.Hint.{isSkipped, insnsIn, insnsOf, relsOf}
+use Rattle.arm64_hint_check.specs.Check.{isList, checkLists, checkHint, checkTo, checkAll}
+use Rattle.arm64_hint_rules.specs.Rule.{outcomeOf}
 use Rattle.arm64_hint_run.specs.Run.{worked, runOf, imageOf}
 
 -- lent records

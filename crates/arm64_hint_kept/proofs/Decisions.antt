@@ -9,7 +9,7 @@ use Rattle.macho.specs.Hint.{wordCount}
 use Rattle.arm64_insn.specs.Page.{adrpPage}
 use Rattle.arm64_insn.specs.declared.add.Add.{Add}
 use Rattle.arm64_insn.specs.declared.ldst.LoadStore.{LoadStore}
-use Rattle.arm64_decide.specs.Decide.{decide}
+use Rattle.arm64_hint_laws.specs.Decide.{decide}
 use Rattle.arm64_hint_terms.specs.declared.answer.Insns.{Insns}
 use Rattle.arm64_hint_terms.specs.declared.answer.NewWord.{NewWord}
 use Rattle.arm64_hint_terms.specs.declared.answer.NewWord.the-variants.{Keep, Set}

@@ -19,15 +19,16 @@ use Rattle.arm64_hint_order.proofs.Runs as Runs
 use Rattle.arm64_machine.specs.Machine.{Other, State}
 use Rattle.arm64_machine.specs.SameRun.{SameRun}
 use Rattle.arm64_machine.proofs.FairLaws as FairLaws
-use Rattle.arm64_hint_run.specs.Hint.{isSkipped, placesOf, stepsOf}
+use Rattle.arm64_hint_places.specs.Hint.{isSkipped}
+use Rattle.arm64_hint_check.proofs.Checks.{Ready, ready, each-fine}
+use Rattle.arm64_hint_work.specs.Step.{placesOf, stepsOf}
+use Rattle.arm64_hint_work.specs.declared.tally.Tally.{Tally}
+use Rattle.arm64_hint_work.proofs.Steps.{add-swap}
 use Rattle.arm64_hint_run.specs.Run.{start, worked, runOf, imageOf}
-use Rattle.arm64_hint_run.specs.declared.outcome.Tally.{Tally}
 use Rattle.arm64_hint_run.specs.declared.run.RunAnswer.{RunAnswer}
 use Rattle.arm64_hint_run.specs.declared.run.RunAnswer.the-variants as A
-use Rattle.arm64_hint_run.proofs.Checks.{Ready, ready, each-fine}
 use Rattle.arm64_hint_run.proofs.Parts.{places-inside, in-part}
 use Rattle.arm64_hint_run.proofs.Answers.{done-fine, run-is}
-use Rattle.arm64_hint_run.proofs.Steps.{add-swap}
 use Rattle.arm64_hint_kept.specs.Demand3.{codes, partBytes, wordBytes, Kept, PartsApart, Alone, Fair, Same, Demand3, Premises, Literally}
 use Rattle.arm64_hint_kept.proofs.Step.{codes-same, addresses, step-same}
 

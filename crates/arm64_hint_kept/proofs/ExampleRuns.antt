@@ -10,8 +10,8 @@ use Rattle.macho.specs.Hint.{hintCount, hintOf}
 use Rattle.image.specs.Steps.{Work}
 use Rattle.arm64_hint_order.specs.Lists.{Once}
 use Rattle.arm64_hint_order.specs.Cursor.{orderOf}
+use Rattle.arm64_hint_work.specs.declared.tally.Tally.{Tally}
 use Rattle.arm64_hint_run.specs.Run.{worked, runOf, imageOf}
-use Rattle.arm64_hint_run.specs.declared.outcome.Tally.{Tally}
 use Rattle.arm64_hint_run.specs.declared.run.RunAnswer.the-variants.{Done}
 use Rattle.arm64_hint_run.proofs.Examples.{words as code, place}
 use Rattle.arm64_hint_kept.specs.Demand3.{Kept, PartsApart, Alone, Fair, Same}

@@ -21,11 +21,12 @@ use Rattle.arm64_hint_terms.specs.declared.answer.Decision.the-variants as D
 use Rattle.arm64_hint_order.specs.Cursor.{orderOf}
 use Rattle.arm64_machine.specs.Machine.{State, Other}
 use Rattle.arm64_machine.specs.Premises.{linksVector}
-use Rattle.arm64_hint_run.specs.Hint.{isSkipped, outcomeOf}
+use Rattle.arm64_hint_places.specs.Hint.{isSkipped}
+use Rattle.arm64_hint_rules.specs.Rule.{outcomeOf}
+use Rattle.arm64_hint_rules.specs.declared.outcome.Outcome.{Outcome}
+use Rattle.arm64_hint_rules.specs.declared.outcome.Outcome.the-variants.{Skipped, Worked}
+use Rattle.arm64_hint_work.specs.declared.tally.Tally.{Tally}
 use Rattle.arm64_hint_run.specs.Run.{worked, runOf, imageOf}
-use Rattle.arm64_hint_run.specs.declared.outcome.Outcome.{Outcome}
-use Rattle.arm64_hint_run.specs.declared.outcome.Outcome.the-variants.{Skipped, Worked}
-use Rattle.arm64_hint_run.specs.declared.outcome.Tally.{Tally}
 use Rattle.arm64_hint_run.specs.declared.run.RunAnswer.the-variants.{Done}
 use Rattle.arm64_hint_run.proofs.Answers.{run-is}
 use Rattle.arm64_hint_run.proofs.Examples.{words as code, place}

@@ -10,7 +10,7 @@ use Rattle.macho.specs.declared.hint.HintRecord.{HintRecord}
 use Rattle.arm64_hint_order.specs.Lists.{Once}
 use Rattle.arm64_hint_order.specs.Cursor.{orderOf}
 use Rattle.arm64_machine.specs.Machine.{Access}
-use Rattle.arm64_hint_run.specs.Hint.{placesOf}
+use Rattle.arm64_hint_work.specs.Step.{placesOf}
 use Rattle.arm64_hint_run.specs.Run.{worked, runOf, imageOf}
 use Rattle.arm64_hint_run.specs.declared.run.RunAnswer.the-variants.{Done}
 use Rattle.arm64_hint_run.proofs.Examples.{words as code, place}

@@ -15,7 +15,7 @@ use Rattle.macho.specs.declared.hint.HintInsn.{HintInsn}
 use Rattle.macho.specs.declared.hint.HintRecord.{HintRecord}
 use Rattle.image.specs.Words.{wordsAt, putWords}
 use Rattle.image.proofs.Words.{puts-none}
-use Rattle.arm64_decide.specs.Decide.{decide}
+use Rattle.arm64_hint_laws.specs.Decide.{decide}
 use Rattle.arm64_hint_terms.specs.declared.answer.Plan.{Plan}
 use Rattle.arm64_hint_terms.specs.declared.answer.Decision.{Decision}
 use Rattle.arm64_hint_terms.specs.declared.answer.Decision.the-variants.{Declined, Nine, Rewritten}
@@ -23,8 +23,10 @@ use Rattle.arm64_hint_laws.proofs.Written.{AllFit, all-fit}
 use Rattle.arm64_machine.specs.Machine.{Placed, placed}
 use Rattle.arm64_machine.specs.SameRun.{SameRun}
 use Rattle.arm64_machine.specs.Premises as Machine
-use Rattle.arm64_hint_run.specs.Hint.{isSkipped, insnsIn, placesOf, addrsOf, insnsOf, relsOf, ruled, outcomeOf, newsIn, newsOf}
-use Rattle.arm64_hint_run.proofs.Places.{count-is, count-two, insns-three, insns-two}
+use Rattle.arm64_hint_places.specs.Hint.{isSkipped, insnsIn, addrsOf, insnsOf, relsOf}
+use Rattle.arm64_hint_places.proofs.Places.{count-is, count-two, insns-three, insns-two}
+use Rattle.arm64_hint_rules.specs.Rule.{ruled, outcomeOf, newsIn, newsOf}
+use Rattle.arm64_hint_work.specs.Step.{placesOf}
 use Rattle.arm64_hint_kept.specs.Demand3.{codes, Disjoint, Fair, Same}
 use Rattle.arm64_hint_kept.proofs.Decisions.{placedOf, Addressed, after, decided}
 use Rattle.arm64_hint_kept.proofs.Image.{wordsAfter, reads-back}

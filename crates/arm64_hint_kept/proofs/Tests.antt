@@ -22,7 +22,8 @@ use Rattle.arm64_hint_order.proofs.Own.{kept-of}
 use Rattle.arm64_insn.specs.Manual.{allocated}
 use Rattle.arm64_machine.specs.Premises.{links31, adds31, storesMade}
 use Rattle.arm64_machine.proofs.FairTest.{each, next, later, fair-by}
-use Rattle.arm64_hint_run.specs.Hint.{isSkipped, placesOf}
+use Rattle.arm64_hint_places.specs.Hint.{isSkipped}
+use Rattle.arm64_hint_work.specs.Step.{placesOf}
 use Rattle.arm64_hint_kept.specs.Demand3.{codes, Disjoint, Kept, PartsApart, Alone, Fair}
 
 -- ---- words that share no byte

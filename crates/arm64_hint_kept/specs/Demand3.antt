@@ -17,9 +17,10 @@ use Rattle.arm64_machine.specs.Machine.{Access, State, Placed, placed, Other, r
 use Rattle.arm64_machine.specs.SameRun.{spared, Agree, SameRun}
 use Rattle.arm64_machine.specs.Premises as Machine
 use Rattle.arm64_machine.specs.Premises.{Each, touches}
-use Rattle.arm64_hint_run.specs.Hint.{isSkipped, insnsIn, placesOf, addrsOf}
+use Rattle.arm64_hint_places.specs.Hint.{isSkipped, insnsIn, addrsOf}
+use Rattle.arm64_hint_work.specs.Step.{placesOf}
+use Rattle.arm64_hint_work.specs.declared.tally.Tally.{Tally}
 use Rattle.arm64_hint_run.specs.Run.{worked, imageOf}
-use Rattle.arm64_hint_run.specs.declared.outcome.Tally.{Tally}
 
 -- ---- hints and their bytes
 

@@ -34,7 +34,7 @@ use Rattle.arm64_hint_adrp.specs.Two.{samePage, adrpAdrpWith, adrpAdrp, ldrSeco
 use Rattle.arm64_hint_adrp.specs.Three.{through, foldThird, adrOrFold, loadThrough, adrpAddLdrWith, adrpAddLdr, adrpAddStrWith, adrpAddStr}
 use Rattle.arm64_hint_got.specs.Got.{gotLoad, adrpLdrGotWith, adrpLdrGot, slotTo, gotLiteral, foldLoad, adrOrFoldLoad, relaxedTo, relaxedLdr}
 use Rattle.arm64_hint_got.specs.Got.{gotLdrBy, gotLdrWith, adrpLdrGotLdr, relaxedStr, gotStrBy, gotStrWith, adrpLdrGotStr}
-use Rattle.arm64_decide.specs.Decide.{decide}
+use Rattle.arm64_hint_laws.specs.Decide.{decide}
 use Rattle.arm64_hint_terms.specs.declared.answer.Insns.{Insns}
 use Rattle.arm64_hint_terms.specs.declared.answer.Rewrite.{Rewrite}
 use Rattle.arm64_hint_terms.specs.declared.answer.Rewrite.the-variants as R

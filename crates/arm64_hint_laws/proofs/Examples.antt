@@ -24,7 +24,7 @@ use Rattle.arm64_hint_adrp.specs.Two.{samePage, adrpAdrp, ldrSecond, ldrAtPage,
 use Rattle.arm64_hint_adrp.specs.Three.{addAccess, through, foldThird, adrOrFold, loadThrough, adrpAddLdr, adrpAddStr}
 use Rattle.arm64_hint_got.specs.Got.{loadsSlot, slotLoad, relaxedLoad, gotLoad, adrpLdrGot, slotTo, gotLiteral}
 use Rattle.arm64_hint_got.specs.Got.{foldLoad, adrOrFoldLoad, relaxedTo, relaxedLdr, adrpLdrGotLdr, relaxedStr, adrpLdrGotStr}
-use Rattle.arm64_decide.specs.Decide.{decide}
+use Rattle.arm64_hint_laws.specs.Decide.{decide}
 use Rattle.arm64_hint_terms.specs.declared.answer.Insns.{Insns}
 use Rattle.arm64_hint_terms.specs.declared.answer.Rewrite.the-variants.{Drop, Literal, Adr, Fold, Slot}
 use Rattle.arm64_hint_terms.specs.declared.answer.NewWord.the-variants.{Keep, Set}

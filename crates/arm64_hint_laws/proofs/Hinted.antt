@@ -35,7 +35,7 @@ use Rattle.arm64_hint_terms.specs.Answer.{sumOf, summed}
 use Rattle.arm64_hint_adrp.specs.Two.{adrpAdrpWith, adrpAdrp, adrpLdr, adrpAddWith, adrpAdd}
 use Rattle.arm64_hint_adrp.specs.Three.{through, adrOrFold, adrpAddLdrWith, adrpAddLdr, adrpAddStrWith, adrpAddStr}
 use Rattle.arm64_hint_got.specs.Got.{gotLoad, adrpLdrGotWith, adrpLdrGot, gotLdrBy, gotLdrWith, adrpLdrGotLdr, gotStrBy, gotStrWith, adrpLdrGotStr}
-use Rattle.arm64_decide.specs.Decide.{decide}
+use Rattle.arm64_hint_laws.specs.Decide.{decide}
 use Rattle.arm64_hint_terms.specs.Kinds.{Word, Adrp-Page, Adrp-GotPage, Add-PageOff, Ldr-PageOff, Ldr-GotPageOff, Ldr, Str}
 use Rattle.arm64_hint_terms.specs.Kinds.{Kind, kinds, wordsIn, wordsOf, IsAdrp, IsAdd, IsAccess, IsTaken, IsWord, IsInstead, AreWords, areCarried}
 use Rattle.arm64_hint_terms.specs.declared.answer.Insns.{Insns}

@@ -2,4 +2,6 @@
 pub mod Cases
 pub mod Written
 pub mod Hinted
+pub mod Entries
+pub mod Twice
 pub mod Examples

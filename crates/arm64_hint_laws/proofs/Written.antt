@@ -18,7 +18,7 @@ use Rattle.arm64_insn.specs.declared.ldst.LoadStore.{LoadStore}
 use Rattle.arm64_insn.proofs.Decoded.{decoded-add, decoded-load-store, literal-opc-lt, literal-v-lt}
 use Rattle.arm64_insn.proofs.Manual.{encode-lt}
 use Rattle.arm64_hint_terms.specs.Plans.{rewritten}
-use Rattle.arm64_decide.specs.Decide.{decide}
+use Rattle.arm64_hint_laws.specs.Decide.{decide}
 use Rattle.arm64_hint_terms.specs.declared.answer.Insns.{Insns}
 use Rattle.arm64_hint_terms.specs.declared.answer.Rewrite.{Rewrite}
 use Rattle.arm64_hint_terms.specs.declared.answer.Rewrite.the-variants.{Drop, Literal, Adr, Fold, Slot}

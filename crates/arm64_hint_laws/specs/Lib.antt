@@ -1,1 +1,2 @@
--- No definitions: the theorems are about those of the crates below.
+-- The definition that the theorems and the contracts of the rules at work cite.
+pub mod Decide

@@ -1,5 +1,5 @@
 // What the toolchain does not carry, each with the must-fail edit that asks for it (docs/DECISIONS.md). Nothing else uses this crate.
-use arm64_hint_run::part::part;
+use arm64_hint_rules::part::part;
 use util::write32;
 ghost use mathlib.Core.Path.{_≡_};
 ghost use Prim.Native.Nat.{_+_, _≤_};

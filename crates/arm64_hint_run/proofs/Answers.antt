@@ -6,7 +6,7 @@ use mathlib.Core.Bool.{Bool, true, false, _&&_, _||_, not}
 use mathlib.Core.List.{List, [], _∷_, map}
 use Prim.Native.Nat.{ℕ, _+_, _/_, _%_, _^_, _≤_}
 use native.Mathlib.Omega.{arith}
-use borrow.Author.Tests.{eq-eqb, le-ltb}
+use borrow.Author.Tests.{le-ltb}
 use lib.Dec.{eqb}
 use lib.ListN.{length}
 use Rattle.util.specs.Choice.{choose}
@@ -21,36 +21,35 @@ use Rattle.macho.specs.declared.refusal.Refusal.the-variants.{Lengths}
 use Rattle.image.specs.Words.{wordsAt, putWords}
 use Rattle.image.specs.Steps.{Work, answered, written, stepOf}
 use Rattle.image.proofs.Words.{puts-none}
-use Rattle.arm64_insn.specs.Page.{adrpPage}
 use Rattle.arm64_insn.specs.Adrp.{adrpOf}
 use Rattle.arm64_insn.specs.Fix.{nopWord}
 use Rattle.arm64_insn.specs.declared.adrp.Adrp.{Adrp}
 use Rattle.arm64_insn.specs.declared.adrp.AdrpWord.the-variants as W
 use Rattle.arm64_hint_terms.specs.Rels.{relAt, isPageRel, bothPages}
 use Rattle.arm64_hint_terms.specs.Plans.{dropped}
-use Rattle.arm64_hint_adrp.specs.Two.{samePage, adrpAdrp}
-use Rattle.arm64_decide.specs.Decide.{decide}
+use Rattle.arm64_hint_laws.specs.Decide.{decide}
 use Rattle.arm64_hint_terms.specs.Kinds.{wordsOf}
 use Rattle.arm64_hint_laws.proofs.Hinted.{counts}
+use Rattle.arm64_hint_laws.proofs.Twice.{drops}
 use Rattle.arm64_hint_terms.specs.declared.answer.Insns.{Insns}
 use Rattle.arm64_hint_terms.specs.declared.answer.Decision.{Decision}
 use Rattle.arm64_hint_terms.specs.declared.answer.Decision.the-variants.{Nine}
-use Rattle.arm64_hint_terms.specs.declared.rels.Rels.{Rels}
 use Rattle.arm64_hint_order.specs.Lists.{runList}
 use Rattle.arm64_hint_order.specs.Cursor.{orderOf}
 use Rattle.arm64_hint_order.proofs.Walk.{order-length}
-use Rattle.arm64_hint_run.specs.Hint.{isSkipped, insnsIn, placesOf, insnsOf, relsOf, outcomeOf, newsIn, newsOf}
-use Rattle.arm64_hint_run.specs.Hint.{addDecision, addOutcome, total, stepsOf}
-use Rattle.arm64_hint_run.specs.Check.{isList, checkLists, first, checkTo, checkAll}
+use Rattle.arm64_hint_places.specs.Hint.{isSkipped, insnsIn, insnsOf, relsOf}
+use Rattle.arm64_hint_places.proofs.Places.{insns-two, rels-two}
+use Rattle.arm64_hint_check.specs.Check.{isList, checkLists, first, checkTo, checkAll}
+use Rattle.arm64_hint_check.specs.declared.Check.{Check}
+use Rattle.arm64_hint_check.specs.declared.Check.the-variants as C
+use Rattle.arm64_hint_rules.specs.Rule.{outcomeOf, newsIn, newsOf}
+use Rattle.arm64_hint_rules.specs.declared.outcome.Outcome.{Outcome}
+use Rattle.arm64_hint_rules.specs.declared.outcome.Outcome.the-variants.{Skipped, Worked}
+use Rattle.arm64_hint_work.specs.Step.{placesOf, addDecision, addOutcome, total, stepsOf}
+use Rattle.arm64_hint_work.specs.declared.tally.Tally.{Tally}
+use Rattle.arm64_hint_work.proofs.Steps.{total-add}
 use Rattle.arm64_hint_run.specs.Run.{start, worked, answerBy, imageBy, runOf, imageOf}
-use Rattle.arm64_hint_run.specs.declared.outcome.Outcome.{Outcome}
-use Rattle.arm64_hint_run.specs.declared.outcome.Outcome.the-variants.{Skipped, Worked}
-use Rattle.arm64_hint_run.specs.declared.outcome.Tally.{Tally}
-use Rattle.arm64_hint_run.specs.declared.check.Check.{Check}
-use Rattle.arm64_hint_run.specs.declared.check.Check.the-variants as C
 use Rattle.arm64_hint_run.specs.declared.run.RunAnswer.the-variants as A
-use Rattle.arm64_hint_run.proofs.Places.{insns-two, rels-two}
-use Rattle.arm64_hint_run.proofs.Steps.{total-add}
 
 both-fail : (a : Bool) {b : Bool} → b ≡ false → (a && b) ≡ false
 both-fail true e = e
@@ -142,13 +141,6 @@ module _ (hints entries : List ℕ) (k : ℕ) (w : Work Tally) (s : Insns) (nine
   nine-goes-on l = ap (runList (stepOf (stepsOf hints entries)) l) nine-leaves
 
 -- ---- ADRP_ADRP on one word twice
-
--- two ADRPs of one page into one register
-drops : (s : Insns) (r : Rels) (a : Adrp) → bothPages r ≡ true → adrpOf (s .w0) ≡ W.Adrp a → adrpOf (s .w1) ≡ W.Adrp a → s .p1 ≡ s .p0
-    → decide MCLOH-AdrpAdrp s r ≡ dropped
-unfolding decide adrpAdrp samePage choose
-drops s r a pages first second p =
-    rw (pages, first, second, p, eq-eqb (a .rd) (a .rd) refl, eq-eqb (adrpPage (a .imm) (s .p0)) (adrpPage (a .imm) (s .p0)) refl)
 
 -- such a hint, with an ADRP at its one word
 module _ (h : HintRecord) (entries image : List ℕ) (kind : h .kind ≡ MCLOH-AdrpAdrp) (n : h .n ≡ 2) (off : h .insn1 .off ≡ h .insn0 .off)

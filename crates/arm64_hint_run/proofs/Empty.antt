@@ -5,7 +5,7 @@ use mathlib.Core.List.{List, []}
 use Prim.Native.Nat.{ℕ}
 use lib.ListN.{length}
 use Rattle.util.specs.Choice.{choose}
-use Rattle.arm64_hint_run.specs.Check.{isList, checkLists, checkTo, checkAll}
+use Rattle.arm64_hint_check.specs.Check.{isList, checkLists, checkTo, checkAll}
 use Rattle.arm64_hint_run.specs.Run.{zeros, worked, runOf, imageOf}
 use Rattle.arm64_hint_run.specs.declared.run.RunAnswer.the-variants.{Done}
 

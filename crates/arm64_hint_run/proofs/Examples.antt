@@ -23,9 +23,10 @@ use Rattle.arm64_hint_terms.specs.Answer.{sumOf, fitsLiteral}
 use Rattle.arm64_hint_terms.specs.Rels.{relAt, isPageRel, isPageoffRel, sameReference, isAbsent, hasPagePair}
 use Rattle.arm64_hint_adrp.specs.Two.{ldrSecond, ldrAtPage, adrpLdr, adrTo, addAtPage, adrpAdd}
 use Rattle.arm64_hint_adrp.specs.Three.{addAccess, through, foldThird, adrOrFold, adrpAddStr}
-use Rattle.arm64_decide.specs.Decide.{decide}
-use Rattle.arm64_hint_run.specs.Hint.{isSkipped, insnsIn, insnsOf, relsOf, outcomeOf}
-use Rattle.arm64_hint_run.specs.Check.{isList, checkLists, checkHint, checkTo, checkAll}
+use Rattle.arm64_hint_laws.specs.Decide.{decide}
+use Rattle.arm64_hint_places.specs.Hint.{isSkipped, insnsIn, insnsOf, relsOf}
+use Rattle.arm64_hint_check.specs.Check.{isList, checkLists, checkHint, checkTo, checkAll}
+use Rattle.arm64_hint_rules.specs.Rule.{outcomeOf}
 use Rattle.arm64_hint_run.specs.Run.{worked, runOf, imageOf, numberOf}
 use Rattle.arm64_hint_run.specs.declared.run.RunAnswer.{RunAnswer}
 use Rattle.arm64_hint_run.specs.declared.run.RunAnswer.the-variants.{Done}

@@ -17,78 +17,29 @@ use Rattle.util.proofs.Cases.{less-or}
 use Rattle.macho.specs.Reloc.{relocAt}
 use Rattle.macho.specs.Hint.{noEntry, hintCount, hintOf}
 use Rattle.macho.specs.declared.hint.HintRecord.{HintRecord}
-use Rattle.macho.specs.declared.reloc.Reloc.{Reloc}
 use Rattle.image.specs.Words.{wordsAt, putWords}
 use Rattle.image.specs.Steps.{Work, stepOf}
-use Rattle.arm64_hint_terms.specs.Rels.{relAt, isPageRel, isPageoffRel, sameReference, isAbsent, hasPagePair, bothPages}
-use Rattle.arm64_decide.specs.Decide.{decide}
-use Rattle.arm64_hint_terms.specs.declared.answer.Insns.{Insns}
+use Rattle.arm64_hint_terms.specs.Rels.{relAt}
 use Rattle.arm64_hint_terms.specs.declared.answer.Decision.{Decision}
 use Rattle.arm64_hint_terms.specs.declared.rels.Rel.{Rel}
 use Rattle.arm64_hint_terms.specs.declared.rels.Rel.the-variants.{Entry, Absent}
-use Rattle.arm64_hint_terms.specs.declared.rels.Rels.{Rels}
+use Rattle.arm64_hint_laws.proofs.Entries.{AlikeEntry, SameRel, neither, both, same-decision}
 use Rattle.arm64_hint_order.specs.Cursor.{objectAt, lateAt, orderOf}
 use Rattle.arm64_hint_order.proofs.Lists.{once-inside}
 use Rattle.arm64_hint_order.proofs.Own.{own-once}
 use Rattle.arm64_hint_order.proofs.Same.{run-same}
-use Rattle.arm64_hint_run.specs.Hint.{isSkipped, placesOf, insnsOf, relsOf, outcomeOf, newsOf, addOutcome, stepsOf, Named}
-use Rattle.arm64_hint_run.specs.Check.{checkAll}
+use Rattle.arm64_hint_places.specs.Hint.{isSkipped, insnsOf, relsOf, Named}
+use Rattle.arm64_hint_places.proofs.Alike.{le-set}
+use Rattle.arm64_hint_check.specs.Check.{checkAll}
+use Rattle.arm64_hint_check.specs.declared.Check.{Check}
+use Rattle.arm64_hint_check.specs.declared.Check.the-variants.{Fine, Refused}
+use Rattle.arm64_hint_check.proofs.Checks.{ready, each-fine}
+use Rattle.arm64_hint_rules.specs.Rule.{outcomeOf, newsOf}
+use Rattle.arm64_hint_rules.specs.declared.outcome.Outcome.{Outcome}
+use Rattle.arm64_hint_rules.specs.declared.outcome.Outcome.the-variants.{Skipped, Worked}
+use Rattle.arm64_hint_work.specs.Step.{placesOf, addOutcome, stepsOf}
+use Rattle.arm64_hint_work.specs.declared.tally.Tally.{Tally}
 use Rattle.arm64_hint_run.specs.Run.{start, worked, answerBy, imageBy, runOf, imageOf}
-use Rattle.arm64_hint_run.specs.declared.outcome.Outcome.{Outcome}
-use Rattle.arm64_hint_run.specs.declared.outcome.Outcome.the-variants.{Skipped, Worked}
-use Rattle.arm64_hint_run.specs.declared.outcome.Tally.{Tally}
-use Rattle.arm64_hint_run.specs.declared.check.Check.{Check}
-use Rattle.arm64_hint_run.specs.declared.check.Check.the-variants.{Fine, Refused}
-use Rattle.arm64_hint_run.proofs.Checks.{ready, each-fine}
-use Rattle.arm64_hint_run.proofs.Ignored.{le-set}
-
--- entries that agree in type, target and addend
-pub record AlikeEntry (a b : Reloc) : Type 0 where
-  pub type : a .ty ≡ b .ty
-  pub target : a .target ≡ b .target
-  pub addend : a .addend ≡ b .addend
-
--- neither place has an entry, or both have alike ones
-pub data SameRel : Rel → Rel → Type 0 where
-  neither : SameRel Absent Absent
-  both : {a b : Reloc} → AlikeEntry a b → SameRel (Entry a) (Entry b)
-
--- ---- what the entries say
-
-same-page : {a b : Rel} → SameRel a b → (got : Bool) → isPageRel a got ≡ isPageRel b got
-unfolding isPageRel
-same-page neither got = refl
-same-page (both e) got = rw (e .type)
-
-same-pageoff : {a b : Rel} → SameRel a b → (got : Bool) → isPageoffRel a got ≡ isPageoffRel b got
-unfolding isPageoffRel
-same-pageoff neither got = refl
-same-pageoff (both e) got = rw (e .type)
-
-same-absent : {a b : Rel} → SameRel a b → isAbsent a ≡ isAbsent b
-unfolding isAbsent
-same-absent neither = refl
-same-absent (both e) = refl
-
-same-reference : {a b c d : Rel} → SameRel a b → SameRel c d → sameReference a c ≡ sameReference b d
-unfolding sameReference
-same-reference neither neither = refl
-same-reference neither (both f) = refl
-same-reference (both e) neither = refl
-same-reference (both e) (both f) = rw (e .target, e .addend, f .target, f .addend)
-
-module _ (r q : Rels) (first : SameRel (r .r0) (q .r0)) (second : SameRel (r .r1) (q .r1)) (third : SameRel (r .r2) (q .r2)) where
-  same-pair : (n : ℕ) (got : Bool) → hasPagePair r n got ≡ hasPagePair q n got
-  unfolding hasPagePair
-  same-pair n got = rw (same-page first got, same-pageoff second got, same-reference first second, same-absent third)
-
-  same-pages : bothPages r ≡ bothPages q
-  unfolding bothPages
-  same-pages = rw (same-page first false, same-page second false)
-
-  same-decision : (kind : ℕ) (s : Insns) → decide kind s r ≡ decide kind s q
-  unfolding decide
-  same-decision kind s = rw (same-pages, same-pair 2 false, same-pair 3 false, same-pair 3 true, same-pair 2 true)
 
 -- ---- lists of entries
 

@@ -1,10 +1,5 @@
 -- Laws that belong to no one function, and the theorems.
-pub mod Places
-pub mod Held
-pub mod Sections
-pub mod Rules
-pub mod Checks
-pub mod Steps
+pub mod Loop
 pub mod Parts
 pub mod Answers
 pub mod Empty

@@ -12,11 +12,12 @@ use Rattle.macho.specs.Hint.{hintCount, hintOf}
 use Rattle.image.specs.Words.{span, inWords}
 use Rattle.image.specs.Steps.{footOf}
 use Rattle.image.proofs.Words.{words-inside}
-use Rattle.arm64_hint_run.specs.Hint.{isSkipped, placesOf, stepsOf, Inside}
-use Rattle.arm64_hint_run.specs.Check.{checkAll}
-use Rattle.arm64_hint_run.specs.declared.check.Check.the-variants.{Fine}
-use Rattle.arm64_hint_run.proofs.Places.{insns-none}
-use Rattle.arm64_hint_run.proofs.Checks.{ready, each-fine}
+use Rattle.arm64_hint_places.specs.Hint.{isSkipped, Inside}
+use Rattle.arm64_hint_places.proofs.Places.{insns-none}
+use Rattle.arm64_hint_check.specs.Check.{checkAll}
+use Rattle.arm64_hint_check.specs.declared.Check.the-variants.{Fine}
+use Rattle.arm64_hint_check.proofs.Checks.{ready, each-fine}
+use Rattle.arm64_hint_work.specs.Step.{placesOf, stepsOf}
 
 -- offsets inside a part are places inside the part of the image
 moved : (start len : ℕ) {offs : List ℕ} → All (λ at. at + 4 ≤ len) offs

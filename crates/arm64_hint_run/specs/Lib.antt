@@ -1,4 +1,2 @@
 -- The definitions that the contracts of arm64_hint_run cite.
-pub mod Hint
-pub mod Check
 pub mod Run

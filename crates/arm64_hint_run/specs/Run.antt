@@ -6,11 +6,11 @@ use Rattle.macho.specs.Refusal as Refusal
 use Rattle.image.specs.Steps.{Work, stepOf}
 use Rattle.arm64_hint_order.specs.Lists.{runList}
 use Rattle.arm64_hint_order.specs.Cursor.{orderOf}
-use Rattle.arm64_hint_run.specs.Hint.{stepsOf}
-use Rattle.arm64_hint_run.specs.Check.{checkAll}
-use Rattle.arm64_hint_run.specs.declared.outcome.Tally.{Tally}
-use Rattle.arm64_hint_run.specs.declared.check.Check.{Check}
-use Rattle.arm64_hint_run.specs.declared.check.Check.the-variants as C
+use Rattle.arm64_hint_check.specs.Check.{checkAll}
+use Rattle.arm64_hint_check.specs.declared.Check.{Check}
+use Rattle.arm64_hint_check.specs.declared.Check.the-variants as C
+use Rattle.arm64_hint_work.specs.Step.{stepsOf}
+use Rattle.arm64_hint_work.specs.declared.tally.Tally.{Tally}
 use Rattle.arm64_hint_run.specs.declared.run.RunAnswer.{RunAnswer}
 use Rattle.arm64_hint_run.specs.declared.run.RunAnswer.the-variants as A
 use Rattle.arm64_hint_run.specs.declared.tally.RunEnd.{RunEnd}

@@ -1,10 +1,3 @@
-// Linker optimization hints at work on a lent image: the eight rules over their sections, and the run (arch/arm64.rs, `Hint`, `loh_*`, `apply_hints`).
-pub mod check;
-pub mod hint;
-pub mod loh;
-pub mod outcome;
-pub mod part;
+// The hint run: the check of all hints, then each at work in the order of work, with the tally by value or lent (arch/arm64.rs, `apply_hints`).
 pub mod run;
-pub mod store;
 pub mod tally;
-pub mod work;

@@ -1,18 +1,18 @@
 // The hint run: the check of all hints, then their work.
-use crate::check::Checked;
-use crate::check::check_all;
-use crate::outcome::Tally;
-use crate::work::work;
+use arm64_hint_check::Checked;
+use arm64_hint_check::check_all;
 use arm64_hint_order::Cursor;
 use arm64_hint_order::Next;
+use arm64_hint_work::tally::Tally;
+use arm64_hint_work::work::work;
 use macho::refusal::Refusal;
 ghost use mathlib.Core.Path.{_≡_};
 ghost use lib.ListN.{length};
 ghost use Rattle.macho.specs.Hint.{hintCount};
 ghost use Rattle.arm64_hint_order.specs.Cursor.{objectAt, orderOf};
 ghost use Rattle.arm64_hint_order.specs.Walk.{grouped};
-ghost use Rattle.arm64_hint_run.specs.Check.{checkAll};
-ghost use Rattle.arm64_hint_run.specs.declared.check.Check.the-variants.{Fine};
+ghost use Rattle.arm64_hint_check.specs.Check.{checkAll};
+ghost use Rattle.arm64_hint_check.specs.declared.Check.the-variants.{Fine};
 ghost use Rattle.arm64_hint_run.specs.Run.{worked, runOf, imageOf};
 
 // What a run answers: its counts, or why it changed nothing.

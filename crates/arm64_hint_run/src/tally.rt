@@ -1,7 +1,7 @@
 // The hint run with a lent tally: a thin function above the run by value.
-use crate::outcome::Tally;
 use crate::run::RunAnswer;
 use crate::run::run;
+use arm64_hint_work::tally::Tally;
 ghost use mathlib.Core.Path.{_≡_};
 ghost use Rattle.arm64_hint_run.specs.Run.{runOf, imageOf, numberOf, tallyAfter, endOf};
 

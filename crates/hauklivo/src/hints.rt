@@ -1,6 +1,6 @@
 // The hint run.
-use arm64_hint_run::outcome::Tally;
 use arm64_hint_run::tally::apply_hints;
+use arm64_hint_work::tally::Tally;
 ghost use mathlib.Core.Path.{_≡_};
 ghost use Rattle.arm64_hint_run.specs.Run.{runOf, imageOf, numberOf, tallyAfter};
 

@@ -1,9 +1,9 @@
 // Answers of the hint run.
 use crate::list::put_front;
 use crate::list::value;
-use arm64_hint_run::outcome::Tally;
 use arm64_hint_run::run::RunAnswer;
 use arm64_hint_run::run::run;
+use arm64_hint_work::tally::Tally;
 use check::same;
 use util::read32;
 ghost use Prim.Native.Nat.{_≤_};

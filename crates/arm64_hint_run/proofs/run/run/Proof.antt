@@ -1,7 +1,7 @@
 -- `run`: the check decides.
 use mathlib.Core.Path.{sym, _∙_}
-use Rattle.arm64_hint_run.proofs.Checks.{told-fine, told-refused}
-use Rattle.arm64_hint_run.proofs.Steps.{run-refused, run-done}
+use Rattle.arm64_hint_check.proofs.Checks.{told-fine, told-refused}
+use Rattle.arm64_hint_run.proofs.Loop.{run-refused, run-done}
 use borrow.Author.Needs.{needs}
 use Rattle.arm64_hint_run.proofs.run.run.Statement.{statement}
 use Rattle.arm64_hint_run.proofs.run.run.Tie as tie

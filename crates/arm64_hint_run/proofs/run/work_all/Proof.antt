@@ -7,10 +7,10 @@ use lib.ListN.{length}
 use Rattle.macho.specs.Hint.{hintOf}
 use Rattle.arm64_hint_order.specs.Cursor.{rest}
 use Rattle.arm64_hint_order.proofs.Walk.{turn-count, turn-sound}
-use Rattle.arm64_hint_run.specs.Check.{checkHint}
-use Rattle.arm64_hint_run.specs.declared.check.Check.the-variants.{Fine}
-use Rattle.arm64_hint_run.proofs.Checks.{few-hints, each-fine}
-use Rattle.arm64_hint_run.proofs.Steps.{Going, going-first, going-done, going-next, room}
+use Rattle.arm64_hint_check.specs.Check.{checkHint}
+use Rattle.arm64_hint_check.specs.declared.Check.the-variants.{Fine}
+use Rattle.arm64_hint_check.proofs.Checks.{few-hints, each-fine}
+use Rattle.arm64_hint_run.proofs.Loop.{Going, going-first, going-done, going-next, room}
 use Rattle.arm64_hint_run.proofs.run.work_all.Statement.{statement}
 use Rattle.arm64_hint_run.proofs.run.work_all.Tie as tie
 

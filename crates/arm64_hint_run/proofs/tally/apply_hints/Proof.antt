@@ -46,11 +46,11 @@ use denote.Triple.Walked.{says, Stays, gave-slice, stay-dropped, stay-ref, goes-
 use denote.Triple.Walked.{walkOf, Walks, ends-at, walked, walk-meets}
 use denote.Exit.{yes}
 use denote.Signature.{Slot, plain, shrSliceOf}
+use Rattle.arm64_hint_work.specs.declared.tally.Tally.{Tally}
+use Rattle.arm64_hint_work.proofs.tally.Tally as T
+use Rattle.arm64_hint_work.proofs.tally.Tally.Laws as T′
 use Rattle.arm64_hint_run.specs.Run.{runOf, imageOf, endOf}
-use Rattle.arm64_hint_run.specs.declared.outcome.Tally.{Tally}
 use Rattle.arm64_hint_run.specs.declared.tally.RunEnd.{RunEnd}
-use Rattle.arm64_hint_run.proofs.outcome.Tally as T
-use Rattle.arm64_hint_run.proofs.outcome.Tally.Laws as T′
 use Rattle.arm64_hint_run.proofs.tally.RunEnd as O
 use Rattle.arm64_hint_run.proofs.tally.RunEnd.Laws as O′
 use Rattle.arm64_hint_run.proofs.tally.run_on as run-on

@@ -1,7 +1,7 @@
 -- `settled`: each arm of the match is one equation of `endOf`.
 use Prim.Native.Nat.{ℕ}
 use mathlib.Core.Path.{ap, sym, _∙_}
-use Rattle.arm64_hint_run.specs.declared.outcome.Tally.{Tally}
+use Rattle.arm64_hint_work.specs.declared.tally.Tally.{Tally}
 use Rattle.arm64_hint_run.specs.declared.run.RunAnswer.{RunAnswer}
 use Rattle.arm64_hint_run.specs.declared.tally.RunEnd.{RunEnd}
 use Rattle.arm64_hint_run.specs.Run.{endOf}

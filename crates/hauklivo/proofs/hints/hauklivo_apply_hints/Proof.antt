@@ -41,8 +41,8 @@ use denote.Triple.Walked.{walkOf, Walks, ends-at, walked, walk-meets}
 use denote.Exit.{yes}
 use denote.Signature.{Slot, plain, shrSliceOf}
 use Rattle.arm64_hint_run.specs.Run.{runOf, imageOf, numberOf, tallyAfter}
-use Rattle.arm64_hint_run.specs.declared.outcome.Tally.{Tally}
-use Rattle.arm64_hint_run.proofs.outcome.Tally as T
+use Rattle.arm64_hint_work.specs.declared.tally.Tally.{Tally}
+use Rattle.arm64_hint_work.proofs.tally.Tally as T
 use Rattle.arm64_hint_run.proofs.tally.apply_hints as callee
 use Rattle.arm64_hint_run.proofs.tally.apply_hints.Symbol as callee-def
 use Rattle.arm64_hint_run.proofs.tally.apply_hints.Symbol.{name as #callee}

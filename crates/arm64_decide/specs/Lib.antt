@@ -1,2 +1,0 @@
--- The rule of each kind.
-pub mod Decide

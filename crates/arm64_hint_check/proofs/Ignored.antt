@@ -1,0 +1,30 @@
+-- What is ignored of a hint changes no check: lists of hints that agree in the rest are turned down alike. Carried by equal tests, hint by hint.
+use mathlib.Core.Path.{_≡_, refl, ap, ap₂, _∙_}
+use mathlib.Core.List.{List}
+use Prim.Native.Nat.{ℕ, zero, suc, _/_, _≤_, _<_}
+use native.Mathlib.Omega.{arith}
+use lib.ListN.{length}
+use Rattle.macho.specs.declared.hint.HintRecord.{HintRecord}
+use Rattle.macho.specs.Hint.{hintCount, hintOf}
+use Rattle.arm64_hint_places.proofs.Alike.{Alike, same-skip}
+use Rattle.arm64_hint_check.specs.Check.{checkHint, first, checkLists, checkTo, checkAll}
+
+same-hint-check : (h g : HintRecord) → Alike h g → (len count : ℕ) → checkHint len count h ≡ checkHint len count g
+unfolding checkHint
+same-hint-check h g alike len count = rw (alike .places, same-skip h g alike, alike .start, alike .len)
+
+module _ (hints hints′ : List ℕ) (sized : length hints ≡ length hints′)
+    (alike : (k : ℕ) → k < hintCount hints → Alike (hintOf hints k) (hintOf hints′ k)) where
+  same-count : hintCount hints ≡ hintCount hints′
+  same-count = ap (λ (n : ℕ). n / 64) sized
+
+  same-checks : (len count k : ℕ) → k ≤ hintCount hints → checkTo len count hints k ≡ checkTo len count hints′ k
+  unfolding checkTo
+  same-checks len count zero h = refl
+  same-checks len count (suc k) h = ap₂ first (same-checks len count k (omega arith)) (same-hint-check _ _ (alike k h) len count)
+
+  pub same-check : (len entries : ℕ) → checkAll len hints entries ≡ checkAll len hints′ entries
+  unfolding checkAll
+  same-check len entries =
+      ap₂ first (ap (λ (n : ℕ). checkLists n entries) sized)
+      (same-checks len (entries / 24) (hintCount hints) (omega arith) ∙ ap (checkTo len (entries / 24) hints′) same-count)

@@ -1,0 +1,2 @@
+-- What the eight functions share.
+pub mod Rules
