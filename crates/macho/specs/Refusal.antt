@@ -1,8 +1,12 @@
--- The numbers of document 01, "Turned-down input".
+-- The numbers of document 01, "Turned-down input", and what a call says with them.
 use Prim.Native.Nat.{ℕ}
 use Rattle.macho.specs.declared.refusal.Refusal.{Refusal}
 use Rattle.macho.specs.declared.refusal.Refusal.the-variants.{Lengths, Slots, Bounds, LoneAddend, Unsupported, Unfit}
 use Rattle.macho.specs.declared.refusal.Refusal.the-variants.{NoSection, LoneSubtractor, Overflow, NeedsSymbol, Flags, NoEntry}
+use Rattle.macho.specs.declared.refusal.Check.{Check}
+use Rattle.macho.specs.declared.refusal.Check.the-variants as C
+use Rattle.macho.specs.declared.refusal.Answer.{Answer}
+use Rattle.macho.specs.declared.refusal.Answer.the-variants as A
 
 -- the number of each refusal
 abbrev pub numberOf : Refusal → ℕ
@@ -18,3 +22,18 @@ numberOf Overflow = 9
 numberOf NeedsSymbol = 10
 numberOf Flags = 11
 numberOf NoEntry = 12
+
+-- the number of a check: 0 where it is fit
+abbrev pub checkNumber : Check → ℕ
+checkNumber C.Fit = 0
+checkNumber (C.Refused x) = numberOf x
+
+-- the number of an answer: 0 where slots were filled
+abbrev pub answerNumber : Answer → ℕ
+answerNumber (A.Filled n) = 0
+answerNumber (A.Refused x) = numberOf x
+
+-- how many slots an answer filled: none where it refuses
+abbrev pub filledOf : Answer → ℕ
+filledOf (A.Filled n) = n
+filledOf (A.Refused x) = 0

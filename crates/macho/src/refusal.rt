@@ -1,6 +1,6 @@
-// Why a call turns its input down (document 01, "Turned-down input").
+// Why a call turns its input down, and what it answers (document 01, "Turned-down input").
 ghost use mathlib.Core.Path.{_≡_};
-ghost use Rattle.macho.specs.Refusal.{numberOf};
+ghost use Rattle.macho.specs.Refusal.{numberOf, checkNumber};
 
 // The table's rows, 1 to 12.
 pub enum Refusal {
@@ -16,6 +16,18 @@ pub enum Refusal {
     NeedsSymbol,
     Flags,
     NoEntry,
+}
+
+// What a check says.
+pub enum Check {
+    Fit,
+    Refused(Refusal),
+}
+
+// What a call that fills lent slots says: how many it filled, or why it changed nothing.
+pub enum Answer {
+    Filled(usize),
+    Refused(Refusal),
 }
 
 impl Refusal {
@@ -36,6 +48,18 @@ impl Refusal {
             Refusal::NeedsSymbol => 10,
             Refusal::Flags => 11,
             Refusal::NoEntry => 12,
+        }
+    }
+}
+
+impl Check {
+    // Its number, 0 where it is fit.
+    pub fn number(self) -> u8
+        ensures { λ r. ⌜ r ≡ checkNumber self ⌝ }
+    {
+        match self {
+            Check::Fit => 0,
+            Check::Refused(refusal) => refusal.number(),
         }
     }
 }
