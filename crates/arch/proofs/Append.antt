@@ -9,7 +9,7 @@ use lib.Dec.{ltb}
 use borrow.Author.Tests.{lt-ltb, le-ltb, ltb-true, ltb-false}
 use Rattle.macho.specs.declared.reloc.Reloc.{Reloc}
 use Rattle.macho.specs.declared.refusal.Refusal.{Refusal}
-use Rattle.arch.specs.Walk.{Answer, refused, entries, before, after, more, readFrom, readAll, Fills}
+use Rattle.arch.specs.Walk.{Reading, refused, entries, before, after, more, readFrom, readAll, Fills}
 use Rattle.arch.specs.Join.{joined, mapped, moved}
 use Rattle.arch.specs.declared.step.Step.{Step}
 use Rattle.arch.specs.declared.step.Step.the-variants as S
@@ -18,16 +18,16 @@ use Rattle.arch.proofs.Fuel.{from, from-all, from-end, from-step}
 
 -- ---- answers
 
-joined-nil : (a : Answer) → joined (entries []) a ≡ a
+joined-nil : (a : Reading) → joined (entries []) a ≡ a
 joined-nil (refused x) = refl
 joined-nil (entries es) = refl
 
-joined-before : (e : Reloc) (a b : Answer) → joined (before e a) b ≡ before e (joined a b)
+joined-before : (e : Reloc) (a b : Reading) → joined (before e a) b ≡ before e (joined a b)
 joined-before e (refused x) b = refl
 joined-before e (entries es) (refused x) = refl
 joined-before e (entries es) (entries fs) = refl
 
-mapped-before : (f : Reloc → Reloc) (e : Reloc) (a : Answer) → mapped f (before e a) ≡ before (f e) (mapped f a)
+mapped-before : (f : Reloc → Reloc) (e : Reloc) (a : Reading) → mapped f (before e a) ≡ before (f e) (mapped f a)
 mapped-before f e (refused x) = refl
 mapped-before f e (entries es) = refl
 
@@ -35,13 +35,13 @@ map-same : (es : List Reloc) → map (λ (e : Reloc). e) es ≡ es
 map-same [] = refl
 map-same (e ∷ es) = ap (λ (l : List Reloc). e ∷ l) (map-same es)
 
-pub mapped-same : (a : Answer) → mapped (λ (e : Reloc). e) a ≡ a
+pub mapped-same : (a : Reading) → mapped (λ (e : Reloc). e) a ≡ a
 mapped-same (refused x) = refl
 mapped-same (entries es) = ap entries (map-same es)
 
 -- ---- a table that stands d records further on
 
-moved-after : (d : ℕ) (f : Reloc → Reloc) (u : Step) (r q : ℕ → Answer) → ((next : ℕ) → r (d + next) ≡ mapped f (q next))
+moved-after : (d : ℕ) (f : Reloc → Reloc) (u : Step) (r q : ℕ → Reading) → ((next : ℕ) → r (d + next) ≡ mapped f (q next))
     → after (moved d f u) r ≡ mapped f (after u q)
 moved-after d f (S.Refused x) r q h = refl
 moved-after d f (S.Read e next) r q h = ap (before (f e)) (h next) ∙ sym (mapped-before f e (q next))
@@ -76,16 +76,16 @@ unfolding Carries Within
 carries-same P n (S.Refused x) u e w = λ _. e
 carries-same P n (S.Read r next) u e w = (e, w)
 
-fills-rest : {P : Type 0} (e : Reloc) (a : Answer) → P ⊎ Fills (before e a) → P ⊎ Fills a
+fills-rest : {P : Type 0} (e : Reloc) (a : Reading) → P ⊎ Fills (before e a) → P ⊎ Fills a
 fills-rest e (refused x) f = f
 fills-rest e (entries es) f = inr tt
 
 module _ (P : Type 0) (s t : ℕ → Step) (n m : ℕ) (on : Onward s) (carries : (i : ℕ) → i < n → Carries P n (t i) (s i)) where
-  abbrev Whole : ℕ → Answer
+  abbrev Whole : ℕ → Reading
   Whole = from s (n + m) on
 
   -- what a step leaves
-  left-after : (i : ℕ) (u : Step) (q : ℕ → Answer) → Carries P n u (s i)
+  left-after : (i : ℕ) (u : Step) (q : ℕ → Reading) → Carries P n u (s i)
       → ((next : ℕ) → i < next → next ≤ n → P ⊎ Fills (q next) → Whole next ≡ joined (q next) (Whole n))
       → P ⊎ Fills (after u q) → after (s i) Whole ≡ joined (after u q) (Whole n)
   unfolding Carries
@@ -108,7 +108,7 @@ module _ (P : Type 0) (s t : ℕ → Step) (n m : ℕ) (on : Onward s) (carries 
       at true e r =
           let l = ltb-true i n e in
           from-step s (n + m) on i (omega arith)
-          ∙ rw (turn-suc t n k i l) (left-after i (t i) (readFrom t n k) (carries i l) r (subst (λ (a : Answer). P ⊎ Fills a) (turn-suc t n k i l) f))
+          ∙ rw (turn-suc t n k i l) (left-after i (t i) (readFrom t n k) (carries i l) r (subst (λ (a : Reading). P ⊎ Fills a) (turn-suc t n k i l) f))
 
 -- a table after another: the first one's steps carry over, and the second one's are moved
 module _ (P : Type 0) (s t u : ℕ → Step) (n m : ℕ) (f : Reloc → Reloc) (on : Onward s)

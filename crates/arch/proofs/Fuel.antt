@@ -7,12 +7,12 @@ use native.Mathlib.Omega.{arith}
 use borrow.Author.Tests.{ltb-true}
 use lib.Dec.{ltb}
 use Rattle.macho.specs.declared.reloc.Reloc.{Reloc}
-use Rattle.arch.specs.Walk.{Answer, refused, entries, before, after, more, readFrom, readAll}
+use Rattle.arch.specs.Walk.{Reading, refused, entries, before, after, more, readFrom, readAll}
 use Rattle.arch.specs.declared.step.Step.{Step}
 use Rattle.arch.specs.declared.step.Step.the-variants as S
 use Rattle.arch.proofs.Walk.{Onward, onward, done-any, turn-suc}
 
-more-same : (b : Bool) (s : Step) (r t : ℕ → Answer) → ((e : Reloc) (next : ℕ) → s ≡ S.Read e next → r next ≡ t next) → more b s r ≡ more b s t
+more-same : (b : Bool) (s : Step) (r t : ℕ → Reading) → ((e : Reloc) (next : ℕ) → s ≡ S.Read e next → r next ≡ t next) → more b s r ≡ more b s t
 more-same false s r t h = refl
 more-same true (S.Refused x) r t h = refl
 more-same true (S.Read e next) r t h = ap (before e) (h e next refl)
@@ -28,7 +28,7 @@ module _ (step : ℕ → Step) (n : ℕ) (on : Onward step) where
       (λ e next p. same k l next (omega (arith, onward step on i p refl)) (omega (arith, onward step on i p refl)))
 
   -- the records from i on
-  unfoldable pub from : ℕ → Answer
+  unfoldable pub from : ℕ → Reading
   from i = readFrom step n (n - i) i
 
   pub from-all : readAll step n ≡ from 0

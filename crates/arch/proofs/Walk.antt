@@ -19,15 +19,15 @@ use Rattle.macho.specs.declared.reloc.Reloc.{Reloc}
 use Rattle.arch.specs.Entry.{enter, targeted}
 use Rattle.arch.specs.Table.{lengthsOf}
 use Rattle.arch.specs.Target.{targetOf}
-use Rattle.arch.specs.Walk.{Answer, refused, entries, before, after, more, readFrom, readAll, Fills, outcomeOf, bytesOf, slotsAfter}
-use Rattle.arch.specs.declared.step.Check.{Check}
-use Rattle.arch.specs.declared.step.Check.the-variants as C
+use Rattle.arch.specs.Walk.{Reading, refused, entries, before, after, more, readFrom, readAll, Fills, answerOf, bytesOf, slotsAfter}
+use Rattle.macho.specs.declared.refusal.Check.{Check}
+use Rattle.macho.specs.declared.refusal.Check.the-variants as C
 use Rattle.arch.specs.declared.target.Target.{Target}
 use Rattle.arch.specs.declared.target.Target.the-variants as T
 use Rattle.arch.specs.declared.step.Step.{Step}
 use Rattle.arch.specs.declared.step.Step.the-variants as S
-use Rattle.arch.specs.declared.step.ReadAnswer.{ReadAnswer}
-use Rattle.arch.specs.declared.step.ReadAnswer.the-variants as A
+use Rattle.macho.specs.declared.refusal.Answer.{Answer}
+use Rattle.macho.specs.declared.refusal.Answer.the-variants as A
 
 -- ---- a step goes on
 
@@ -86,7 +86,7 @@ onward step on i p q = subst (Later i) (sym q ∙ p) (on i)
 
 module _ (step : ℕ → Step) (n : ℕ) where
   -- the records from i on where `count` entries were read before them
-  abbrev pub Rest : ℕ → ℕ → Answer
+  abbrev pub Rest : ℕ → ℕ → Reading
   Rest count i = readFrom step n (n - count) i
 
   pub turn-suc : (k i : ℕ) → i < n → readFrom step n (suc k) i ≡ after (step i) (readFrom step n k)
@@ -115,20 +115,20 @@ module _ (step : ℕ → Step) (n : ℕ) where
 
 -- ---- the check walk: what the call returns, with a count of entries before the rest
 
-abbrev pub counted : ℕ → Answer → ReadAnswer
+abbrev pub counted : ℕ → Reading → Answer
 counted c (refused x) = A.Refused x
 counted c (entries es) = A.Filled (c + length es)
 
-counted-zero : (a : Answer) → counted 0 a ≡ outcomeOf a
+counted-zero : (a : Reading) → counted 0 a ≡ answerOf a
 counted-zero (refused x) = refl
 counted-zero (entries es) = ap A.Filled (omega arith)
 
-counted-before : (c : ℕ) (e : Reloc) (a : Answer) → counted c (before e a) ≡ counted (c + 1) a
+counted-before : (c : ℕ) (e : Reloc) (a : Reading) → counted c (before e a) ≡ counted (c + 1) a
 counted-before c e (refused x) = refl
 counted-before c e (entries es) = ap A.Filled (omega arith)
 
 module _ (step : ℕ → Step) (n : ℕ) where
-  pub check-start : counted 0 (Rest step n 0 0) ≡ outcomeOf (readAll step n)
+  pub check-start : counted 0 (Rest step n 0 0) ≡ answerOf (readAll step n)
   check-start = ap (counted 0) (start step n) ∙ counted-zero (readAll step n)
 
   pub check-read : (count i : ℕ) {s : Step} {e : Reloc} {next : ℕ} → count ≤ i → i < n → s ≡ S.Read e next → s ≡ step i
@@ -148,17 +148,17 @@ module _ (step : ℕ → Step) (n : ℕ) where
 -- ---- how many entries
 
 -- an answer has at most k entries
-unfoldable pub AtMost : ℕ → Answer → Type 0
+unfoldable pub AtMost : ℕ → Reading → Type 0
 AtMost k (refused x) = Unit {0}
 AtMost k (entries es) = length es ≤ k
 
-more-few : (k : ℕ) (b : Bool) (s : Step) (rest : ℕ → Answer) → ((i : ℕ) → AtMost k (rest i)) → AtMost (suc k) (more b s rest)
+more-few : (k : ℕ) (b : Bool) (s : Step) (rest : ℕ → Reading) → ((i : ℕ) → AtMost k (rest i)) → AtMost (suc k) (more b s rest)
 unfolding AtMost
 more-few k false s rest h = zero-le
 more-few k true (S.Refused x) rest h = tt
 more-few k true (S.Read e next) rest h = go (rest next) (h next)
   where
-    go : (a : Answer) → AtMost k a → AtMost (suc k) (before e a)
+    go : (a : Reading) → AtMost k a → AtMost (suc k) (before e a)
     go (refused x) f = tt
     go (entries es) f = omega arith
 
@@ -174,7 +174,7 @@ few step n es e = subst (AtMost n) e (few-steps step n n 0)
 
 -- ---- the fill walk: the slots, with the entries of an answer stored from entry c on
 
-abbrev pub stored : ℕ → Answer → List ℕ → List ℕ
+abbrev pub stored : ℕ → Reading → List ℕ → List ℕ
 stored c (refused x) s = s
 stored c (entries es) s = sets s (24 * c) (bytesOf es)
 
@@ -188,61 +188,61 @@ unfolding bytesOf
 length-bytesOf [] = refl
 length-bytesOf (e ∷ es) = simp length-append (omega (arith, length-relocBytes e, length-bytesOf es))
 
-stored-all : (k : ℕ) (a : Answer) (s : List ℕ) → AtMost k a → 24 * k ≤ length s → stored 0 a s ≡ slotsAfter a s
+stored-all : (k : ℕ) (a : Reading) (s : List ℕ) → AtMost k a → 24 * k ≤ length s → stored 0 a s ≡ slotsAfter a s
 unfolding AtMost
 stored-all k (refused x) s f h = refl
 stored-all k (entries es) s f h =
     let m : 0 + length (bytesOf es) ≡ 24 * length es = omega (arith, length-bytesOf es) in
     sets-eq (bytesOf es) s 0 (omega (arith, length-bytesOf es)) ∙ ap (λ (j : ℕ). bytesOf es ++ drop j s) m
 
-stored-before : (c : ℕ) (e : Reloc) (a : Answer) (s : List ℕ) → Fills a
+stored-before : (c : ℕ) (e : Reloc) (a : Reading) (s : List ℕ) → Fills a
     → stored (c + 1) a (sets s (24 * c) (relocBytes e)) ≡ stored c (before e a) s
 unfolding bytesOf
 stored-before c e (refused x) s f = absurd f
 stored-before c e (entries es) s f =
     sym (sets-append (relocBytes e) (bytesOf es) s (24 * c) (24 * (c + 1)) (omega (arith, length-relocBytes e)))
 
-fills-rest : (e : Reloc) (a : Answer) → Fills (before e a) → Fills a
+fills-rest : (e : Reloc) (a : Reading) → Fills (before e a) → Fills a
 fills-rest e (refused x) f = f
 fills-rest e (entries es) f = tt
 
 module _ (step : ℕ → Step) (n : ℕ) where
   pub fill-start : (s : List ℕ) → 24 * n ≤ length s → stored 0 (Rest step n 0 0) s ≡ slotsAfter (readAll step n) s
   unfolding readAll
-  fill-start s h = ap (λ (a : Answer). stored 0 a s) (start step n) ∙ stored-all n (readAll step n) s (few-steps step n n 0) h
+  fill-start s h = ap (λ (a : Reading). stored 0 a s) (start step n) ∙ stored-all n (readAll step n) s (few-steps step n n 0) h
 
   pub fill-fills : Fills (readAll step n) → Fills (Rest step n 0 0)
-  fill-fills f = subst (λ (a : Answer). Fills a) (sym (start step n)) f
+  fill-fills f = subst (λ (a : Reading). Fills a) (sym (start step n)) f
 
   pub fill-read : (count i : ℕ) {s : Step} {e : Reloc} {next : ℕ} → count ≤ i → i < n → s ≡ S.Read e next → s ≡ step i
       → Fills (Rest step n count i) → Fills (Rest step n (count + 1) next)
   fill-read count i {e = e} {next = next} le lt p q f =
-      fills-rest e (Rest step n (count + 1) next) (subst (λ (a : Answer). Fills a) (turn step n count i le lt p q) f)
+      fills-rest e (Rest step n (count + 1) next) (subst (λ (a : Reading). Fills a) (turn step n count i le lt p q) f)
 
   pub fill-stored : (count i : ℕ) {s : Step} {e : Reloc} {next : ℕ} (l : List ℕ) → count ≤ i → i < n → s ≡ S.Read e next → s ≡ step i
       → Fills (Rest step n count i)
       → stored (count + 1) (Rest step n (count + 1) next) (sets l (24 * count) (relocBytes e)) ≡ stored count (Rest step n count i) l
   fill-stored count i {e = e} {next = next} l le lt p q f =
       stored-before count e (Rest step n (count + 1) next) l (fill-read count i le lt p q f)
-      ∙ ap (λ (a : Answer). stored count a l) (sym (turn step n count i le lt p q))
+      ∙ ap (λ (a : Reading). stored count a l) (sym (turn step n count i le lt p q))
 
   pub fill-refused : (count i : ℕ) {s : Step} {x : Refusal} → count ≤ i → i < n → s ≡ S.Refused x → s ≡ step i
       → Fills (Rest step n count i) → ⊥
-  fill-refused count i le lt p q f = subst (λ (a : Answer). Fills a) (turn step n count i le lt p q) f
+  fill-refused count i le lt p q f = subst (λ (a : Reading). Fills a) (turn step n count i le lt p q) f
 
   pub fill-done : (count i : ℕ) (l : List ℕ) → n ≤ i → stored count (Rest step n count i) l ≡ l
   unfolding bytesOf
-  fill-done count i l h = ap (λ (a : Answer). stored count a l) (done step n count i h)
+  fill-done count i l h = ap (λ (a : Reading). stored count a l) (done step n count i h)
 
 -- ---- from what is returned to the answer
 
 -- where entries are filled, nothing is refused
-pub fills-of : (a : Answer) (n : ℕ) → A.Filled n ≡ outcomeOf a → Fills a
+pub fills-of : (a : Reading) (n : ℕ) → A.Filled n ≡ answerOf a → Fills a
 fills-of (entries es) n e = tt
 fills-of (refused x) n e = let z : _≡_ {A = ℕ} 0 1 = cc in omega arith
 
 -- a refusal leaves the slots
-pub kept-of : (a : Answer) (x : Refusal) (s : List ℕ) → A.Refused x ≡ outcomeOf a → s ≡ slotsAfter a s
+pub kept-of : (a : Reading) (x : Refusal) (s : List ℕ) → A.Refused x ≡ answerOf a → s ≡ slotsAfter a s
 kept-of (refused y) x s e = refl
 kept-of (entries es) x s e = let z : _≡_ {A = ℕ} 0 1 = cc in absurd (omega arith)
 

@@ -4,16 +4,16 @@ use mathlib.Core.List.{List, _++_, map}
 use Rattle.macho.specs.declared.reloc.Reloc.{Reloc}
 use Rattle.arch.specs.declared.step.Step.{Step}
 use Rattle.arch.specs.declared.step.Step.the-variants as S
-use Rattle.arch.specs.Walk.{Answer, refused, entries}
+use Rattle.arch.specs.Walk.{Reading, refused, entries}
 
 -- the entries of the first, then those of the second, or the first refusal
-abbrev pub joined : Answer → Answer → Answer
+abbrev pub joined : Reading → Reading → Reading
 joined (refused x) b = refused x
 joined (entries es) (refused x) = refused x
 joined (entries es) (entries fs) = entries (es ++ fs)
 
 -- an answer with each entry changed
-abbrev pub mapped : (Reloc → Reloc) → Answer → Answer
+abbrev pub mapped : (Reloc → Reloc) → Reading → Reading
 mapped f (refused x) = refused x
 mapped f (entries es) = entries (map f es)
 

@@ -8,8 +8,8 @@ use Rattle.util.specs.Choice.{choose}
 use Rattle.macho.specs.MachRel.{machRelAt, typeOf}
 use Rattle.macho.specs.declared.rel.MachRel.{MachRel}
 use Rattle.macho.specs.declared.refusal.Refusal.the-variants.{Lengths, Slots}
-use Rattle.arch.specs.declared.step.Check.{Check}
-use Rattle.arch.specs.declared.step.Check.the-variants.{Fit, Refused}
+use Rattle.macho.specs.declared.refusal.Check.{Check}
+use Rattle.macho.specs.declared.refusal.Check.the-variants.{Fit, Refused}
 
 -- the n records of 8 bytes from `at` on
 unfoldable pub recordsFrom : List ℕ → ℕ → ℕ → List MachRel

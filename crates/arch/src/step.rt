@@ -1,4 +1,4 @@
-// One step of a reader, and what a whole reading answers.
+// One step of a reader.
 use crate::target::Target;
 use crate::target::target_of;
 use macho::refusal::Refusal;
@@ -7,21 +7,9 @@ use macho::reloc::Reloc;
 ghost use mathlib.Core.Path.{_≡_};
 ghost use Rattle.arch.specs.Entry.{entryOf, targeted};
 
-// What a check says.
-pub enum Check {
-    Fit,
-    Refused(Refusal),
-}
-
 // What stands at a record: an entry and the number of the record after it, or a refusal.
 pub enum Step {
     Read(Reloc, usize),
-    Refused(Refusal),
-}
-
-// What a reader returns: how many entries it filled, or why it changed nothing.
-pub enum ReadAnswer {
-    Filled(usize),
     Refused(Refusal),
 }
 

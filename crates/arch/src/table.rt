@@ -1,5 +1,5 @@
 // A table of relocation records, 8 bytes each.
-use crate::step::Check;
+use macho::refusal::Check;
 use macho::refusal::Refusal;
 use macho::rel::MachRel;
 ghost use mathlib.Core.Path.{_≡_};

@@ -9,7 +9,8 @@ use Rattle.macho.specs.MachRel.{machRelAt}
 use Rattle.arch.specs.Entry.{targeted}
 use Rattle.arch.specs.Table.{recordsFrom, recordsOf, subtractedAt, lengthsOf}
 use Rattle.arch.specs.Target.{sectionTarget, targetOf}
-use Rattle.arch.specs.Walk.{entries, readFrom, readAll, outcomeOf, numberIn, filledIn}
+use Rattle.macho.specs.Refusal.{answerNumber, filledOf}
+use Rattle.arch.specs.Walk.{entries, readFrom, readAll, answerOf}
 use Rattle.arm64_insn.specs.LoadStore.{accessOf, loadStoreOf}
 use Rattle.arm64_reader.specs.Support.{formsOf, supportedOf}
 use Rattle.arm64_reader.specs.Check.{loadedBytes, gotFits, tlvpFits, pointer32, wordCheck, checkReloc}
@@ -41,7 +42,7 @@ piece12 = refl
 
 -- the number that a call returns
 abbrev number : List ℕ → List ℕ → List ℕ → List ℕ → ℕ
-number contents rels sections slots = numberIn (outcomeOf (readRelocs contents rels sections slots))
+number contents rels sections slots = answerNumber (answerOf (readRelocs contents rels sections slots))
 
 -- slots for one record, and a NOP
 abbrev slot : List ℕ
@@ -87,7 +88,7 @@ first-number = refl
 
 -- what the header says, and how many entries are filled
 abbrev reads : List ℕ → List ℕ → Meaning × ℕ
-reads contents rels = (meaningOf contents [] (recordsOf rels), filledIn (outcomeOf (readRelocs contents rels [] (replicate 48 0))))
+reads contents rels = (meaningOf contents [] (recordsOf rels), filledOf (answerOf (readRelocs contents rels [] (replicate 48 0))))
 
 -- SUBTRACTOR alone; before BRANCH26; before UNSIGNED at another place; before UNSIGNED of another size; ADDEND with the fields of another type;
 -- before BRANCH26; before PAGE21 at another place

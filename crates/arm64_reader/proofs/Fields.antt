@@ -23,11 +23,11 @@ use Rattle.macho.specs.declared.refusal.Refusal.{Refusal}
 use Rattle.arch.specs.Entry.{entryOf, enter, targeted}
 use Rattle.arch.specs.Table.{recordAt, subtractedAt}
 use Rattle.arch.specs.Target.{sectionTarget, targetOf}
-use Rattle.arch.specs.Walk.{Answer, refused, entries, before, after, readFrom, readAll}
+use Rattle.arch.specs.Walk.{Reading, refused, entries, before, after, readFrom, readAll}
 use Rattle.arch.specs.declared.target.Target.{Target}
 use Rattle.arch.specs.declared.target.Target.the-variants as T
-use Rattle.arch.specs.declared.step.Check.{Check}
-use Rattle.arch.specs.declared.step.Check.the-variants as C
+use Rattle.macho.specs.declared.refusal.Check.{Check}
+use Rattle.macho.specs.declared.refusal.Check.the-variants as C
 use Rattle.arch.specs.declared.step.Step.{Step}
 use Rattle.arch.specs.declared.step.Step.the-variants as S
 use Rattle.arm64_reader.specs.declared.record.Addend.{Addend}
@@ -154,7 +154,7 @@ module _ (contents sections : List ℕ) (first : Bool) (rs : List MachRel) where
   E = entryAt contents sections first rs
 
   -- what is left from record i on: the entries that start there
-  Reads : ℕ → Answer → Type 0
+  Reads : ℕ → Reading → Type 0
   Reads i (refused x) = Unit {0}
   Reads i (entries es) = es ≡ map E (starts i false (drop i rs))
 
@@ -162,12 +162,12 @@ module _ (contents sections : List ℕ) (first : Bool) (rs : List MachRel) where
   unfolding Reads
   reads-none i h = ap (λ (l : List MachRel). map E (starts i false l)) (sym (drop-of-length-le rs h))
 
-  reads-before : (i : ℕ) → i < length rs → ownOf rs i + 1 ≤ length rs → (a : Answer) → Reads (ownOf rs i + 1) a → Reads i (before (E i) a)
+  reads-before : (i : ℕ) → i < length rs → ownOf rs i + 1 ≤ length rs → (a : Reading) → Reads (ownOf rs i + 1) a → Reads i (before (E i) a)
   unfolding Reads
   reads-before i h l (refused x) p = tt
   reads-before i h l (entries es) p = ap (λ (fs : List Reloc). E i ∷ fs) p ∙ ap (map E) (sym (starts-on rs i h l))
 
-  reads-after : (i : ℕ) (s : Step) (rest : ℕ → Answer) → i < length rs → Says (E i) (ownOf rs i + 1) s → Within (length rs) s
+  reads-after : (i : ℕ) (s : Step) (rest : ℕ → Reading) → i < length rs → Says (E i) (ownOf rs i + 1) s → Within (length rs) s
       → ((next : ℕ) → i < next → Reads next (rest next)) → Later i s → Reads i (after s rest)
   unfolding Reads Says Within Later
   reads-after i (S.Refused x) rest h p w f g = tt

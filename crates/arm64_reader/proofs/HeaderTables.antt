@@ -21,7 +21,7 @@ use Rattle.macho.specs.declared.reloc.Reloc.{Reloc}
 use Rattle.macho.specs.declared.refusal.Refusal.{Refusal}
 use Rattle.macho.specs.declared.refusal.Refusal.the-variants.{Bounds, LoneAddend, Unsupported, Unfit}
 use Rattle.arch.specs.Table.{recordsOf}
-use Rattle.arch.specs.Walk.{Answer, refused, entries, before}
+use Rattle.arch.specs.Walk.{Reading, refused, entries, before}
 use Rattle.arch.specs.declared.step.Step.{Step}
 use Rattle.arch.specs.declared.step.Step.the-variants as S
 use Rattle.arm64_reader.specs.Check.{pointer32}
@@ -45,13 +45,13 @@ Allowed ms x = (x ≡ Unfit) ⊎ ((x ≡ Unsupported) × (hasLonePointer32 ms �
 
 -- a meaning and an answer that agree, where m is subtracted from the first entry
 module _ (size sections : ℕ) where
-  unfoldable pub Agree : Less → Meaning → Answer → Type 0
+  unfoldable pub Agree : Less → Meaning → Reading → Type 0
   Agree m (relocations ms) (entries es) = saidFrom m es ≡ ms
   Agree m (relocations ms) (refused x) = Inside size sections ms → Allowed ms x
   Agree m (undefined y) (entries es) = isTolerated y ≡ true
   Agree m (undefined y) (refused x) = Unit {0}
 
-  tolerated : (m : Less) (y : Reason) → isTolerated y ≡ true → (a : Answer) → Agree m (undefined y) a
+  tolerated : (m : Less) (y : Reason) → isTolerated y ≡ true → (a : Reading) → Agree m (undefined y) a
   unfolding Agree
   tolerated m y h (refused x) = tt
   tolerated m y h (entries es) = h
@@ -64,7 +64,7 @@ module _ (size sections : ℕ) where
   more-allowed r ms x = ⊎-elim (λ u. inl u) (λ u. inr (u .0, ap (λ (b : Bool). isLonePointer32 r || b) (u .1) ∙ or-true (isLonePointer32 r)))
 
   -- a relocation and its entry before the rest
-  give-read : (m : Less) (r : Relocation) (e : Reloc) (w : Meaning) (a : Answer) → sayOne m e ≡ r → (e .ty ≡ ARM64-RELOC-SUBTRACTOR → ⊥)
+  give-read : (m : Less) (r : Relocation) (e : Reloc) (w : Meaning) (a : Reading) → sayOne m e ≡ r → (e .ty ≡ ARM64-RELOC-SUBTRACTOR → ⊥)
       → Agree nothing w a → Agree m (withFirst r w) (before e a)
   unfolding Agree choose
   give-read m r e (undefined y) (refused x) s n g = tt
@@ -83,7 +83,7 @@ module _ (size sections : ℕ) where
       λ i. ⊎-elim (λ u. inl u) (λ u. inr (u .0, ap (λ (b : Bool). b || hasLonePointer32 ms) (u .1))) (f (i .0))
 
   -- a SUBTRACTOR's entry before the rest
-  minus-read : (q : Referent) (e : Reloc) (w : Meaning) (a : Answer) → e .ty ≡ ARM64-RELOC-SUBTRACTOR → namedBy (e .target) ≡ q
+  minus-read : (q : Referent) (e : Reloc) (w : Meaning) (a : Reading) → e .ty ≡ ARM64-RELOC-SUBTRACTOR → namedBy (e .target) ≡ q
       → Agree (less q) w a → Agree nothing w (before e a)
   unfolding Agree choose
   minus-read q e (undefined y) (refused x) t n g = tt
@@ -122,7 +122,7 @@ not-lone r h =
 -- ---- one record
 
 module _ (contents sections : List ℕ) where
-  abbrev Ok : Less → Meaning → Answer → Type 0
+  abbrev Ok : Less → Meaning → Reading → Type 0
   Ok = Agree (length contents) (length sections)
 
   -- a record that gives a relocation of its own
@@ -283,7 +283,7 @@ module _ (contents sections : List ℕ) where
   good [] p = good-end p
   good (r ∷ rs) none = go (View.alone contents sections r) (good rs none) (good rs (minus r)) (good rs (plus r))
     where
-      A : Answer
+      A : Reading
       A = readRecords contents sections false (r ∷ rs)
 
       go : {t : Turn} → View.Alone contents sections r t → Good none rs → Good (minus r) rs → Good (plus r) rs
@@ -300,7 +300,7 @@ module _ (contents sections : List ℕ) where
           (λ o. say-word contents sections r false 0 nothing o u (names-symbol r f u a)) (λ l. absurd (u (lone-type r false l))) n
   good (r ∷ rs) (minus q) = go (View.after-minus contents sections q r) (good rs none)
     where
-      A : Answer
+      A : Reading
       A = readRecords contents sections true (r ∷ rs)
 
       go : {t : Turn} → View.AfterMinus contents sections q r t → Good none rs
@@ -314,7 +314,7 @@ module _ (contents sections : List ℕ) where
           (λ d. say-pointer contents sections r true 0 (less (referentOf q)) d u) (λ l. absurd (not-lone r l)) n
   good (r ∷ rs) (plus a) = λ t. go t (View.after-plus a r) (good rs none)
     where
-      A : Answer
+      A : Reading
       A = readRecords contents sections false (a ∷ (r ∷ rs))
 
       go : {t : Turn} → typeOf (a .bits) ≡ ARM64-RELOC-ADDEND → View.AfterPlus a r t → Good none rs

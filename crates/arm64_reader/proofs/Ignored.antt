@@ -24,10 +24,10 @@ use Rattle.arch.specs.Entry.{entryOf, enter, targeted}
 use Rattle.arch.specs.Join.{joined}
 use Rattle.arch.specs.Table.{recordAt, subtractedAt}
 use Rattle.arch.specs.Target.{sectionTarget, targetOf}
-use Rattle.arch.specs.Walk.{Answer, refused, entries, before, after, readFrom, readAll, Fills}
+use Rattle.arch.specs.Walk.{Reading, refused, entries, before, after, readFrom, readAll, Fills}
 use Rattle.arch.specs.declared.target.Target.{Target}
 use Rattle.arch.specs.declared.target.Target.the-variants as T
-use Rattle.arch.specs.declared.step.Check.{Check}
+use Rattle.macho.specs.declared.refusal.Check.{Check}
 use Rattle.arch.specs.declared.step.Step.{Step}
 use Rattle.arch.specs.declared.step.Step.the-variants as S
 use Rattle.arch.proofs.Walk.{Ends, turn-suc}
@@ -196,7 +196,7 @@ module _ (contents others sections addresses : List ℕ) (first : Bool) (rs : Li
 
 -- ---- an ADDEND record's form, and the offset of the record after it
 
-after-ends : (m : ℕ) (s : Step) (p q : ℕ → Answer) → Ends m s → p m ≡ q m → after s p ≡ after s q
+after-ends : (m : ℕ) (s : Step) (p q : ℕ → Reading) → Ends m s → p m ≡ q m → after s p ≡ after s q
 unfolding Ends
 after-ends m (S.Refused x) p q h e = refl
 after-ends m (S.Read r next) p q h e = rw h (ap (before r) e)

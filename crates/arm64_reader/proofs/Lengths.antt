@@ -11,9 +11,9 @@ use Rattle.macho.specs.declared.reloc.Reloc.{Reloc}
 use Rattle.macho.specs.declared.refusal.Refusal.{Refusal}
 use Rattle.macho.specs.declared.refusal.Refusal.the-variants.{Lengths, Slots}
 use Rattle.arch.specs.Table.{recordsFrom, recordsOf, lengthsOf}
-use Rattle.arch.specs.Walk.{Answer, refused, entries, checked, readFrom, readAll}
-use Rattle.arch.specs.declared.step.Check.{Check}
-use Rattle.arch.specs.declared.step.Check.the-variants as C
+use Rattle.arch.specs.Walk.{Reading, refused, entries, checked, readFrom, readAll}
+use Rattle.macho.specs.declared.refusal.Check.{Check}
+use Rattle.macho.specs.declared.refusal.Check.the-variants as C
 use Rattle.arm64_reader.specs.Read.{readRecords, readTable, readRelocs}
 
 module _ (contents rels sections slots : List ℕ) where

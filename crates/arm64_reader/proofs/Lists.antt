@@ -16,7 +16,7 @@ use Rattle.macho.specs.declared.reloc.Reloc.{Reloc}
 use Rattle.macho.specs.declared.refusal.Refusal.{Refusal}
 use Rattle.macho.specs.declared.refusal.Refusal.the-variants.{Bounds, LoneAddend}
 use Rattle.arch.specs.Table.{recordAt, subtractedAt}
-use Rattle.arch.specs.Walk.{Answer, refused, entries, before, after, readFrom, readAll}
+use Rattle.arch.specs.Walk.{Reading, refused, entries, before, after, readFrom, readAll}
 use Rattle.arch.specs.declared.step.Step.{Step}
 use Rattle.arch.specs.declared.step.Step.the-variants as S
 use Rattle.arch.proofs.Walk.{Ends, turn-suc}
@@ -31,7 +31,7 @@ use Rattle.arm64_reader.proofs.Tables.{endsIn, right-alike}
 abbrev pub isSubtractor : MachRel → Bool
 isSubtractor r = eqb (typeOf (r .bits)) ARM64-RELOC-SUBTRACTOR
 
-after-at : (m : ℕ) (s : Step) (p : ℕ → Answer) (a : Answer) → Ends m s → p m ≡ a → after s p ≡ after s (λ _. a)
+after-at : (m : ℕ) (s : Step) (p : ℕ → Reading) (a : Reading) → Ends m s → p m ≡ a → after s p ≡ after s (λ _. a)
 unfolding Ends
 after-at m (S.Refused x) p a h e = refl
 after-at m (S.Read r next) p a h e = rw h (ap (before r) e)
@@ -99,7 +99,7 @@ module _ (contents sections : List ℕ) (first : Bool) where
       ∙ rest-is (a ∷ (r ∷ [])) rs (suc (length rs)) (omega arith))
 
   -- what holds of each way that a first record can be read
-  pub plain-cases : (P : Answer → Type 0) (r : MachRel) (rs : List MachRel) → (typeOf (r .bits) ≡ ARM64-RELOC-ADDEND → ⊥)
+  pub plain-cases : (P : Reading → Type 0) (r : MachRel) (rs : List MachRel) → (typeOf (r .bits) ≡ ARM64-RELOC-ADDEND → ⊥)
       → (length contents < r .offset → P (refused Bounds))
       → (r .offset ≤ length contents → (x : Refusal) → recordOf (drop (r .offset) contents) sections r first (r .offset) 0 1 ≡ S.Refused x → P (refused x))
       → (r .offset ≤ length contents → (e : Reloc) (m : ℕ) → recordOf (drop (r .offset) contents) sections r first (r .offset) 0 1 ≡ S.Read e m
@@ -116,7 +116,7 @@ module _ (contents sections : List ℕ) (first : Bool) where
       go true e = let h = ltb-true _ _ e in rw (read-past r rs h) (past h)
       go false e = let h = ltb-false _ _ e in rw (read-plain r rs h t) (by _ refl h)
 
-  pub pair-cases : (P : Answer → Type 0) (a r : MachRel) (rs : List MachRel) → typeOf (a .bits) ≡ ARM64-RELOC-ADDEND
+  pub pair-cases : (P : Reading → Type 0) (a r : MachRel) (rs : List MachRel) → typeOf (a .bits) ≡ ARM64-RELOC-ADDEND
       → (length contents < a .offset → P (refused Bounds))
       → (a .offset ≤ length contents → (x : Refusal)
       → recordOf (drop (a .offset) contents) sections r false (a .offset) (extend (idxOf (a .bits)) 24) 2 ≡ S.Refused x → P (refused x))

@@ -22,8 +22,8 @@ use Rattle.arch.specs.Form.{form, member}
 use Rattle.arch.specs.Target.{targetOf}
 use Rattle.arch.specs.Table.{recordsOf, recordAt, subtractedAt, lengthsOf}
 use Rattle.arch.specs.Walk.{refused, readAll, Fills}
-use Rattle.arch.specs.declared.step.Check.{Check}
-use Rattle.arch.specs.declared.step.Check.the-variants as C
+use Rattle.macho.specs.declared.refusal.Check.{Check}
+use Rattle.macho.specs.declared.refusal.Check.the-variants as C
 use Rattle.arch.specs.declared.step.Step.{Step}
 use Rattle.arch.specs.declared.step.Step.the-variants as S
 use Rattle.arch.proofs.Records.{length-records}

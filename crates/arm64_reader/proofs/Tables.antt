@@ -19,7 +19,7 @@ use Rattle.macho.specs.declared.refusal.Refusal.the-variants.{Bounds, LoneAdden
 use Rattle.arch.specs.Entry.{entryOf}
 use Rattle.arch.specs.Join.{joined, mapped, moved}
 use Rattle.arch.specs.Table.{recordsOf, recordAt, subtractedAt}
-use Rattle.arch.specs.Walk.{Answer, readAll, Fills}
+use Rattle.arch.specs.Walk.{Reading, readAll, Fills}
 use Rattle.arch.specs.declared.step.Step.{Step}
 use Rattle.arch.specs.declared.step.Step.the-variants as S
 use Rattle.arch.proofs.Records.{records-append}

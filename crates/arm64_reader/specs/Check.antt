@@ -11,8 +11,8 @@ use Rattle.macho.specs.MachRel.{p2sizeOf, typeOf}
 use Rattle.macho.specs.Types.{ARM64-RELOC-UNSIGNED, ARM64-RELOC-GOT-LOAD-PAGEOFF12, ARM64-RELOC-TLVP-LOAD-PAGEOFF12}
 use Rattle.macho.specs.declared.rel.MachRel.{MachRel}
 use Rattle.macho.specs.declared.refusal.Refusal.the-variants.{Bounds, Unsupported, Unfit}
-use Rattle.arch.specs.declared.step.Check.{Check}
-use Rattle.arch.specs.declared.step.Check.the-variants.{Fit, Refused}
+use Rattle.macho.specs.declared.refusal.Check.{Check}
+use Rattle.macho.specs.declared.refusal.Check.the-variants.{Fit, Refused}
 use Rattle.arm64_insn.specs.Encoding.{addUnshifted}
 use Rattle.arm64_insn.specs.LoadStore.{loadStoreOf}
 use Rattle.arm64_insn.specs.declared.ldst.LoadStoreWord.{LoadStoreWord}

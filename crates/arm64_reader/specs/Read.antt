@@ -5,17 +5,17 @@ use Prim.Native.Nat.{ℕ}
 use lib.ListN.{length}
 use Rattle.macho.specs.declared.rel.MachRel.{MachRel}
 use Rattle.arch.specs.Table.{recordsOf, lengthsOf}
-use Rattle.arch.specs.Walk.{Answer, readAll, checked}
+use Rattle.arch.specs.Walk.{Reading, readAll, checked}
 use Rattle.arm64_reader.specs.Record.{stepAt}
 
 -- what a list of records reads to; `before` says whether the record before the list is SUBTRACTOR
-unfoldable pub readRecords : List ℕ → List ℕ → Bool → List MachRel → Answer
+unfoldable pub readRecords : List ℕ → List ℕ → Bool → List MachRel → Reading
 readRecords contents sections before rs = readAll (stepAt contents sections before rs) (length rs)
 
 -- what the bytes of a table of records read to
-abbrev pub readTable : List ℕ → List ℕ → List ℕ → Answer
+abbrev pub readTable : List ℕ → List ℕ → List ℕ → Reading
 readTable contents rels sections = readRecords contents sections false (recordsOf rels)
 
 -- what a call answers: numbers 1 and 2 by the lengths that it is lent, then what the table reads to
-unfoldable pub readRelocs : List ℕ → List ℕ → List ℕ → List ℕ → Answer
+unfoldable pub readRelocs : List ℕ → List ℕ → List ℕ → List ℕ → Reading
 readRelocs contents rels sections slots = checked (lengthsOf (length rels) (length sections) (length slots)) (readTable contents rels sections)

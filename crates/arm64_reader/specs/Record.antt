@@ -14,8 +14,8 @@ use Rattle.macho.specs.declared.rel.MachRel.{MachRel}
 use Rattle.macho.specs.declared.refusal.Refusal.the-variants.{Bounds, LoneAddend}
 use Rattle.arch.specs.Entry.{entryOf, targeted}
 use Rattle.arch.specs.Table.{recordAt, subtractedAt}
-use Rattle.arch.specs.declared.step.Check.{Check}
-use Rattle.arch.specs.declared.step.Check.the-variants as C
+use Rattle.macho.specs.declared.refusal.Check.{Check}
+use Rattle.macho.specs.declared.refusal.Check.the-variants as C
 use Rattle.arch.specs.declared.step.Step.{Step}
 use Rattle.arch.specs.declared.step.Step.the-variants as S
 use Rattle.arm64_reader.specs.declared.record.Addend.{Addend}

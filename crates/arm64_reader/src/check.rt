@@ -1,12 +1,12 @@
 // The checks of one relocation record (arch/arm64.rs, `check_reloc`).
 use crate::support::is_supported;
-use arch::step::Check;
 use arm64_insn::add::is_add_either;
 use arm64_insn::ldst::LoadStore;
 use arm64_insn::ldst::LoadStoreWord;
 use macho::consts::ARM64_RELOC_GOT_LOAD_PAGEOFF12;
 use macho::consts::ARM64_RELOC_TLVP_LOAD_PAGEOFF12;
 use macho::consts::ARM64_RELOC_UNSIGNED;
+use macho::refusal::Check;
 use macho::refusal::Refusal;
 use macho::rel::MachRel;
 use util::read32;

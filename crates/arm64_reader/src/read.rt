@@ -1,19 +1,19 @@
 // Relocation records into entries (arch/arm64.rs, `read_relocs`): one walk that checks and writes nothing, then one that fills.
 use crate::record::enter_one;
 use crate::record::read_one;
-use arch::step::Check;
-use arch::step::ReadAnswer;
 use arch::step::Step;
 use arch::table::check_lengths;
+use macho::refusal::Answer;
+use macho::refusal::Check;
 ghost use mathlib.Core.Path.{_≡_};
 ghost use Prim.Native.Nat.{_*_, _/_, _≤_};
 ghost use lib.ListN.{length};
-ghost use Rattle.arch.specs.Walk.{Fills, outcomeOf, slotsAfter};
+ghost use Rattle.arch.specs.Walk.{Fills, answerOf, slotsAfter};
 ghost use Rattle.arm64_reader.specs.Read.{readTable, readRelocs};
 
 // The walk that checks: all records, with nothing written.
-fn check_walk(contents: &[u8], rels: &[u8], sections: &[u64]) -> ReadAnswer
-    ensures { λ r. ⌜ r ≡ outcomeOf (readTable (now (contents .entry)) (now (rels .entry)) (now (sections .entry))) ⌝ }
+fn check_walk(contents: &[u8], rels: &[u8], sections: &[u64]) -> Answer
+    ensures { λ r. ⌜ r ≡ answerOf (readTable (now (contents .entry)) (now (rels .entry)) (now (sections .entry))) ⌝ }
 {
     let n = rels.len() / 8;
     let mut i = 0;
@@ -21,7 +21,7 @@ fn check_walk(contents: &[u8], rels: &[u8], sections: &[u64]) -> ReadAnswer
     while i < n {
         match read_one(contents, rels, sections, i) {
             Step::Refused(refusal) => {
-                return ReadAnswer::Refused(refusal);
+                return Answer::Refused(refusal);
             }
             Step::Read(_, next) => {
                 i = next;
@@ -29,7 +29,7 @@ fn check_walk(contents: &[u8], rels: &[u8], sections: &[u64]) -> ReadAnswer
         }
         count += 1;
     }
-    ReadAnswer::Filled(count)
+    Answer::Filled(count)
 }
 
 // The walk that fills, after the first has found that every record reads.
@@ -55,18 +55,18 @@ fn fill_walk(contents: &[u8], rels: &[u8], sections: &[u64], slots: &mut [u8])
 }
 
 // Reads relocation records of a section into entries. `sections` has the address of each section. A refusal leaves the slots as they were.
-pub fn read_relocs(contents: &[u8], rels: &[u8], sections: &[u64], slots: &mut [u8]) -> ReadAnswer
-    ensures result { λ r. ⌜ r ≡ outcomeOf (readRelocs (now (contents .entry)) (now (rels .entry)) (now (sections .entry)) (now (slots .entry))) ⌝ }
+pub fn read_relocs(contents: &[u8], rels: &[u8], sections: &[u64], slots: &mut [u8]) -> Answer
+    ensures result { λ r. ⌜ r ≡ answerOf (readRelocs (now (contents .entry)) (now (rels .entry)) (now (sections .entry)) (now (slots .entry))) ⌝ }
     ensures lent { λ _. ⌜ now (slots .exit)
         ≡ slotsAfter (readRelocs (now (contents .entry)) (now (rels .entry)) (now (sections .entry)) (now (slots .entry))) (now (slots .entry)) ⌝ }
 {
     match check_lengths(rels.len(), sections.len(), slots.len()) {
-        Check::Refused(refusal) => ReadAnswer::Refused(refusal),
+        Check::Refused(refusal) => Answer::Refused(refusal),
         Check::Fit => match check_walk(contents, rels, sections) {
-            ReadAnswer::Refused(refusal) => ReadAnswer::Refused(refusal),
-            ReadAnswer::Filled(count) => {
+            Answer::Refused(refusal) => Answer::Refused(refusal),
+            Answer::Filled(count) => {
                 fill_walk(contents, rels, sections, slots);
-                ReadAnswer::Filled(count)
+                Answer::Filled(count)
             }
         },
     }

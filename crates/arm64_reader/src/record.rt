@@ -1,6 +1,5 @@
 // What stands at one relocation record (arch/arm64.rs, a turn of `read_relocs`).
 use crate::check::check_reloc;
-use arch::step::Check;
 use arch::step::Step;
 use arch::step::entry_of;
 use arch::step::read_target;
@@ -9,6 +8,7 @@ use arch::table::record_at;
 use macho::consts::ARM64_RELOC_ADDEND;
 use macho::consts::ARM64_RELOC_SUBTRACTOR;
 use macho::consts::ARM64_RELOC_UNSIGNED;
+use macho::refusal::Check;
 use macho::refusal::Refusal;
 use macho::rel::MachRel;
 use util::read32;

@@ -1,8 +1,9 @@
 // The reader of relocation records.
-use arch::step::ReadAnswer;
 use arm64_reader::read::read_relocs;
+use macho::refusal::Answer;
 ghost use mathlib.Core.Path.{_≡_};
-ghost use Rattle.arch.specs.Walk.{outcomeOf, slotsAfter, numberIn, filledIn};
+ghost use Rattle.macho.specs.Refusal.{answerNumber, filledOf};
+ghost use Rattle.arch.specs.Walk.{answerOf, slotsAfter};
 ghost use Rattle.arm64_reader.specs.Read.{readRelocs};
 ghost use Rattle.hauklivo.specs.Lent.{lentNumber};
 
@@ -16,17 +17,17 @@ pub extern "C" fn hauklivo_read_relocs(
     count: &mut usize,
 ) -> u8
     ensures number { λ r. ⌜ r
-        ≡ numberIn (outcomeOf (readRelocs (now (contents .entry)) (now (rels .entry)) (now (sections .entry)) (now (slots .entry)))) ⌝ }
+        ≡ answerNumber (answerOf (readRelocs (now (contents .entry)) (now (rels .entry)) (now (sections .entry)) (now (slots .entry)))) ⌝ }
     ensures count { λ r. ⌜ now (count .exit)
         ≡ lentNumber r
-        (filledIn (outcomeOf (readRelocs (now (contents .entry)) (now (rels .entry)) (now (sections .entry)) (now (slots .entry)))))
+        (filledOf (answerOf (readRelocs (now (contents .entry)) (now (rels .entry)) (now (sections .entry)) (now (slots .entry)))))
         (now (count .entry)) ⌝ }
     ensures slots { λ _. ⌜ now (slots .exit)
         ≡ slotsAfter (readRelocs (now (contents .entry)) (now (rels .entry)) (now (sections .entry)) (now (slots .entry))) (now (slots .entry)) ⌝ }
 {
     match read_relocs(contents, rels, sections, slots) {
-        ReadAnswer::Refused(refusal) => refusal.number(),
-        ReadAnswer::Filled(n) => {
+        Answer::Refused(refusal) => refusal.number(),
+        Answer::Filled(n) => {
             *count = n;
             0
         }

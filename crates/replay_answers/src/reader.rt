@@ -2,8 +2,8 @@
 use crate::list::are_filled;
 use crate::list::put_pattern;
 use crate::list::value;
-use arch::step::ReadAnswer;
 use arm64_reader::read::read_relocs;
+use macho::refusal::Answer;
 use util::read64;
 ghost use Prim.Native.Nat.{_*_, _≤_};
 ghost use lib.ListN.{length};
@@ -29,8 +29,8 @@ fn answers(
     filled: usize,
 ) -> bool {
     match read_relocs(contents, records, sections, slots) {
-        ReadAnswer::Refused(refusal) => refusal.number() == number,
-        ReadAnswer::Filled(n) => number == 0 && n == filled,
+        Answer::Refused(refusal) => refusal.number() == number,
+        Answer::Filled(n) => number == 0 && n == filled,
     }
 }
 

@@ -4,7 +4,7 @@ use native.Mathlib.Omega.{arith}
 use borrow.Author.Needs.{needs}
 use lib.ListN.{length}
 use denote.Ref.{now}
-use Rattle.arch.specs.Walk.{outcomeOf}
+use Rattle.arch.specs.Walk.{answerOf}
 use Rattle.arch.proofs.Walk.{Rest, counted, check-start, check-read, check-refused, check-done}
 use Rattle.arm64_reader.specs.Read.{readTable}
 use Rattle.arm64_reader.proofs.Steps.{tableStep, table-is, table-onward}
@@ -16,13 +16,13 @@ use Rattle.arm64_reader.proofs.record.read_one.Reads as read-one-reads
 
 abbrev Inv-loop : tie.InvT-loop
 Inv-loop contents rels sections n i₀ count₀ i count =
-    (count ≤ i) × (counted count (Rest (tableStep contents rels sections) (length rels / 8) count i) ≡ outcomeOf (readTable contents rels sections))
+    (count ≤ i) × (counted count (Rest (tableStep contents rels sections) (length rels / 8) count i) ≡ answerOf (readTable contents rels sections))
 
 abbrev μ-loop : tie.MeasureT-loop
 μ-loop contents rels sections n i₀ count₀ i count = length rels / 8 - i
 
 loop-holds : tie.Need-loop-holds Inv-loop μ-loop
-loop-holds c = (search needs, check-start _ _ ∙ ap outcomeOf (sym (table-is _ _ _)))
+loop-holds c = (search needs, check-start _ _ ∙ ap answerOf (sym (table-is _ _ _)))
 
 read-one-requires : tie.Need-read-one-requires Inv-loop μ-loop
 read-one-requires c κs = search needs

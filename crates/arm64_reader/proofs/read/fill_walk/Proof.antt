@@ -5,7 +5,7 @@ use native.Mathlib.Omega.{arith}
 use borrow.Author.Needs.{needs}
 use lib.ListN.{length}
 use denote.Ref.{now}
-use Rattle.arch.specs.Walk.{Answer, Fills, slotsAfter}
+use Rattle.arch.specs.Walk.{Reading, Fills, slotsAfter}
 use Rattle.arch.proofs.Walk.{Rest, stored, fill-start, fill-fills, fill-read, fill-stored, fill-refused, fill-done}
 use Rattle.arm64_reader.specs.Read.{readTable}
 use Rattle.arm64_reader.proofs.Steps.{tableStep, table-is, table-onward, table-reads}
@@ -33,7 +33,7 @@ loop-holds c =
     let t = table-is (now (a .args .contents)) (now (a .args .rels)) (now (a .args .sections)) in (
       search needs,
       fill-fills _ _ (subst Fills t (a .pre .0)),
-      fill-start _ _ s (a .pre .1) ∙ ap (λ (x : Answer). slotsAfter x s) (sym t),
+      fill-start _ _ s (a .pre .1) ∙ ap (λ (x : Reading). slotsAfter x s) (sym t),
       refl,
     )
 

@@ -4,7 +4,7 @@ use Prim.Native.Nat.{ℕ}
 use native.Mathlib.Omega.{arith}
 use denote.Ref.{now}
 use lib.ListN.{length}
-use Rattle.arch.specs.Walk.{Answer, outcomeOf, slotsAfter}
+use Rattle.arch.specs.Walk.{Reading, answerOf, slotsAfter}
 use Rattle.arch.proofs.Walk.{fills-of, kept-of, fit-room}
 use Rattle.arm64_reader.specs.Read.{readTable}
 use Rattle.arm64_reader.proofs.Steps.{lengths-refuse, lengths-fit}
@@ -49,7 +49,7 @@ returns c =
     let a = c .before .before .before .before .before .before .before .before .args in
     let f = sym (c .before .before .before .check-lengths .ensures) ∙ c .before .refusal .given .1 in
     let e = lengths-refuse (now (a .contents)) (now (a .rels)) (now (a .sections)) (now (a .slots)) f in
-    (ap outcomeOf (sym e), ap (λ (r : Answer). slotsAfter r (now (a .slots))) (sym e))
+    (ap answerOf (sym e), ap (λ (r : Reading). slotsAfter r (now (a .slots))) (sym e))
 
 returns-2 : tie.Need-returns-2
 returns-2 c =
@@ -58,8 +58,8 @@ returns-2 c =
     let a = k .before .before .before .before .before .before .before .before .args in
     let e = lengths-fit (now (a .contents)) (now (a .rels)) (now (a .sections)) (now (a .slots)) f in
     let d = sym (c .before .refusal2 .given .1) ∙ k .check-walk .ensures in (
-      d ∙ ap outcomeOf (sym e),
-      kept-of (readTable (now (a .contents)) (now (a .rels)) (now (a .sections))) _ _ d ∙ ap (λ (r : Answer). slotsAfter r (now (a .slots))) (sym e),
+      d ∙ ap answerOf (sym e),
+      kept-of (readTable (now (a .contents)) (now (a .rels)) (now (a .sections))) _ _ d ∙ ap (λ (r : Reading). slotsAfter r (now (a .slots))) (sym e),
     )
 
 same-length : tie.Need-same-length
@@ -72,8 +72,8 @@ returns-3 c =
     let f = sym (k .before .before .before .check-lengths .ensures) ∙ k .before .enum-told .given .1 in
     let a = k .before .before .before .before .before .before .before .before .args in
     let e = lengths-fit (now (a .contents)) (now (a .rels)) (now (a .sections)) (now (a .slots)) f in (
-      sym (m .count .given .1) ∙ k .check-walk .ensures ∙ ap outcomeOf (sym e),
-      c .before .before .fill-walk .ensures ∙ ap (λ (r : Answer). slotsAfter r (now (a .slots))) (sym e),
+      sym (m .count .given .1) ∙ k .check-walk .ensures ∙ ap answerOf (sym e),
+      c .before .before .fill-walk .ensures ∙ ap (λ (r : Reading). slotsAfter r (now (a .slots))) (sym e),
     )
 
 pub read-relocs-spec : {M : Type 1} → statement M
