@@ -19,12 +19,12 @@ use Rattle.arm64_fixup_entry.specs.Change.{bytesIn, silent, changeOf}
 use Rattle.arm64_fixup.specs.Walk.{entryAt, targetAt, entries, consumed, checkTo, stored, Fixed, changeAt, workAt, fixTo}
 use Rattle.arm64_fixup.specs.Footprint.{offsetAt, widthAt, Touches, writtenAt, Writes}
 use Rattle.arm64_fixup_entry.specs.declared.target.Bases.{Bases}
-use Rattle.arm64_fixup_entry.specs.declared.check.Checked.the-variants.{Fine}
+use Rattle.macho.specs.declared.refusal.Check.the-variants.{Fit}
 use Rattle.arm64_fixup_entry.specs.declared.change.Change.{Change}
 use Rattle.arm64_fixup_entry.specs.declared.change.Write.{Write}
 use Rattle.arm64_fixup_entry.specs.declared.change.Write.the-variants.{Nothing, Word, Pointer}
 use Rattle.arm64_fixup.proofs.Turns.{work-worked, work-taken, fix-suc, length-fix}
-use Rattle.arm64_fixup.proofs.Works.{fine-at, room}
+use Rattle.arm64_fixup.proofs.Works.{fit-at, room}
 use Rattle.arm64_fixup_entry.proofs.Width.{wide, change-fits}
 
 -- ---- one write
@@ -154,7 +154,7 @@ reads-touch b rels targets i s s′ free same = go (eqb (widthOf (entryAt rels i
 -- ---- an entry whose bytes no other writes
 
 module _ (section : List ℕ) (b : Bases) (rels targets : List ℕ) (k : ℕ) (below : k < entries rels)
-    (fine : checkTo (length section) b rels targets (entries rels) ≡ Fine)
+    (fit : checkTo (length section) b rels targets (entries rels) ≡ Fit)
     (before : (j p : ℕ) → j < k → Touches rels targets k p → Writes section b rels targets j p → ⊥)
   where
     -- the entries before it leave its bytes
@@ -176,7 +176,7 @@ module _ (section : List ℕ) (b : Bases) (rels targets : List ℕ) (k : ℕ) (b
       has-room : offsetAt rels k + bytesIn (changeAt b rels targets section k .write) ≤ length section
       has-room =
           room (length section) b k (entryAt rels k) (targetAt targets k) _ _ _ _
-          (fine-at b rels targets section k free fine below refl refl refl) refl
+          (fit-at b rels targets section k free fit below refl refl refl) refl
 
       pub only-it : (p : ℕ) → Touches rels targets k p → ((j : ℕ) → k < j → j < entries rels → Writes section b rels targets j p → ⊥)
           → getD (fixTo b rels targets section (entries rels) .section) p 0

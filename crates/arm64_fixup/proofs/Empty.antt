@@ -9,7 +9,7 @@ use Rattle.macho.specs.Record.{listBytes}
 use Rattle.arm64_fixup.specs.Walk.{checkTo, fixTo}
 use Rattle.arm64_fixup.specs.Answer.{checkLists, outcomeOf, answerOf, sectionAfter, slotsAfter}
 use Rattle.arm64_fixup_entry.specs.declared.target.Bases.{Bases}
-use Rattle.arm64_fixup.specs.declared.walk.FixAnswer.the-variants.{Filled}
+use Rattle.macho.specs.declared.refusal.Answer.the-variants.{Filled}
 
 pub empty : (section : List ℕ) (b : Bases) (slots : List ℕ)
     → (answerOf (outcomeOf section b [] [] slots) ≡ Filled 0)

@@ -10,6 +10,7 @@ use Rattle.util.specs.Word.{le, put, bytes}
 use Rattle.util.specs.Wrap.{inRange}
 use Rattle.macho.specs.Types.{ARM64-RELOC-UNSIGNED, ARM64-RELOC-SUBTRACTOR, ARM64-RELOC-BRANCH26, ARM64-RELOC-PAGEOFF12}
 use Rattle.macho.specs.Types.{ARM64-RELOC-GOT-LOAD-PAGEOFF12, ARM64-RELOC-POINTER-TO-GOT, ARM64-RELOC-ADDEND}
+use Rattle.macho.specs.Refusal.{answerNumber}
 use Rattle.macho.specs.Record.{bytesOf}
 use Rattle.macho.specs.Reloc.{relocAt, relocBytes}
 use Rattle.macho.specs.Resolved.{resolvedAt, resolvedBytes, wellFormed}
@@ -20,7 +21,7 @@ use Rattle.arm64_fixup_entry.specs.Check.{checkOf}
 use Rattle.arm64_fixup_entry.specs.Change.{branchTarget, dtraceSiteInsn, branch, pageoff12, relaxed, gotPageoff12, wordChange, changeOf}
 use Rattle.arm64_fixup.specs.Walk.{consumed, checkAt, checkTo, Fixed, workAt, fixTo}
 use Rattle.arm64_fixup.specs.Footprint.{writtenAt, Writes, Lone}
-use Rattle.arm64_fixup.specs.Answer.{checkLists, basesOf, Outcome, fixed, outcomeOf, answerOf, numberOf}
+use Rattle.arm64_fixup.specs.Answer.{checkLists, basesOf, Outcome, fixed, outcomeOf, answerOf}
 
 -- an entry of a type, at an offset, with its target field; the other fields are zeros
 abbrev pub entry : ℕ → ℕ → ℕ → List ℕ
@@ -35,7 +36,7 @@ resolved addr flags =
 
 -- the number of a call
 abbrev pub number : List ℕ → ℕ → List ℕ → List ℕ → List ℕ → ℕ
-number section base rels targets slots = numberOf (answerOf (outcomeOf section (basesOf base 0) rels targets slots))
+number section base rels targets slots = answerNumber (answerOf (outcomeOf section (basesOf base 0) rels targets slots))
 
 -- a call on one word at 0x1000 with one entry
 abbrev pub oneWord : ℕ → ℕ → ℕ → ℕ → Outcome

@@ -66,7 +66,7 @@ module _ (section : List ℕ) (b : Bases) (rels targets slots : List ℕ) where
     last-written before p t after =
         let a = accepts section b rels targets slots accepted in
         ap (λ (g : Fixed). getD (g .section) p 0) (a .work)
-        ∙ only-it section b rels targets k below (a .fine) before (touched-worked rels targets k (omega arith)) p t after
+        ∙ only-it section b rels targets k below (a .fit) before (touched-worked rels targets k (omega arith)) p t after
 
     module _ (alone : Alone section b rels targets k) where
       -- bytes that only entry k writes end as its step on the lent bytes leaves them

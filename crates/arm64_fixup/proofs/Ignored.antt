@@ -25,8 +25,8 @@ use Rattle.arm64_fixup_entry.specs.Change.{gotPageoff12, pointerToGot, wordChan
 use Rattle.arm64_fixup.specs.Walk.{entryAt, targetAt, entries, consumed, checkAt, first, checkTo, Fixed, changeAt, applied, workAt, fixTo}
 use Rattle.arm64_fixup.specs.Answer.{checkLists, after, fixed, outcomeOf}
 use Rattle.arm64_fixup_entry.specs.declared.target.Bases.{Bases}
-use Rattle.arm64_fixup_entry.specs.declared.check.Checked.{Checked}
-use Rattle.arm64_fixup_entry.specs.declared.check.Checked.the-variants.{Fine, Refused}
+use Rattle.macho.specs.declared.refusal.Check.{Check}
+use Rattle.macho.specs.declared.refusal.Check.the-variants.{Fit, Refused}
 use Rattle.arm64_fixup_entry.specs.declared.change.Change.{Change}
 use Rattle.arm64_fixup_entry.proofs.Sound.{followed}
 use Rattle.arm64_fixup.proofs.Turns.{and-false, check-taken, check-worked, passes, work-worked, work-taken}
@@ -108,7 +108,7 @@ module _ (b : Bases) (rels rels′ targets targets′ : List ℕ) (agree : Agree
       let a = agree .worked i l e in
       (ap (λ (r : Reloc). r .addend) (a .0), ap (λ (t : Resolved). t .addr) (a .1))
 
-  module _ (len : ℕ) (fine : checkTo len b rels targets (entries rels) ≡ Fine) where
+  module _ (len : ℕ) (fit : checkTo len b rels targets (entries rels) ≡ Fit) where
     module _ (i : ℕ) (l : i < entries rels) (free : consumed rels i ≡ false) (s : List ℕ) where
       -- the entry's own fields
       same-own : (next : Reloc) (nextTarget : Resolved)
@@ -127,7 +127,7 @@ module _ (b : Bases) (rels rels′ targets targets′ : List ℕ) (agree : Agree
       same-other word false e = indifferent b i _ _ _ _ _ _ word e
       same-other word true e =
           let own = ap (λ (r : Reloc). subtracts (r .ty)) (agree .worked i l free .0) ∙ e in
-          let checked = sym (check-worked len b rels targets i free) ∙ passes len b rels targets (entries rels) i fine l in
+          let checked = sym (check-worked len b rels targets i free) ∙ passes len b rels targets (entries rels) i fit l in
           let n = same-next (i + 1) (followed len b _ _ i (entries rels) checked own l) (consumed rels (i + 1)) refl in
           sym (change-seen b i _ _ (entryAt rels (i + 1)) (targetAt targets (i + 1)) word)
           ∙ ap₂ (λ (a s : ℕ). changeOf b i (seen (entryAt rels′ i)) (targetAt targets′ i) (addendOf a) (addressOf s) word) (n .0) (n .1)
@@ -161,10 +161,10 @@ module _ (b : Bases) (rels rels′ targets targets′ : List ℕ) (agree : Agree
       checks-same : checkTo (length section) b rels targets (entries rels) ≡ checkTo (length section) b rels′ targets′ (entries rels′)
       checks-same = same-check (length section) (entries rels) (omega arith) ∙ ap (λ (n : ℕ). checkTo (length section) b rels′ targets′ n) same-count
 
-      go : (c : Checked) → checkTo (length section) b rels targets (entries rels) ≡ c
+      go : (c : Check) → checkTo (length section) b rels targets (entries rels) ≡ c
           → outcomeOf section b rels targets slots ≡ outcomeOf section b rels′ targets′ slots
       go (Refused r) e = ap₂ after lists-same (rw (e, sym checks-same ∙ e))
-      go Fine e =
+      go Fit e =
           ap₂ after lists-same
           (rw (e, sym checks-same ∙ e)
           (ap fixed

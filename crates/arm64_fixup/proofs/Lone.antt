@@ -16,7 +16,7 @@ use Rattle.arm64_fixup_entry.specs.declared.change.Write.{Write}
 use Rattle.arm64_fixup_entry.specs.declared.change.Write.the-variants.{Nothing, Word, Pointer}
 use Rattle.arm64_fixup_entry.proofs.Sound.{Sound, sound}
 use Rattle.arm64_fixup_entry.proofs.Width.{change-fits}
-use Rattle.arm64_fixup.proofs.Works.{fine-at}
+use Rattle.arm64_fixup.proofs.Works.{fit-at}
 use Rattle.arm64_fixup.proofs.Whole.{accepts}
 use Rattle.arm64_fixup.proofs.Bytewise.{worked-width, same-change}
 use Rattle.arm64_fixup.proofs.Footprint.{only-word}
@@ -26,12 +26,12 @@ module _ {section : List ℕ} {b : Bases} {rels targets slots : List ℕ} {f : F
   pub passed : Sound (length section) b (entryAt rels k) (targetAt targets k) (eqb (k + 1) (entries rels))
   passed =
       sound (length section) b (entryAt rels k) (targetAt targets k) (eqb (k + 1) (entries rels))
-      (fine-at b rels targets section k (l .worked) (accepts section b rels targets slots (l .accepted) .fine) (l .listed) refl refl refl)
+      (fit-at b rels targets section k (l .worked) (accepts section b rels targets slots (l .accepted) .fit) (l .listed) refl refl refl)
 
   -- its step at its turn is the one on the lent bytes
   pub lent-step : changeAt b rels targets (fixTo b rels targets section k .section) k ≡ changeAt b rels targets section k
   lent-step =
-      same-change section b rels targets k (l .listed) (accepts section b rels targets slots (l .accepted) .fine)
+      same-change section b rels targets k (l .listed) (accepts section b rels targets slots (l .accepted) .fit)
       (λ j p m t w. l .alone j p (omega (arith, l .listed)) (λ e. omega arith) t w) (l .worked)
 
   -- the bytes of its width at its place

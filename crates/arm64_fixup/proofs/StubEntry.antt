@@ -14,6 +14,7 @@ use Rattle.util.specs.Bits.{field}
 use Rattle.util.specs.Word.{le, put}
 use Rattle.util.proofs.Word.{length-put, getD-put-other, le-put, le-put-other}
 use Rattle.util.proofs.Choice.{choose-false}
+use Rattle.macho.specs.Refusal.{checkNumber}
 use Rattle.arm64_insn.specs.Manual.{ADRP, ADD, LDST, BR, InRange, form, decode}
 use Rattle.arm64_insn.specs.LoadStoreTable.{rowOf}
 use Rattle.arm64_insn.specs.ManualTargets as M
@@ -24,12 +25,12 @@ use Rattle.arm64_insn.specs.declared.stub.Words3.{Words3}
 use Rattle.arm64_insn.proofs.Encodes.{page-imm-lt, stub-made, thunk-made}
 use Rattle.arm64_insn.proofs.Meaning.{add-means, stub-means}
 use Rattle.arm64_insn.proofs.Manual.{encode-lt}
-use Rattle.arm64_fixup.specs.Stub.{wordsIn, stubAnswer, thunkAnswer, stubNumber, thunkNumber}
+use Rattle.arm64_fixup.specs.Stub.{wordsIn, stubAnswer, thunkCheck, stubNumber}
 
 -- fewer than 12 bytes: number 3, and nothing written
 pub short-entry : (s : List ℕ) (addr ptr : ℕ) → length s < 12
-    → (stubNumber (stubAnswer s addr ptr) ≡ 3) × (thunkNumber (thunkAnswer s) ≡ 3) × ((w : Words3) → wordsIn s w ≡ s)
-unfolding stubAnswer thunkAnswer wordsIn choose
+    → (stubNumber (stubAnswer s addr ptr) ≡ 3) × (checkNumber (thunkCheck s) ≡ 3) × ((w : Words3) → wordsIn s w ≡ s)
+unfolding stubAnswer thunkCheck wordsIn choose
 short-entry s addr ptr h = let t = lt-ltb (length s) 12 h in (rw t, rw t, λ w. rw t)
 
 module _ (s : List ℕ) (w : Words3) (room : 12 ≤ length s) where

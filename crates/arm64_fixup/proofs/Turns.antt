@@ -18,8 +18,8 @@ use Rattle.arm64_fixup_entry.specs.Check.{subtracts, checkOf}
 use Rattle.arm64_fixup.specs.Walk.{entries, entryAt, targetAt, takenBy, consumed, checkAt, first, checkTo, stored, Fixed, changeAt, applied}
 use Rattle.arm64_fixup.specs.Walk.{workAt, fixTo}
 use Rattle.arm64_fixup_entry.specs.declared.target.Bases.{Bases}
-use Rattle.arm64_fixup_entry.specs.declared.check.Checked.{Checked}
-use Rattle.arm64_fixup_entry.specs.declared.check.Checked.the-variants.{Fine, Refused}
+use Rattle.macho.specs.declared.refusal.Check.{Check}
+use Rattle.macho.specs.declared.refusal.Check.the-variants.{Fit, Refused}
 use Rattle.arm64_fixup_entry.specs.declared.change.Write.{Write}
 use Rattle.arm64_fixup_entry.specs.declared.change.Write.the-variants.{Nothing, Word, Pointer}
 use Rattle.arm64_fixup_entry.proofs.Sound.{followed}
@@ -61,9 +61,9 @@ module _ (rels : List ℕ) (i : ℕ) (free : consumed rels i ≡ false) where
 
 -- ---- the first walk
 
-first-fine : (a c : Checked) → first a c ≡ Fine → (a ≡ Fine) × (c ≡ Fine)
-first-fine Fine c h = (refl, h)
-first-fine (Refused r) c h = let z : _≡_ {A = ℕ} 0 1 = cc in absurd (omega arith)
+first-fit : (a c : Check) → first a c ≡ Fit → (a ≡ Fit) × (c ≡ Fit)
+first-fit Fit c h = (refl, h)
+first-fit (Refused r) c h = let z : _≡_ {A = ℕ} 0 1 = cc in absurd (omega arith)
 
 module _ (len : ℕ) (b : Bases) (rels targets : List ℕ) where
   check-suc : (i : ℕ) → checkTo len b rels targets (suc i) ≡ first (checkTo len b rels targets i) (checkAt len b rels targets i)
@@ -71,10 +71,10 @@ module _ (len : ℕ) (b : Bases) (rels targets : List ℕ) where
   check-suc i = refl
 
   -- every entry of a list that passes has passed
-  pub passes : (n i : ℕ) → checkTo len b rels targets n ≡ Fine → i < n → checkAt len b rels targets i ≡ Fine
+  pub passes : (n i : ℕ) → checkTo len b rels targets n ≡ Fit → i < n → checkAt len b rels targets i ≡ Fit
   passes zero i h l = absurd (not-suc-le-zero l)
   passes (suc n) i h l =
-      let p = first-fine (checkTo len b rels targets n) _ (sym (check-suc n) ∙ h) in
+      let p = first-fit (checkTo len b rels targets n) _ (sym (check-suc n) ∙ h) in
       ⊎-elim (λ (e : i ≡ n). rw e (p .1)) (λ (w : i < n). passes n i (p .0) w) (eq-or-lt-of-le (le-of-suc-le-suc l))
 
   -- a refusal stays
@@ -83,10 +83,10 @@ module _ (len : ℕ) (b : Bases) (rels targets : List ℕ) where
   stays (suc k) i r h =
       ap (λ (m : ℕ). checkTo len b rels targets m) {x = suc k + i} {y = suc (k + i)} (omega arith)
       ∙ check-suc (k + i)
-      ∙ ap (λ (c : Checked). first c (checkAt len b rels targets (k + i))) (stays k i r h)
+      ∙ ap (λ (c : Check). first c (checkAt len b rels targets (k + i))) (stays k i r h)
 
   -- the check of an entry that a SUBTRACTOR takes
-  pub check-taken : (i : ℕ) → consumed rels i ≡ true → checkAt len b rels targets i ≡ Fine
+  pub check-taken : (i : ℕ) → consumed rels i ≡ true → checkAt len b rels targets i ≡ Fit
   unfolding checkAt choose
   check-taken i h = rw h
 
@@ -96,9 +96,9 @@ module _ (len : ℕ) (b : Bases) (rels targets : List ℕ) where
     unfolding checkAt choose
     check-worked = rw free
 
-    module _ (below : i < entries rels) (before : checkTo len b rels targets i ≡ Fine) where
+    module _ (below : i < entries rels) (before : checkTo len b rels targets i ≡ Fit) where
       -- a turn that ends the walk
-      pub check-refused : {e : Reloc} {t : Resolved} {c : Checked} {r : Refusal} → e ≡ entryAt rels i → t ≡ targetAt targets i
+      pub check-refused : {e : Reloc} {t : Resolved} {c : Check} {r : Refusal} → e ≡ entryAt rels i → t ≡ targetAt targets i
           → c ≡ checkOf len b e t (eqb (i + 1) (entries rels)) → c ≡ Refused r → Refused r ≡ checkTo len b rels targets (entries rels)
       check-refused {r = r} pe pt q p =
           let k : entries rels - suc i + suc i ≡ entries rels = omega arith in
@@ -106,29 +106,29 @@ module _ (len : ℕ) (b : Bases) (rels targets : List ℕ) where
           sym
           (ap (λ (m : ℕ). checkTo len b rels targets m) (sym k)
           ∙ stays (entries rels - suc i) (suc i) r
-          (check-suc i ∙ ap (λ (a : Checked). first a (checkAt len b rels targets i)) before ∙ check-worked ∙ found))
+          (check-suc i ∙ ap (λ (a : Check). first a (checkAt len b rels targets i)) before ∙ check-worked ∙ found))
 
-      module _ (fine : checkOf len b (entryAt rels i) (targetAt targets i) (eqb (i + 1) (entries rels)) ≡ Fine) where
-        check-one : checkTo len b rels targets (suc i) ≡ Fine
-        check-one = check-suc i ∙ ap (λ (a : Checked). first a (checkAt len b rels targets i)) before ∙ check-worked ∙ fine
+      module _ (fit : checkOf len b (entryAt rels i) (targetAt targets i) (eqb (i + 1) (entries rels)) ≡ Fit) where
+        check-one : checkTo len b rels targets (suc i) ≡ Fit
+        check-one = check-suc i ∙ ap (λ (a : Check). first a (checkAt len b rels targets i)) before ∙ check-worked ∙ fit
 
-        check-next : checkTo len b rels targets (i + takenBy (entryAt rels i .ty)) ≡ Fine
+        check-next : checkTo len b rels targets (i + takenBy (entryAt rels i .ty)) ≡ Fit
         check-next =
-            next rels i free (λ (k : ℕ). checkTo len b rels targets k ≡ Fine) (λ s. check-one)
-            (λ s. check-suc (suc i) ∙ ap (λ (a : Checked). first a (checkAt len b rels targets (suc i))) check-one ∙ check-taken (suc i) (pair rels i free s))
+            next rels i free (λ (k : ℕ). checkTo len b rels targets k ≡ Fit) (λ s. check-one)
+            (λ s. check-suc (suc i) ∙ ap (λ (a : Check). first a (checkAt len b rels targets (suc i))) check-one ∙ check-taken (suc i) (pair rels i free s))
 
-    pub next-within : i < entries rels → checkOf len b (entryAt rels i) (targetAt targets i) (eqb (i + 1) (entries rels)) ≡ Fine
+    pub next-within : i < entries rels → checkOf len b (entryAt rels i) (targetAt targets i) (eqb (i + 1) (entries rels)) ≡ Fit
         → i + takenBy (entryAt rels i .ty) ≤ entries rels
-    next-within below fine =
-        next rels i free (λ (k : ℕ). k ≤ entries rels) (λ s. below) (λ s. omega (arith, followed len b _ _ i (entries rels) fine s below))
+    next-within below fit =
+        next rels i free (λ (k : ℕ). k ≤ entries rels) (λ s. below) (λ s. omega (arith, followed len b _ _ i (entries rels) fit s below))
 
     -- a turn that goes on
-    pub check-again : {e : Reloc} {t : Resolved} {c : Checked} {k : ℕ} → i < entries rels → checkTo len b rels targets i ≡ Fine
-        → e ≡ entryAt rels i → t ≡ targetAt targets i → c ≡ checkOf len b e t (eqb (i + 1) (entries rels)) → c ≡ Fine → k ≡ takenBy (e .ty)
-        → (i + k ≤ entries rels) × (consumed rels (i + k) ≡ false) × (checkTo len b rels targets (i + k) ≡ Fine)
+    pub check-again : {e : Reloc} {t : Resolved} {c : Check} {k : ℕ} → i < entries rels → checkTo len b rels targets i ≡ Fit
+        → e ≡ entryAt rels i → t ≡ targetAt targets i → c ≡ checkOf len b e t (eqb (i + 1) (entries rels)) → c ≡ Fit → k ≡ takenBy (e .ty)
+        → (i + k ≤ entries rels) × (consumed rels (i + k) ≡ false) × (checkTo len b rels targets (i + k) ≡ Fit)
     check-again below before pe pt q p pk =
-        let fine : checkOf len b (entryAt rels i) (targetAt targets i) (eqb (i + 1) (entries rels)) ≡ Fine = rw (← pe, ← pt) (sym q ∙ p) in
-        rw (pk, pe) (next-within below fine, next-worked rels i free, check-next below before fine)
+        let fit : checkOf len b (entryAt rels i) (targetAt targets i) (eqb (i + 1) (entries rels)) ≡ Fit = rw (← pe, ← pt) (sym q ∙ p) in
+        rw (pk, pe) (next-within below fit, next-worked rels i free, check-next below before fit)
 
 -- what holds at the end
 pub ended {ℓ} : (P : ℕ → Type ℓ) {i n : ℕ} → i ≤ n → n ≤ i → P i → P n

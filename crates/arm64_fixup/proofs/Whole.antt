@@ -12,9 +12,9 @@ use Rattle.arm64_fixup.specs.Walk.{checkAll, Fixed, fixAll}
 use Rattle.arm64_fixup.specs.Answer.{disagree, lacksSlots, checkLists, Outcome, refused, fixed, after, outcomeOf, answerOf, sectionAfter}
 use Rattle.arm64_fixup.specs.Answer.{filled, slotsAfter}
 use Rattle.arm64_fixup_entry.specs.declared.target.Bases.{Bases}
-use Rattle.arm64_fixup_entry.specs.declared.check.Checked.{Checked}
-use Rattle.arm64_fixup_entry.specs.declared.check.Checked.the-variants as C
-use Rattle.arm64_fixup.specs.declared.walk.FixAnswer.the-variants.{Filled, Refused}
+use Rattle.macho.specs.declared.refusal.Check.{Check}
+use Rattle.macho.specs.declared.refusal.Check.the-variants as C
+use Rattle.macho.specs.declared.refusal.Answer.the-variants.{Filled, Refused}
 use Rattle.arm64_fixup_entry.proofs.Sound.{passed}
 
 -- lists whose lengths agree
@@ -35,7 +35,7 @@ not-eqb m n h = go (eqb m n) refl h
     go true e _ = eqb-true m n e
     go false e h = let z : _≡_ {A = ℕ} 0 1 = cc in absurd (omega arith)
 
-pub lists : (rels targets slots : ℕ) → checkLists rels targets slots ≡ C.Fine → Lists rels targets slots
+pub lists : (rels targets slots : ℕ) → checkLists rels targets slots ≡ C.Fit → Lists rels targets slots
 unfolding checkLists
 lists rels targets slots h =
     let p = passed (disagree rels targets) _ _ h in
@@ -58,22 +58,22 @@ module _ (section : List ℕ) (b : Bases) (rels targets slots : List ℕ) where
   turned-down o = rw o (refl, (refl, refl))
 
   -- by the lists, and by an entry
-  pub by-lists : {c : Checked} {r : Refusal} → c ≡ checkLists (length rels) (length targets) (length slots) → c ≡ C.Refused r
+  pub by-lists : {c : Check} {r : Refusal} → c ≡ checkLists (length rels) (length targets) (length slots) → c ≡ C.Refused r
       → outcomeOf section b rels targets slots ≡ refused r
   unfolding outcomeOf
   by-lists q p = rw (sym q ∙ p)
 
-  module _ (fine : checkLists (length rels) (length targets) (length slots) ≡ C.Fine) where
-    pub by-entry : {c : Checked} {r : Refusal} → c ≡ checkAll (length section) b rels targets → c ≡ C.Refused r
+  module _ (fit : checkLists (length rels) (length targets) (length slots) ≡ C.Fit) where
+    pub by-entry : {c : Check} {r : Refusal} → c ≡ checkAll (length section) b rels targets → c ≡ C.Refused r
         → outcomeOf section b rels targets slots ≡ refused r
     unfolding outcomeOf
-    by-entry q p = rw (fine, sym q ∙ p)
+    by-entry q p = rw (fit, sym q ∙ p)
 
-    accepted : checkAll (length section) b rels targets ≡ C.Fine → outcomeOf section b rels targets slots ≡ fixed (fixAll b rels targets section)
+    accepted : checkAll (length section) b rels targets ≡ C.Fit → outcomeOf section b rels targets slots ≡ fixed (fixAll b rels targets section)
     unfolding outcomeOf
-    accepted h = rw (fine, h)
+    accepted h = rw (fit, h)
 
-    pub done : {n : ℕ} {section′ slots′ : List ℕ} → checkAll (length section) b rels targets ≡ C.Fine
+    pub done : {n : ℕ} {section′ slots′ : List ℕ} → checkAll (length section) b rels targets ≡ C.Fit
         → n ≡ length (fixAll b rels targets section .reports)
         → section′ ≡ fixAll b rels targets section .section
         → slots′ ≡ filled (fixAll b rels targets section) slots
@@ -84,11 +84,11 @@ module _ (section : List ℕ) (b : Bases) (rels targets slots : List ℕ) where
   -- what an accepted call says
   pub record Accepted (f : Fixed) : Type 0 where
     pub agree : Lists (length rels) (length targets) (length slots)
-    pub fine : checkAll (length section) b rels targets ≡ C.Fine
+    pub fit : checkAll (length section) b rels targets ≡ C.Fit
     pub work : f ≡ fixAll b rels targets section
 
-  after-fixed : (c : Checked) (o : Outcome) (f : Fixed) → after c o ≡ fixed f → (c ≡ C.Fine) × (o ≡ fixed f)
-  after-fixed C.Fine o f h = (refl, h)
+  after-fixed : (c : Check) (o : Outcome) (f : Fixed) → after c o ≡ fixed f → (c ≡ C.Fit) × (o ≡ fixed f)
+  after-fixed C.Fit o f h = (refl, h)
   after-fixed (C.Refused r) o f h = let z : _≡_ {A = ℕ} 0 1 = cc in absurd (omega arith)
 
   pub accepts : {f : Fixed} → outcomeOf section b rels targets slots ≡ fixed f → Accepted f
@@ -96,4 +96,4 @@ module _ (section : List ℕ) (b : Bases) (rels targets slots : List ℕ) where
   accepts {f} h =
       let p = after-fixed (checkLists (length rels) (length targets) (length slots)) _ f h in
       let q = after-fixed (checkAll (length section) b rels targets) _ f (p .1) in
-      record { agree = lists (length rels) (length targets) (length slots) (p .0); fine = q .0; work = cc }
+      record { agree = lists (length rels) (length targets) (length slots) (p .0); fit = q .0; work = cc }

@@ -21,7 +21,7 @@ use Rattle.arm64_fixup.specs.Walk.{entries, entryAt, targetAt, takenBy, 
 use Rattle.arm64_fixup.specs.Walk.{applied, fixTo, fixAll}
 use Rattle.arm64_fixup.specs.Answer.{filled}
 use Rattle.arm64_fixup_entry.specs.declared.target.Bases.{Bases}
-use Rattle.arm64_fixup_entry.specs.declared.check.Checked.the-variants.{Fine}
+use Rattle.macho.specs.declared.refusal.Check.the-variants.{Fit}
 use Rattle.arm64_fixup_entry.specs.declared.change.Told.{Told}
 use Rattle.arm64_fixup_entry.specs.declared.change.Told.the-variants as Told
 use Rattle.arm64_fixup_entry.specs.declared.change.Change.{Change}
@@ -67,16 +67,16 @@ at-most-one (Told.Report r) = omega arith
 
 -- what a change stores has room
 pub room : (len : ℕ) (b : Bases) (i : ℕ) (e : Reloc) (t : Resolved) (last : Bool) (next : Reloc) (nextTarget : Resolved) (word : ℕ) {c : Change}
-    → checkOf len b e t last ≡ Fine → c ≡ changeOf b i e t next nextTarget word → e .offset + bytesIn (c .write) ≤ len
+    → checkOf len b e t last ≡ Fit → c ≡ changeOf b i e t next nextTarget word → e .offset + bytesIn (c .write) ≤ len
 room len b i e t last next nextTarget word h q =
     let s = sound len b e t last h in
     rw q (omega (arith, change-fits b i e t next nextTarget word))
 
 module _ (b : Bases) (rels targets section : List ℕ) (i : ℕ) (free : consumed rels i ≡ false) where
   -- the entry was checked
-  pub fine-at : {e : Reloc} {t : Resolved} {len : ℕ} → checkAll (length section) b rels targets ≡ Fine → i < entries rels
-      → e ≡ entryAt rels i → t ≡ targetAt targets i → len ≡ length section → checkOf len b e t (eqb (i + 1) (entries rels)) ≡ Fine
-  fine-at h below pe pt pl =
+  pub fit-at : {e : Reloc} {t : Resolved} {len : ℕ} → checkAll (length section) b rels targets ≡ Fit → i < entries rels
+      → e ≡ entryAt rels i → t ≡ targetAt targets i → len ≡ length section → checkOf len b e t (eqb (i + 1) (entries rels)) ≡ Fit
+  fit-at h below pe pt pl =
       rw (pl, pe, pt) (sym (check-worked (length section) b rels targets i free) ∙ passes (length section) b rels targets (entries rels) i h below)
 
   module _ {e : Reloc} {t : Resolved} {c : Change} {k : ℕ} (pe : e ≡ entryAt rels i) (pt : t ≡ targetAt targets i) (pk : k ≡ takenBy (e .ty))
@@ -87,7 +87,7 @@ module _ (b : Bases) (rels targets section : List ℕ) (i : ℕ) (free : consume
       step = rw (pc, pb, pk, pe, pt) (fix-next b rels targets section i free)
 
       -- what holds after the turn
-      pub work-again : (slots₀ : List ℕ) {count count′ : ℕ} {slots slots′ buf′ : List ℕ} → i < entries rels → checkAll (length section) b rels targets ≡ Fine
+      pub work-again : (slots₀ : List ℕ) {count count′ : ℕ} {slots slots′ buf′ : List ℕ} → i < entries rels → checkAll (length section) b rels targets ≡ Fit
           → count ≤ i
           → count ≡ length (fixTo b rels targets section i .reports)
           → slots ≡ sets slots₀ 0 (listBytes reportBytes (fixTo b rels targets section i .reports))
@@ -101,7 +101,7 @@ module _ (b : Bases) (rels targets section : List ℕ) (i : ℕ) (free : consume
           × (buf′ ≡ fixTo b rels targets section (i + k) .section)
           × (slots′ ≡ sets slots₀ 0 (listBytes reportBytes (fixTo b rels targets section (i + k) .reports)))
       work-again slots₀ below h few pn ps qb qn qs = (
-        rw (pk, pe) (next-within (length section) b rels targets i free below (fine-at h below refl refl refl)),
+        rw (pk, pe) (next-within (length section) b rels targets i free below (fit-at h below refl refl refl)),
         rw (pk, pe) (next-worked rels i free),
         omega (arith, at-most-one (c .told), takes (e .ty) pk .0),
         rw step (qn ∙ simp length-append (omega arith)),

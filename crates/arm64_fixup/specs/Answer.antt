@@ -5,17 +5,16 @@ use mathlib.Core.List.{List, _++_}
 use lib.Dec.{eqb, ltb, leb}
 use lib.ListN.{length, drop}
 use Rattle.util.specs.Choice.{choose}
-use Rattle.macho.specs.Refusal as Refusal
 use Rattle.macho.specs.Record.{listBytes}
 use Rattle.macho.specs.Report.{reportBytes}
 use Rattle.macho.specs.declared.refusal.Refusal.{Refusal}
 use Rattle.macho.specs.declared.refusal.Refusal.the-variants.{Lengths, Slots}
-use Rattle.arm64_fixup.specs.Walk.{checkAll, Fixed, fixAll}
+use Rattle.macho.specs.declared.refusal.Check.{Check}
+use Rattle.macho.specs.declared.refusal.Check.the-variants as C
+use Rattle.macho.specs.declared.refusal.Answer.{Answer}
+use Rattle.macho.specs.declared.refusal.Answer.the-variants.{Filled, Refused}
 use Rattle.arm64_fixup_entry.specs.declared.target.Bases.{Bases}
-use Rattle.arm64_fixup_entry.specs.declared.check.Checked.{Checked}
-use Rattle.arm64_fixup_entry.specs.declared.check.Checked.the-variants as C
-use Rattle.arm64_fixup.specs.declared.walk.FixAnswer.{FixAnswer}
-use Rattle.arm64_fixup.specs.declared.walk.FixAnswer.the-variants.{Filled, Refused}
+use Rattle.arm64_fixup.specs.Walk.{checkAll, Fixed, fixAll}
 
 -- number 1: no whole entries or targets, more than 2^32 - 1 entries, or not one target an entry
 abbrev pub disagree : ℕ → ℕ → Bool
@@ -27,9 +26,9 @@ abbrev pub lacksSlots : ℕ → ℕ → Bool
 lacksSlots rels slots = ltb slots (24 * (rels / 24))
 
 -- the numbers of the lists' lengths, before those of the entries
-unfoldable pub checkLists : ℕ → ℕ → ℕ → Checked
+unfoldable pub checkLists : ℕ → ℕ → ℕ → Check
 checkLists rels targets slots =
-    choose (disagree rels targets) (C.Refused Lengths) (choose (lacksSlots rels slots) (C.Refused Slots) C.Fine)
+    choose (disagree rels targets) (C.Refused Lengths) (choose (lacksSlots rels slots) (C.Refused Slots) C.Fit)
 
 -- the address of the section's first byte, and the start of thread-local storage
 abbrev pub basesOf : ℕ → ℕ → Bases
@@ -41,9 +40,9 @@ pub data Outcome : Type 0 where
   fixed : Fixed → Outcome
 
 -- a refusal, or what comes after the checks
-abbrev pub after : Checked → Outcome → Outcome
+abbrev pub after : Check → Outcome → Outcome
 after (C.Refused r) o = refused r
-after C.Fine o = o
+after C.Fit o = o
 
 -- the lists' lengths first, then the entries, and only then the work
 unfoldable pub outcomeOf : List ℕ → Bases → List ℕ → List ℕ → List ℕ → Outcome
@@ -52,7 +51,7 @@ outcomeOf section b rels targets slots =
     (after (checkAll (length section) b rels targets) (fixed (fixAll b rels targets section)))
 
 -- the answer: how many reports were filled, or the refusal
-abbrev pub answerOf : Outcome → FixAnswer
+abbrev pub answerOf : Outcome → Answer
 answerOf (refused r) = Refused r
 answerOf (fixed f) = Filled (length (f .reports))
 
@@ -71,7 +70,7 @@ slotsAfter (refused r) slots = slots
 slotsAfter (fixed f) slots = filled f slots
 
 -- what a call answers to what was lent
-abbrev pub answerTo : List ℕ → ℕ → ℕ → List ℕ → List ℕ → List ℕ → FixAnswer
+abbrev pub answerTo : List ℕ → ℕ → ℕ → List ℕ → List ℕ → List ℕ → Answer
 answerTo section base tls rels targets slots = answerOf (outcomeOf section (basesOf base tls) rels targets slots)
 
 -- the section after it
@@ -81,13 +80,3 @@ sectionTo section base tls rels targets slots = sectionAfter (outcomeOf section 
 -- the slots after it
 abbrev pub slotsTo : List ℕ → ℕ → ℕ → List ℕ → List ℕ → List ℕ → List ℕ
 slotsTo section base tls rels targets slots = slotsAfter (outcomeOf section (basesOf base tls) rels targets slots) slots
-
--- document 01's number of an answer, 0 for none
-abbrev pub numberOf : FixAnswer → ℕ
-numberOf (Filled n) = 0
-numberOf (Refused r) = Refusal.numberOf r
-
--- the reports that an answer counts
-abbrev pub filledOf : FixAnswer → ℕ
-filledOf (Filled n) = n
-filledOf (Refused r) = 0

@@ -5,14 +5,14 @@ use lib.Dec.{ltb}
 use lib.ListN.{length}
 use Rattle.util.specs.Choice.{choose}
 use Rattle.util.specs.Word.{put}
-use Rattle.macho.specs.Refusal as Refusal
+use Rattle.macho.specs.Refusal.{numberOf}
 use Rattle.macho.specs.declared.refusal.Refusal.the-variants.{Bounds}
+use Rattle.macho.specs.declared.refusal.Check.{Check}
+use Rattle.macho.specs.declared.refusal.Check.the-variants as C
 use Rattle.arm64_insn.specs.Reach.{adrpReaches}
 use Rattle.arm64_insn.specs.declared.stub.Words3.{Words3}
 use Rattle.arm64_fixup.specs.declared.stub.StubAnswer.{StubAnswer}
 use Rattle.arm64_fixup.specs.declared.stub.StubAnswer.the-variants as S
-use Rattle.arm64_fixup.specs.declared.stub.ThunkAnswer.{ThunkAnswer}
-use Rattle.arm64_fixup.specs.declared.stub.ThunkAnswer.the-variants as T
 
 -- three words at the front, where there are 12 bytes
 unfoldable pub wordsIn : List ℕ → Words3 → List ℕ
@@ -22,23 +22,18 @@ wordsIn s w = choose (ltb (length s) 12) s (put 4 (put 4 (put 4 s 0 (w .first)) 
 unfoldable pub stubAnswer : List ℕ → ℕ → ℕ → StubAnswer
 stubAnswer s addr ptr = choose (ltb (length s) 12) (S.Refused Bounds) (choose (adrpReaches ptr addr) S.Reaches S.OutOfReach)
 
--- a thunk entry
-unfoldable pub thunkAnswer : List ℕ → ThunkAnswer
-thunkAnswer s = choose (ltb (length s) 12) (T.Refused Bounds) T.Written
+-- a thunk entry: fewer than 12 bytes, or it is written
+unfoldable pub thunkCheck : List ℕ → Check
+thunkCheck s = choose (ltb (length s) 12) (C.Refused Bounds) C.Fit
 
 -- document 01's number of a stub's answer, 0 for none
 abbrev pub stubNumber : StubAnswer → ℕ
 stubNumber S.Reaches = 0
 stubNumber S.OutOfReach = 0
-stubNumber (S.Refused r) = Refusal.numberOf r
+stubNumber (S.Refused r) = numberOf r
 
 -- whether the ADRP of a stub entry reaches its pointer's page, as 1 or 0
 abbrev pub reachesOf : StubAnswer → ℕ
 reachesOf S.Reaches = 1
 reachesOf S.OutOfReach = 0
 reachesOf (S.Refused r) = 0
-
--- document 01's number of a thunk's answer
-abbrev pub thunkNumber : ThunkAnswer → ℕ
-thunkNumber T.Written = 0
-thunkNumber (T.Refused r) = Refusal.numberOf r

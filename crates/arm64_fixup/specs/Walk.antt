@@ -14,8 +14,8 @@ use Rattle.macho.specs.declared.report.Report as R
 use Rattle.arm64_fixup_entry.specs.Check.{subtracts, checkOf}
 use Rattle.arm64_fixup_entry.specs.Change.{changeOf}
 use Rattle.arm64_fixup_entry.specs.declared.target.Bases.{Bases}
-use Rattle.arm64_fixup_entry.specs.declared.check.Checked.{Checked}
-use Rattle.arm64_fixup_entry.specs.declared.check.Checked.the-variants.{Fine, Refused}
+use Rattle.macho.specs.declared.refusal.Check.{Check}
+use Rattle.macho.specs.declared.refusal.Check.the-variants.{Fit, Refused}
 use Rattle.arm64_fixup_entry.specs.declared.change.Write.{Write}
 use Rattle.arm64_fixup_entry.specs.declared.change.Write.the-variants.{Nothing, Word, Pointer}
 use Rattle.arm64_fixup_entry.specs.declared.change.Told.{Told}
@@ -44,22 +44,22 @@ consumed rels zero = false
 consumed rels (suc i) = subtracts (entryAt rels i .ty) && not (consumed rels i)
 
 -- the check of entry i; a consumed one is not looked at
-unfoldable pub checkAt : ℕ → Bases → List ℕ → List ℕ → ℕ → Checked
+unfoldable pub checkAt : ℕ → Bases → List ℕ → List ℕ → ℕ → Check
 checkAt len b rels targets i =
-    choose (consumed rels i) Fine (checkOf len b (entryAt rels i) (targetAt targets i) (eqb (i + 1) (entries rels)))
+    choose (consumed rels i) Fit (checkOf len b (entryAt rels i) (targetAt targets i) (eqb (i + 1) (entries rels)))
 
 -- the first refusal of two checks
-abbrev pub first : Checked → Checked → Checked
+abbrev pub first : Check → Check → Check
 first (Refused r) c = Refused r
-first Fine c = c
+first Fit c = c
 
 -- the first refusal among the first k entries
-unfoldable pub checkTo : ℕ → Bases → List ℕ → List ℕ → ℕ → Checked
-checkTo len b rels targets zero = Fine
+unfoldable pub checkTo : ℕ → Bases → List ℕ → List ℕ → ℕ → Check
+checkTo len b rels targets zero = Fit
 checkTo len b rels targets (suc i) = first (checkTo len b rels targets i) (checkAt len b rels targets i)
 
 -- the first refusal among all entries
-abbrev pub checkAll : ℕ → Bases → List ℕ → List ℕ → Checked
+abbrev pub checkAll : ℕ → Bases → List ℕ → List ℕ → Check
 checkAll len b rels targets = checkTo len b rels targets (entries rels)
 
 -- the bytes with a write at a place

@@ -3,6 +3,7 @@ use arm64_insn::page::adrp_reaches;
 use arm64_insn::stub::Words3;
 use arm64_insn::stub::stub_words;
 use arm64_insn::stub::thunk_words;
+use macho::refusal::Check;
 use macho::refusal::Refusal;
 use util::write32;
 ghost use mathlib.Core.Path.{_≡_};
@@ -10,18 +11,12 @@ ghost use Prim.Native.Nat.{_≤_};
 ghost use lib.ListN.{length};
 ghost use Rattle.util.specs.Word.{put};
 ghost use Rattle.arm64_insn.specs.Stub.{stubWords, thunkWords};
-ghost use Rattle.arm64_fixup.specs.Stub.{wordsIn, stubAnswer, thunkAnswer};
+ghost use Rattle.arm64_fixup.specs.Stub.{wordsIn, stubAnswer, thunkCheck};
 
 // What became of a stub entry: written, and whether its ADRP reaches the pointer's page.
 pub enum StubAnswer {
     Reaches,
     OutOfReach,
-    Refused(Refusal),
-}
-
-// What became of a thunk entry.
-pub enum ThunkAnswer {
-    Written,
     Refused(Refusal),
 }
 
@@ -55,14 +50,14 @@ pub fn write_stub(buf: &mut [u8], addr: u64, ptr: u64) -> StubAnswer
     StubAnswer::OutOfReach
 }
 
-// The thunk entry at `addr` that jumps to `target`.
-pub fn write_thunk(buf: &mut [u8], addr: u64, target: u64) -> ThunkAnswer
-    ensures answer { λ r. ⌜ r ≡ thunkAnswer (now (buf .entry)) ⌝ }
+// The thunk entry at `addr` that jumps to `target`, written where it fits.
+pub fn write_thunk(buf: &mut [u8], addr: u64, target: u64) -> Check
+    ensures answer { λ r. ⌜ r ≡ thunkCheck (now (buf .entry)) ⌝ }
     ensures bytes { λ _. ⌜ now (buf .exit) ≡ wordsIn (now (buf .entry)) (thunkWords addr target) ⌝ }
 {
     if buf.len() < THUNK_SIZE {
-        return ThunkAnswer::Refused(Refusal::Bounds);
+        return Check::Refused(Refusal::Bounds);
     }
     write_words(buf, thunk_words(addr, target));
-    ThunkAnswer::Written
+    Check::Fit
 }

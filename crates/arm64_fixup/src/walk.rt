@@ -8,12 +8,13 @@ use arm64_fixup_entry::change::silent;
 use arm64_fixup_entry::change::subtractor_value;
 use arm64_fixup_entry::change::unsigned_value;
 use arm64_fixup_entry::change::word_change;
-use arm64_fixup_entry::check::Checked;
 use arm64_fixup_entry::check::check_entry;
 use arm64_fixup_entry::check::subtracts;
 use arm64_fixup_entry::target::Bases;
 use arm64_fixup_entry::target::width_of;
 use macho::consts::ARM64_RELOC_UNSIGNED;
+use macho::refusal::Answer;
+use macho::refusal::Check;
 use macho::refusal::Refusal;
 use macho::reloc::Reloc;
 use macho::resolved::Resolved;
@@ -32,32 +33,26 @@ ghost use Rattle.arm64_fixup_entry.specs.Change.{bytesIn};
 ghost use Rattle.arm64_fixup.specs.Walk.{entries, takenBy, checkAll, stored, reportsOf, changeBy, fixAll};
 ghost use Rattle.arm64_fixup.specs.Answer.{checkLists, filled, answerTo, sectionTo, slotsTo};
 
-// What the fix-up of a section answers: the reports filled, or why nothing was changed.
-pub enum FixAnswer {
-    Filled(usize),
-    Refused(Refusal),
-}
-
 // The numbers of the lists' lengths.
-fn check_lists(rels: usize, targets: usize, slots: usize) -> Checked
+fn check_lists(rels: usize, targets: usize, slots: usize) -> Check
     ensures { λ r. ⌜ r ≡ checkLists rels targets slots ⌝ }
 {
     if rels % 24 != 0 {
-        return Checked::Refused(Refusal::Lengths);
+        return Check::Refused(Refusal::Lengths);
     }
     if targets % 48 != 0 {
-        return Checked::Refused(Refusal::Lengths);
+        return Check::Refused(Refusal::Lengths);
     }
     if 0x1_0000_0000 <= rels / 24 {
-        return Checked::Refused(Refusal::Lengths);
+        return Check::Refused(Refusal::Lengths);
     }
     if rels / 24 != targets / 48 {
-        return Checked::Refused(Refusal::Lengths);
+        return Check::Refused(Refusal::Lengths);
     }
     if slots < 24 * (rels / 24) {
-        return Checked::Refused(Refusal::Slots);
+        return Check::Refused(Refusal::Slots);
     }
-    Checked::Fine
+    Check::Fit
 }
 
 // How many entries the work of one takes: a SUBTRACTOR takes the next one too.
@@ -71,7 +66,7 @@ fn taken(ty: u8) -> usize
 }
 
 // The first walk: goes through all entries and writes nothing.
-fn check_all(len: usize, bases: Bases, rels: &[u8], targets: &[u8]) -> Checked
+fn check_all(len: usize, bases: Bases, rels: &[u8], targets: &[u8]) -> Check
     requires { ⌜ entries (now rels) ≡ length (now targets) / 48 ⌝ }
     ensures { λ r. ⌜ r ≡ checkAll len bases (now (rels .entry)) (now (targets .entry)) ⌝ }
 {
@@ -81,15 +76,15 @@ fn check_all(len: usize, bases: Bases, rels: &[u8], targets: &[u8]) -> Checked
         let e = Reloc::read(rels, 24 * i);
         let t = Resolved::read(targets, 48 * i);
         match check_entry(len, bases, e, t, i + 1 == n) {
-            Checked::Refused(r) => {
-                return Checked::Refused(r);
+            Check::Refused(r) => {
+                return Check::Refused(r);
             }
-            Checked::Fine => {
+            Check::Fit => {
                 i += taken(e.ty);
             }
         }
     }
-    Checked::Fine
+    Check::Fit
 }
 
 // What entry i does.
@@ -103,7 +98,7 @@ fn change_at(
     t: Resolved,
 ) -> Change
     requires { ⌜ (i < entries (now rels)) × (entries (now rels) < 2 ^ 32) × (entries (now rels) ≡ length (now targets) / 48) ⌝ }
-    requires { ⌜ checkOf (length (now buf)) bases e t (eqb (i + 1) (entries (now rels))) ≡ Checked.Fine ⌝ }
+    requires { ⌜ checkOf (length (now buf)) bases e t (eqb (i + 1) (entries (now rels))) ≡ Check.Fit ⌝ }
     ensures { λ r. ⌜ r ≡ changeBy bases (now (rels .entry)) (now (targets .entry)) (now (buf .entry)) i e t ⌝ }
 {
     if width_of(e, t) == 0 {
@@ -158,7 +153,7 @@ fn tell(slots: &mut [u8], count: usize, told: Told) -> usize
 
 // The second walk, after the first has found nothing to turn down: works each entry on what those before it left.
 fn work_all(buf: &mut [u8], bases: Bases, rels: &[u8], targets: &[u8], slots: &mut [u8]) -> usize
-    requires { ⌜ checkAll (length (now buf)) bases (now rels) (now targets) ≡ Checked.Fine ⌝ }
+    requires { ⌜ checkAll (length (now buf)) bases (now rels) (now targets) ≡ Check.Fit ⌝ }
     requires { ⌜ (entries (now rels) ≡ length (now targets) / 48) × (entries (now rels) < 2 ^ 32) × (24 * entries (now rels) ≤ length (now slots)) ⌝ }
     ensures count { λ r. ⌜ r ≡ length (fixAll bases (now (rels .entry)) (now (targets .entry)) (now (buf .entry)) .reports) ⌝ }
     ensures section { λ _. ⌜ now (buf .exit) ≡ fixAll bases (now (rels .entry)) (now (targets .entry)) (now (buf .entry)) .section ⌝ }
@@ -188,17 +183,17 @@ pub fn apply_reloc_alloc(
     rels: &[u8],
     targets: &[u8],
     slots: &mut [u8],
-) -> FixAnswer
+) -> Answer
     ensures answer { λ r. ⌜ r ≡ answerTo (now (buf .entry)) base «tls_begin» (now (rels .entry)) (now (targets .entry)) (now (slots .entry)) ⌝ }
     ensures section { λ _. ⌜ now (buf .exit) ≡ sectionTo (now (buf .entry)) base «tls_begin» (now (rels .entry)) (now (targets .entry)) (now (slots .entry)) ⌝ }
     ensures reports { λ _. ⌜ now (slots .exit) ≡ slotsTo (now (buf .entry)) base «tls_begin» (now (rels .entry)) (now (targets .entry)) (now (slots .entry)) ⌝ }
 {
     let bases = Bases { base, tls_begin };
     match check_lists(rels.len(), targets.len(), slots.len()) {
-        Checked::Refused(r) => FixAnswer::Refused(r),
-        Checked::Fine => match check_all(buf.len(), bases, rels, targets) {
-            Checked::Refused(r) => FixAnswer::Refused(r),
-            Checked::Fine => FixAnswer::Filled(work_all(buf, bases, rels, targets, slots)),
+        Check::Refused(r) => Answer::Refused(r),
+        Check::Fit => match check_all(buf.len(), bases, rels, targets) {
+            Check::Refused(r) => Answer::Refused(r),
+            Check::Fit => Answer::Filled(work_all(buf, bases, rels, targets, slots)),
         },
     }
 }

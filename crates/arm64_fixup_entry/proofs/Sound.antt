@@ -12,8 +12,8 @@ use Rattle.macho.specs.declared.refusal.Refusal.{Refusal}
 use Rattle.arm64_fixup_entry.specs.Target.{placeOf, widthOf}
 use Rattle.arm64_fixup_entry.specs.Check.{outside, misflagged, overflows, unsupported, subtracts, isLone, lacksSymbol, short, checkOf}
 use Rattle.arm64_fixup_entry.specs.declared.target.Bases.{Bases}
-use Rattle.arm64_fixup_entry.specs.declared.check.Checked.{Checked}
-use Rattle.arm64_fixup_entry.specs.declared.check.Checked.the-variants.{Fine, Refused}
+use Rattle.macho.specs.declared.refusal.Check.{Check}
+use Rattle.macho.specs.declared.refusal.Check.the-variants.{Fit, Refused}
 
 -- an entry that is turned down with no number
 pub record Sound (len : ℕ) (b : Bases) (e : Reloc) (t : Resolved) (last : Bool) : Type 0 where
@@ -25,12 +25,12 @@ pub record Sound (len : ℕ) (b : Bases) (e : Reloc) (t : Resolved) (last : Bool
   pub inside : e .offset + widthOf e t ≤ len
 
 -- a test that was passed
-pub passed : (t : Bool) (r : Refusal) (c : Checked) → choose t (Refused r) c ≡ Fine → (t ≡ false) × (c ≡ Fine)
+pub passed : (t : Bool) (r : Refusal) (c : Check) → choose t (Refused r) c ≡ Fit → (t ≡ false) × (c ≡ Fit)
 unfolding choose
 passed true r c e = let z : _≡_ {A = ℕ} 0 1 = cc in absurd (omega arith)
 passed false r c e = (refl, e)
 
-pub sound : (len : ℕ) (b : Bases) (e : Reloc) (t : Resolved) (last : Bool) → checkOf len b e t last ≡ Fine → Sound len b e t last
+pub sound : (len : ℕ) (b : Bases) (e : Reloc) (t : Resolved) (last : Bool) → checkOf len b e t last ≡ Fit → Sound len b e t last
 unfolding checkOf
 sound len b e t last h =
     let p₁ = passed (outside len e) _ _ h in
@@ -51,7 +51,7 @@ sound len b e t last h =
 
 -- a SUBTRACTOR that passes is not the last entry
 pub followed : (len : ℕ) (b : Bases) (e : Reloc) (t : Resolved) (i n : ℕ)
-    → checkOf len b e t (eqb (i + 1) n) ≡ Fine → subtracts (e .ty) ≡ true → i < n → i + 1 < n
+    → checkOf len b e t (eqb (i + 1) n) ≡ Fit → subtracts (e .ty) ≡ true → i < n → i + 1 < n
 followed len b e t i n h s l =
     let e : eqb (i + 1) n ≡ false = go (eqb (i + 1) n) (sound len b e t _ h .paired) in
     omega (arith, eqb-false (i + 1) n e)

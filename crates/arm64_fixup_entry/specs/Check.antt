@@ -12,8 +12,8 @@ use Rattle.macho.specs.declared.resolved.Resolved.{Resolved}
 use Rattle.macho.specs.declared.refusal.Refusal.the-variants.{Bounds, Flags, Overflow, Unsupported, LoneSubtractor, NeedsSymbol}
 use Rattle.arm64_fixup_entry.specs.Target.{placeOf, widthOf}
 use Rattle.arm64_fixup_entry.specs.declared.target.Bases.{Bases}
-use Rattle.arm64_fixup_entry.specs.declared.check.Checked.{Checked}
-use Rattle.arm64_fixup_entry.specs.declared.check.Checked.the-variants.{Fine, Refused}
+use Rattle.macho.specs.declared.refusal.Check.{Check}
+use Rattle.macho.specs.declared.refusal.Check.the-variants.{Fit, Refused}
 
 -- number 3: the offset is past the section
 abbrev pub outside : ℕ → Reloc → Bool
@@ -57,7 +57,7 @@ abbrev pub short : ℕ → Reloc → Resolved → Bool
 short len e t = ltb (len - e .offset) (widthOf e t)
 
 -- the first number of one entry, in the order of document 01: 3 (offset), 11, 9, 5, 8, 10, 3
-unfoldable pub checkOf : ℕ → Bases → Reloc → Resolved → Bool → Checked
+unfoldable pub checkOf : ℕ → Bases → Reloc → Resolved → Bool → Check
 checkOf len b e t last =
     choose (outside len e) (Refused Bounds)
     (choose (misflagged t) (Refused Flags)
@@ -65,4 +65,4 @@ checkOf len b e t last =
     (choose (unsupported (e .ty)) (Refused Unsupported)
     (choose (isLone (e .ty) last) (Refused LoneSubtractor)
     (choose (lacksSymbol e t) (Refused NeedsSymbol)
-    (choose (short len e t) (Refused Bounds) Fine))))))
+    (choose (short len e t) (Refused Bounds) Fit))))))

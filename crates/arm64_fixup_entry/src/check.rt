@@ -8,17 +8,12 @@ use macho::consts::ARM64_RELOC_POINTER_TO_GOT;
 use macho::consts::ARM64_RELOC_SUBTRACTOR;
 use macho::consts::ARM64_RELOC_TLVP_LOAD_PAGE21;
 use macho::consts::ARM64_RELOC_TLVP_LOAD_PAGEOFF12;
+use macho::refusal::Check;
 use macho::refusal::Refusal;
 use macho::reloc::Reloc;
 use macho::resolved::Resolved;
 ghost use mathlib.Core.Path.{_≡_};
 ghost use Rattle.arm64_fixup_entry.specs.Check.{overflows, unsupported, subtracts, usesGot, needsSymbol, isLone, lacksSymbol, checkOf};
-
-// What a check says.
-pub enum Checked {
-    Fine,
-    Refused(Refusal),
-}
 
 // Whether base plus offset passes 2^64 - 1.
 fn overflows(bases: Bases, e: Reloc) -> bool
@@ -91,30 +86,30 @@ fn lacks_symbol(e: Reloc, t: Resolved) -> bool
 }
 
 // The first number that an entry of a section of `len` bytes is turned down with.
-pub fn check_entry(len: usize, bases: Bases, e: Reloc, t: Resolved, last: bool) -> Checked
+pub fn check_entry(len: usize, bases: Bases, e: Reloc, t: Resolved, last: bool) -> Check
     ensures { λ r. ⌜ r ≡ checkOf len bases e t last ⌝ }
 {
     let offset = e.offset as usize;
     if len < offset {
-        return Checked::Refused(Refusal::Bounds);
+        return Check::Refused(Refusal::Bounds);
     }
     if !t.is_well_formed() {
-        return Checked::Refused(Refusal::Flags);
+        return Check::Refused(Refusal::Flags);
     }
     if overflows(bases, e) {
-        return Checked::Refused(Refusal::Overflow);
+        return Check::Refused(Refusal::Overflow);
     }
     if unsupported(e.ty) {
-        return Checked::Refused(Refusal::Unsupported);
+        return Check::Refused(Refusal::Unsupported);
     }
     if is_lone(e.ty, last) {
-        return Checked::Refused(Refusal::LoneSubtractor);
+        return Check::Refused(Refusal::LoneSubtractor);
     }
     if lacks_symbol(e, t) {
-        return Checked::Refused(Refusal::NeedsSymbol);
+        return Check::Refused(Refusal::NeedsSymbol);
     }
     if len - offset < width_of(e, t) {
-        return Checked::Refused(Refusal::Bounds);
+        return Check::Refused(Refusal::Bounds);
     }
-    Checked::Fine
+    Check::Fit
 }

@@ -1,8 +1,9 @@
 // Fix-up of a section.
-use arm64_fixup::walk::FixAnswer;
 use arm64_fixup::walk::apply_reloc_alloc;
+use macho::refusal::Answer;
 ghost use mathlib.Core.Path.{_≡_};
-ghost use Rattle.arm64_fixup.specs.Answer.{basesOf, outcomeOf, answerOf, sectionAfter, slotsAfter, numberOf, filledOf};
+ghost use Rattle.macho.specs.Refusal.{answerNumber, filledOf};
+ghost use Rattle.arm64_fixup.specs.Answer.{basesOf, outcomeOf, answerOf, sectionAfter, slotsAfter};
 ghost use Rattle.hauklivo.specs.Lent.{lentNumber};
 
 // Fixes a section's bytes by its entries and their resolved targets; `count` gets the number of reports.
@@ -17,7 +18,7 @@ pub extern "C" fn hauklivo_apply_reloc_alloc(
     count: &mut usize,
 ) -> u8
     ensures number { λ r. ⌜ r
-        ≡ numberOf (answerOf (outcomeOf (now (buf .entry)) (basesOf base «tls_begin») (now (rels .entry)) (now (targets .entry)) (now (slots .entry)))) ⌝ }
+        ≡ answerNumber (answerOf (outcomeOf (now (buf .entry)) (basesOf base «tls_begin») (now (rels .entry)) (now (targets .entry)) (now (slots .entry)))) ⌝ }
     ensures count { λ r. ⌜ now (count .exit)
         ≡ lentNumber r
         (filledOf (answerOf (outcomeOf (now (buf .entry)) (basesOf base «tls_begin») (now (rels .entry)) (now (targets .entry)) (now (slots .entry)))))
@@ -30,8 +31,8 @@ pub extern "C" fn hauklivo_apply_reloc_alloc(
         (now (slots .entry)) ⌝ }
 {
     match apply_reloc_alloc(buf, base, tls_begin, rels, targets, slots) {
-        FixAnswer::Refused(refusal) => refusal.number(),
-        FixAnswer::Filled(n) => {
+        Answer::Refused(refusal) => refusal.number(),
+        Answer::Filled(n) => {
             *count = n;
             0
         }

@@ -1,11 +1,11 @@
 // One stub entry and one thunk entry of 12 bytes.
 use arm64_fixup::stub::StubAnswer;
-use arm64_fixup::stub::ThunkAnswer;
 use arm64_fixup::stub::write_stub;
 use arm64_fixup::stub::write_thunk;
 ghost use mathlib.Core.Path.{_≡_};
+ghost use Rattle.macho.specs.Refusal.{checkNumber};
 ghost use Rattle.arm64_insn.specs.Stub.{stubWords, thunkWords};
-ghost use Rattle.arm64_fixup.specs.Stub.{wordsIn, stubAnswer, stubNumber, reachesOf, thunkAnswer, thunkNumber};
+ghost use Rattle.arm64_fixup.specs.Stub.{wordsIn, stubAnswer, stubNumber, reachesOf, thunkCheck};
 ghost use Rattle.hauklivo.specs.Lent.{lentNumber};
 
 // Writes the stub entry at `addr` whose pointer is at `ptr`; `reaches` gets 1 where ADRP reaches the pointer's page, else 0.
@@ -31,11 +31,8 @@ pub extern "C" fn hauklivo_write_stub(buf: &mut [u8], addr: u64, ptr: u64, reach
 // Writes the thunk entry at `addr` that jumps to `target`.
 #[no_mangle]
 pub extern "C" fn hauklivo_write_thunk(buf: &mut [u8], addr: u64, target: u64) -> u8
-    ensures number { λ r. ⌜ r ≡ thunkNumber (thunkAnswer (now (buf .entry))) ⌝ }
+    ensures number { λ r. ⌜ r ≡ checkNumber (thunkCheck (now (buf .entry))) ⌝ }
     ensures bytes { λ _. ⌜ now (buf .exit) ≡ wordsIn (now (buf .entry)) (thunkWords addr target) ⌝ }
 {
-    match write_thunk(buf, addr, target) {
-        ThunkAnswer::Refused(refusal) => refusal.number(),
-        ThunkAnswer::Written => 0,
-    }
+    write_thunk(buf, addr, target).number()
 }

@@ -3,9 +3,9 @@ use crate::list::are_filled;
 use crate::list::put_front;
 use crate::list::put_pattern;
 use crate::list::value;
-use arm64_fixup::walk::FixAnswer;
 use arm64_fixup::walk::apply_reloc_alloc;
 use check::same;
+use macho::refusal::Answer;
 use util::read64;
 ghost use Prim.Native.Nat.{_≤_};
 ghost use lib.ListN.{length};
@@ -25,8 +25,8 @@ fn answers(
     let base = read64(bases, 0);
     let tls_begin = read64(bases, 8);
     match apply_reloc_alloc(section, base, tls_begin, entries, targets, slots) {
-        FixAnswer::Refused(refusal) => refusal.number() == number,
-        FixAnswer::Filled(n) => number == 0 && n == filled,
+        Answer::Refused(refusal) => refusal.number() == number,
+        Answer::Filled(n) => number == 0 && n == filled,
     }
 }
 

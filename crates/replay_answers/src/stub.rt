@@ -2,7 +2,6 @@
 use crate::list::put_pattern;
 use crate::list::value;
 use arm64_fixup::stub::StubAnswer;
-use arm64_fixup::stub::ThunkAnswer;
 use arm64_fixup::stub::write_stub;
 use arm64_fixup::stub::write_thunk;
 use check::same;
@@ -19,10 +18,7 @@ fn stub_answers(buf: &mut [u8], addr: u64, ptr: u64, number: u8, reaches: usize)
 
 // Whether the thunk's answer is by a number, 0 for none.
 fn thunk_answers(buf: &mut [u8], addr: u64, target: u64, number: u8) -> bool {
-    match write_thunk(buf, addr, target) {
-        ThunkAnswer::Refused(refusal) => refusal.number() == number,
-        ThunkAnswer::Written => number == 0,
-    }
+    write_thunk(buf, addr, target).number() == number
 }
 
 // Whether a stub entry, or a thunk entry, is answered as a record says, with room for its bytes.

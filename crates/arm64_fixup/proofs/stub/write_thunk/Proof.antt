@@ -1,7 +1,7 @@
 -- `write_thunk` meets its contract: the length decides both choices.
 use Rattle.arm64_fixup.specs.Stub.{wordsIn}
 use borrow.Author.Tests.{eq-eqb, ne-eqb, le-leb, lt-leb, lt-ltb, le-ltb, not-true, not-false}
-use Rattle.arm64_fixup.specs.Stub.{thunkAnswer}
+use Rattle.arm64_fixup.specs.Stub.{thunkCheck}
 use Rattle.util.specs.Choice.{choose}
 use borrow.Author.Needs.{needs}
 use Rattle.arm64_fixup.proofs.stub.write_thunk.Statement.{statement}
@@ -12,7 +12,7 @@ use Rattle.arm64_fixup.proofs.stub.write_words.Reads as write-words-rea
 use Rattle.arm64_insn.proofs.stub.thunk_words.Reads as thunk-words-reads
 
 returns : tie.Need-returns
-unfolding thunkAnswer wordsIn choose
+unfolding thunkCheck wordsIn choose
 returns c = (simp (lt-ltb _ _ (c .if1 .taken)), simp (lt-ltb _ _ (c .if1 .taken)))
 
 thunk-words-requires : tie.Need-thunk-words-requires
@@ -25,7 +25,7 @@ same-length : tie.Need-same-length
 same-length c = search needs
 
 returns-2 : tie.Need-returns-2
-unfolding thunkAnswer wordsIn choose
+unfolding thunkCheck wordsIn choose
 returns-2 c =
     let w = c .before .before in
     let t = le-ltb _ _ (w .before .before .before .if1 .left) in

@@ -2,7 +2,7 @@
 use Rattle.arm64_fixup.proofs.Works.{work-done}
 use Rattle.arm64_fixup.specs.Walk.{Fixed}
 use Rattle.arm64_fixup.proofs.Turns.{length-fix, ended, takes}
-use Rattle.arm64_fixup.proofs.Works.{fine-at, room, work-again}
+use Rattle.arm64_fixup.proofs.Works.{fit-at, room, work-again}
 use denote.Ref.{now}
 use mathlib.Core.Path.{_≡_, refl, sym, ap, _∙_}
 use mathlib.Core.Bool.{false}
@@ -60,10 +60,10 @@ change-at-requires c κs =
     let p = l .before .loop in
     let a = l .before .before .before .before .before .before in
     let len = ap length (p .inv .4) ∙ length-fix _ _ _ _ (p .i) in
-    let fine =
-    fine-at _ _ _ (now (a .args .buf)) (p .i) (p .inv .1) (a .pre .0) (l .loop-test .taken) (c .before .before .read .ensures)
+    let fit =
+    fit-at _ _ _ (now (a .args .buf)) (p .i) (p .inv .1) (a .pre .0) (l .loop-test .taken) (c .before .before .read .ensures)
     (c .before .read2 .ensures) len in
-    ((l .loop-test .taken, a .pre .1 .1, a .pre .1 .0), fine)
+    ((l .loop-test .taken, a .pre .1 .1, a .pre .1 .0), fit)
 
 cast-store : tie.Need-cast-store Inv-loop μ-loop
 cast-store c = search needs
@@ -75,9 +75,9 @@ store-requires c κs =
     let p = l .before .loop in
     let a = l .before .before .before .before .before .before in
     let len = ap length (p .inv .4) ∙ length-fix _ _ _ _ (p .i) in
-    let fine =
-    fine-at _ _ _ (now (a .args .buf)) (p .i) (p .inv .1) (a .pre .0) (l .loop-test .taken) (r .before .read .ensures) (r .read2 .ensures) len in
-    room _ _ _ _ _ _ _ _ _ fine (c .before .before .change-at .ensures)
+    let fit =
+    fit-at _ _ _ (now (a .args .buf)) (p .i) (p .inv .1) (a .pre .0) (l .loop-test .taken) (r .before .read .ensures) (r .read2 .ensures) len in
+    room _ _ _ _ _ _ _ _ _ fit (c .before .before .change-at .ensures)
 
 tell-requires : tie.Need-tell-requires Inv-loop μ-loop
 tell-requires c κs =
