@@ -11,20 +11,20 @@ use Rattle.util.proofs.Choice.{split, choose-true, choose-false}
 use Rattle.macho.specs.Refusal as R
 use Rattle.macho.specs.declared.refusal.Refusal.{Refusal}
 use Rattle.macho.specs.declared.refusal.Refusal.the-variants.{Lengths, Slots}
+use Rattle.macho.specs.declared.refusal.Answer.{Answer}
+use Rattle.macho.specs.declared.refusal.Answer.the-variants.{Refused, Filled}
 use Rattle.lister_text.specs.Text.{refused, textOf}
 use Rattle.lister_text.specs.Puts.{Puts}
 use Rattle.lister_text.specs.Listing.{lines, listOf, outAfter, outBy}
-use Rattle.lister_text.specs.declared.ListAnswer.{ListAnswer}
-use Rattle.lister_text.specs.declared.ListAnswer.the-variants.{Refused, Filled}
 use Rattle.lister_text.proofs.Printed.{too-long, odd-length, whole-words}
 
 -- an answer, with the bytes as it leaves them
-abbrev pub Leaves : List ℕ → List ℕ → ListAnswer → List ℕ → Type 0
+abbrev pub Leaves : List ℕ → List ℕ → Answer → List ℕ → Type 0
 Leaves s l a m = (a ≡ listOf s (length l)) × (m ≡ outAfter s l)
 
 module _ (s l : List ℕ) where
-  refuses : (a : ListAnswer) → listOf s (length l) ≡ a → outBy a (lines s) l ≡ l → Leaves s l a l
-  refuses a e k = (sym e, sym (ap (λ (b : ListAnswer). outBy b (lines s) l) e ∙ k))
+  refuses : (a : Answer) → listOf s (length l) ≡ a → outBy a (lines s) l ≡ l → Leaves s l a l
+  refuses a e k = (sym e, sym (ap (λ (b : Answer). outBy b (lines s) l) e ∙ k))
 
   pub list-long : 16384 < length s → Leaves s l (Refused Slots) l
   unfolding listOf
@@ -50,10 +50,10 @@ module _ (s l : List ℕ) where
   list-whole h n o r m p =
       let e : listOf s (length l) ≡ Filled (length (lines s)) = room h n ∙ choose-true _ _ _ (eq-eqb (length s % 4) 0 o) in
       let f : r ≡ length (lines s) = omega (arith, p .ends) in
-      (ap (λ (k : ℕ). Filled k) f ∙ sym e, p .stored ∙ sym (ap (λ (b : ListAnswer). outBy b (lines s) l) e))
+      (ap (λ (k : ℕ). Filled k) f ∙ sym e, p .stored ∙ sym (ap (λ (b : Answer). outBy b (lines s) l) e))
 
 -- what the lister prints by the answer of a listing into its 110,592 bytes
-abbrev pub Prints : List ℕ → ListAnswer → Type 0
+abbrev pub Prints : List ℕ → Answer → Type 0
 Prints s (Refused x) = (textOf s ≡ refused (R.numberOf x)) × (R.numberOf x < 10)
 Prints s (Filled n) = (textOf s ≡ lines s) × (n ≡ length (lines s))
 
@@ -66,12 +66,12 @@ prints s =
     (λ f. split (Prints s) _ _ _ (λ g. (whole-words s short (eqb-true (length s % 4) 0 g), refl))
     (λ g. (odd-length s short (eqb-false (length s % 4) 0 g), lit≤ tt))))
 
-module _ (s l : List ℕ) (n : length l ≡ 110592) (a : ListAnswer) (k : List ℕ) (h : Leaves s l a k) where
+module _ (s l : List ℕ) (n : length l ≡ 110592) (a : Answer) (k : List ℕ) (h : Leaves s l a k) where
   -- an answer that is known says what is printed, and what the bytes are
-  known : (b : ListAnswer) → a ≡ b → Prints s b × (k ≡ outBy b (lines s) l)
+  known : (b : Answer) → a ≡ b → Prints s b × (k ≡ outBy b (lines s) l)
   known b f =
       let e : listOf s (length l) ≡ b = sym (h .0) ∙ f in
-      (subst (Prints s) (sym (ap (λ (j : ℕ). listOf s j) n) ∙ e) (prints s), h .1 ∙ ap (λ (c : ListAnswer). outBy c (lines s) l) e)
+      (subst (Prints s) (sym (ap (λ (j : ℕ). listOf s j) n) ∙ e) (prints s), h .1 ∙ ap (λ (c : Answer). outBy c (lines s) l) e)
 
   -- a refusal that is printed has one digit
   pub one-digit : {x : Refusal} → a ≡ Refused x → (d : ℕ) → d ≡ R.numberOf x → d < 10

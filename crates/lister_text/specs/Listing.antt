@@ -5,11 +5,10 @@ use lib.Dec.{ltb, eqb}
 use lib.ListN.{length}
 use lib.Seq.{sets}
 use Rattle.util.specs.Choice.{choose}
-use Rattle.macho.specs.Refusal as Refusal
 use Rattle.macho.specs.declared.refusal.Refusal.the-variants.{Lengths, Slots}
+use Rattle.macho.specs.declared.refusal.Answer.{Answer}
+use Rattle.macho.specs.declared.refusal.Answer.the-variants.{Refused, Filled}
 use Rattle.lister_text.specs.Text.{linesOf}
-use Rattle.lister_text.specs.declared.ListAnswer.{ListAnswer}
-use Rattle.lister_text.specs.declared.ListAnswer.the-variants.{Refused, Filled}
 
 -- a line for each word
 abbrev pub lines : List ℕ → List ℕ
@@ -17,24 +16,14 @@ lines s = linesOf s (length s / 4)
 
 -- the answer of a listing into so much room: 2 above 16,384 bytes and with fewer than 27 bytes of room for a word, then 1 where they are no whole
 -- words, else the bytes of the lines
-unfoldable pub listOf : List ℕ → ℕ → ListAnswer
+unfoldable pub listOf : List ℕ → ℕ → Answer
 listOf s room =
     choose (ltb 16384 (length s)) (Refused Slots)
     (choose (ltb room (27 * (length s / 4))) (Refused Slots)
     (choose (eqb (length s % 4) 0) (Filled (length (lines s))) (Refused Lengths)))
 
--- document 01's number of an answer, 0 for none
-abbrev pub numberOf : ListAnswer → ℕ
-numberOf (Refused x) = Refusal.numberOf x
-numberOf (Filled n) = 0
-
--- how many bytes were written, 0 where the input was turned down
-abbrev pub filledOf : ListAnswer → ℕ
-filledOf (Refused x) = 0
-filledOf (Filled n) = n
-
 -- the lent bytes with a text at their start, or as they were
-abbrev pub outBy : ListAnswer → List ℕ → List ℕ → List ℕ
+abbrev pub outBy : Answer → List ℕ → List ℕ → List ℕ
 outBy (Refused x) text out = out
 outBy (Filled n) text out = sets out 0 text
 

@@ -3,6 +3,7 @@ pub mod class;
 
 use class::Class;
 use class::class_of;
+use macho::refusal::Answer;
 use macho::refusal::Refusal;
 ghost use mathlib.Core.Path.{_≡_};
 ghost use mathlib.Core.List.{_∷_, [], _++_};
@@ -11,12 +12,6 @@ ghost use lib.ListN.{length};
 ghost use Rattle.lister_text.specs.Text.{digitOf, hexOf, decimal, className, lineOf, linesOf, refused, textOf};
 ghost use Rattle.lister_text.specs.Puts.{Puts};
 ghost use Rattle.lister_text.specs.Listing.{listOf, outAfter};
-
-// What a listing answers: why nothing was written, or how many bytes were.
-pub enum ListAnswer {
-    Refused(Refusal),
-    Filled(usize),
-}
 
 // Puts a text at `at`, and answers where it ends.
 fn put(out: &mut [u8], at: usize, text: &[u8]) -> usize
@@ -123,21 +118,21 @@ fn put_lines(input: &[u8], out: &mut [u8]) -> usize
     at
 }
 
-// Lists words at the start of out, which has 27 bytes or more for each.
-pub fn list(words: &[u8], out: &mut [u8]) -> ListAnswer
+// Lists words at the start of out, which has 27 bytes or more for each, and answers how many bytes it filled.
+pub fn list(words: &[u8], out: &mut [u8]) -> Answer
     ensures answer { λ r. ⌜ r ≡ listOf (now (words .entry)) (length (now (out .entry))) ⌝ }
     ensures out { λ _. ⌜ now (out .exit) ≡ outAfter (now (words .entry)) (now (out .entry)) ⌝ }
 {
     if words.len() > 16384 {
-        return ListAnswer::Refused(Refusal::Slots);
+        return Answer::Refused(Refusal::Slots);
     }
     if out.len() < 27 * (words.len() / 4) {
-        return ListAnswer::Refused(Refusal::Slots);
+        return Answer::Refused(Refusal::Slots);
     }
     if words.len() % 4 != 0 {
-        return ListAnswer::Refused(Refusal::Lengths);
+        return Answer::Refused(Refusal::Lengths);
     }
-    ListAnswer::Filled(put_lines(words, out))
+    Answer::Filled(put_lines(words, out))
 }
 
 // Puts `refused N` and a newline at the start of out.
@@ -156,7 +151,7 @@ pub fn text(input: &[u8], out: &mut [u8; 110592]) -> usize
     ensures { λ r. ⌜ r ≤ 110592 ⌝ }
 {
     match list(input, out) {
-        ListAnswer::Refused(refusal) => put_refused(out, refusal.number()),
-        ListAnswer::Filled(n) => n,
+        Answer::Refused(refusal) => put_refused(out, refusal.number()),
+        Answer::Filled(n) => n,
     }
 }
