@@ -4,8 +4,9 @@ use mathlib.Core.List.{List}
 use Prim.Native.Nat.{ℕ}
 use lib.ListN.{length}
 use Rattle.macho.specs.declared.rel.MachRel.{MachRel}
+use Rattle.macho.specs.declared.refusal.Answer.{Answer}
 use Rattle.arch.specs.Table.{recordsOf, lengthsOf}
-use Rattle.arch.specs.Walk.{Reading, readAll, checked}
+use Rattle.arch.specs.Walk.{Reading, readAll, checked, answerOf, slotsAfter}
 use Rattle.arm64_reader.specs.Record.{stepAt}
 
 -- what a list of records reads to; `before` says whether the record before the list is SUBTRACTOR
@@ -16,6 +17,14 @@ readRecords contents sections before rs = readAll (stepAt contents sections befo
 abbrev pub readTable : List ℕ → List ℕ → List ℕ → Reading
 readTable contents rels sections = readRecords contents sections false (recordsOf rels)
 
--- what a call answers: numbers 1 and 2 by the lengths that it is lent, then what the table reads to
+-- what a call reads: numbers 1 and 2 by the lengths that it is lent, then what the table reads to
 unfoldable pub readRelocs : List ℕ → List ℕ → List ℕ → List ℕ → Reading
 readRelocs contents rels sections slots = checked (lengthsOf (length rels) (length sections) (length slots)) (readTable contents rels sections)
+
+-- what it answers to what was lent
+abbrev pub answerTo : List ℕ → List ℕ → List ℕ → List ℕ → Answer
+answerTo contents rels sections slots = answerOf (readRelocs contents rels sections slots)
+
+-- the slots after it
+abbrev pub slotsTo : List ℕ → List ℕ → List ℕ → List ℕ → List ℕ
+slotsTo contents rels sections slots = slotsAfter (readRelocs contents rels sections slots) slots

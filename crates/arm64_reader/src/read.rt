@@ -9,7 +9,7 @@ ghost use mathlib.Core.Path.{_≡_};
 ghost use Prim.Native.Nat.{_*_, _/_, _≤_};
 ghost use lib.ListN.{length};
 ghost use Rattle.arch.specs.Walk.{Fills, answerOf, slotsAfter};
-ghost use Rattle.arm64_reader.specs.Read.{readTable, readRelocs};
+ghost use Rattle.arm64_reader.specs.Read.{readTable, answerTo, slotsTo};
 
 // The walk that checks: all records, with nothing written.
 fn check_walk(contents: &[u8], rels: &[u8], sections: &[u64]) -> Answer
@@ -56,9 +56,8 @@ fn fill_walk(contents: &[u8], rels: &[u8], sections: &[u64], slots: &mut [u8])
 
 // Reads relocation records of a section into entries. `sections` has the address of each section. A refusal leaves the slots as they were.
 pub fn read_relocs(contents: &[u8], rels: &[u8], sections: &[u64], slots: &mut [u8]) -> Answer
-    ensures result { λ r. ⌜ r ≡ answerOf (readRelocs (now (contents .entry)) (now (rels .entry)) (now (sections .entry)) (now (slots .entry))) ⌝ }
-    ensures lent { λ _. ⌜ now (slots .exit)
-        ≡ slotsAfter (readRelocs (now (contents .entry)) (now (rels .entry)) (now (sections .entry)) (now (slots .entry))) (now (slots .entry)) ⌝ }
+    ensures answer { λ r. ⌜ r ≡ answerTo (now (contents .entry)) (now (rels .entry)) (now (sections .entry)) (now (slots .entry)) ⌝ }
+    ensures slots { λ _. ⌜ now (slots .exit) ≡ slotsTo (now (contents .entry)) (now (rels .entry)) (now (sections .entry)) (now (slots .entry)) ⌝ }
 {
     match check_lengths(rels.len(), sections.len(), slots.len()) {
         Check::Refused(refusal) => Answer::Refused(refusal),

@@ -4,11 +4,13 @@ use mathlib.Core.Path.{_≡_, refl, ap, _∙_}
 use mathlib.Core.Bool.{Bool, false}
 use lib.Dec.{eqb}
 use Rattle.util.specs.Choice.{choose}
-use Rattle.macho.specs.Refusal.{numberOf}
+use Rattle.macho.specs.Refusal.{numberOf, answerNumber, filledOf}
 use Rattle.macho.specs.declared.refusal.Refusal.{Refusal}
 use Rattle.macho.specs.declared.refusal.Refusal.the-variants.{Lengths, Slots, Bounds, LoneAddend, Unsupported, Unfit}
 use Rattle.macho.specs.declared.refusal.Refusal.the-variants.{NoSection, LoneSubtractor, Overflow, NeedsSymbol, Flags, NoEntry}
-use Rattle.hauklivo.specs.Lent.{lentNumber}
+use Rattle.macho.specs.declared.refusal.Answer.{Answer}
+use Rattle.macho.specs.declared.refusal.Answer.the-variants.{Filled, Refused}
+use Rattle.hauklivo.specs.Lent.{lentNumber, lentCount}
 
 number-is : (x : Refusal) → eqb (numberOf x) 0 ≡ false
 number-is Lengths = refl
@@ -25,11 +27,21 @@ number-is Flags = refl
 number-is NoEntry = refl
 
 -- a call that returns a refusal's number leaves the old value
-pub lent-kept : (x : Refusal) (n new old : ℕ) → n ≡ numberOf x → old ≡ lentNumber n new old
+pub lent-kept : (x : Refusal) (new old : ℕ) → old ≡ lentNumber (numberOf x) new old
 unfolding lentNumber choose
-lent-kept x n new old e = rw (e, number-is x)
+lent-kept x new old = rw (number-is x)
 
 -- a call that returns 0 leaves the new one
-pub lent-new : (m new old : ℕ) → m ≡ new → m ≡ lentNumber 0 new old
+pub lent-new : (new old : ℕ) → new ≡ lentNumber 0 new old
 unfolding lentNumber choose
-lent-new m new old e = e
+lent-new new old = refl
+
+-- a refusal leaves the old count
+pub count-kept : (x : Refusal) (a : Answer) (old : ℕ) → Refused x ≡ a → old ≡ lentCount a old
+unfolding lentCount
+count-kept x a old e = lent-kept x 0 old ∙ ap (λ (b : Answer). lentNumber (answerNumber b) (filledOf b) old) e
+
+-- a call that fills leaves how many
+pub count-new : (n : ℕ) (a : Answer) (old : ℕ) → Filled n ≡ a → n ≡ lentCount a old
+unfolding lentCount
+count-new n a old e = lent-new n old ∙ ap (λ (b : Answer). lentNumber (answerNumber b) (filledOf b) old) e

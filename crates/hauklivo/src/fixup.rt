@@ -2,9 +2,8 @@
 use arm64_fixup::walk::apply_reloc_alloc;
 use macho::refusal::Answer;
 ghost use mathlib.Core.Path.{_≡_};
-ghost use Rattle.macho.specs.Refusal.{answerNumber, filledOf};
-ghost use Rattle.arm64_fixup.specs.Answer.{basesOf, outcomeOf, answerOf, sectionAfter, slotsAfter};
-ghost use Rattle.hauklivo.specs.Lent.{lentNumber};
+ghost use Rattle.arm64_fixup.specs.Answer.{sectionTo, slotsTo};
+ghost use Rattle.hauklivo.specs.Fixup.{numberTo, countTo};
 
 // Fixes a section's bytes by its entries and their resolved targets; `count` gets the number of reports.
 #[no_mangle]
@@ -17,18 +16,11 @@ pub extern "C" fn hauklivo_apply_reloc_alloc(
     slots: &mut [u8],
     count: &mut usize,
 ) -> u8
-    ensures number { λ r. ⌜ r
-        ≡ answerNumber (answerOf (outcomeOf (now (buf .entry)) (basesOf base «tls_begin») (now (rels .entry)) (now (targets .entry)) (now (slots .entry)))) ⌝ }
-    ensures count { λ r. ⌜ now (count .exit)
-        ≡ lentNumber r
-        (filledOf (answerOf (outcomeOf (now (buf .entry)) (basesOf base «tls_begin») (now (rels .entry)) (now (targets .entry)) (now (slots .entry)))))
-        (now (count .entry)) ⌝ }
-    ensures section { λ _. ⌜ now (buf .exit)
-        ≡ sectionAfter (outcomeOf (now (buf .entry)) (basesOf base «tls_begin») (now (rels .entry)) (now (targets .entry)) (now (slots .entry)))
-        (now (buf .entry)) ⌝ }
-    ensures reports { λ _. ⌜ now (slots .exit)
-        ≡ slotsAfter (outcomeOf (now (buf .entry)) (basesOf base «tls_begin») (now (rels .entry)) (now (targets .entry)) (now (slots .entry)))
-        (now (slots .entry)) ⌝ }
+    ensures number { λ r. ⌜ r ≡ numberTo (now (buf .entry)) base «tls_begin» (now (rels .entry)) (now (targets .entry)) (now (slots .entry)) ⌝ }
+    ensures count { λ _. ⌜ now (count .exit)
+        ≡ countTo (now (buf .entry)) base «tls_begin» (now (rels .entry)) (now (targets .entry)) (now (slots .entry)) (now (count .entry)) ⌝ }
+    ensures buf { λ _. ⌜ now (buf .exit) ≡ sectionTo (now (buf .entry)) base «tls_begin» (now (rels .entry)) (now (targets .entry)) (now (slots .entry)) ⌝ }
+    ensures told { λ _. ⌜ now (slots .exit) ≡ slotsTo (now (buf .entry)) base «tls_begin» (now (rels .entry)) (now (targets .entry)) (now (slots .entry)) ⌝ }
 {
     match apply_reloc_alloc(buf, base, tls_begin, rels, targets, slots) {
         Answer::Refused(refusal) => refusal.number(),

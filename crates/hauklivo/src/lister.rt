@@ -2,17 +2,14 @@
 use lister_text::list;
 use macho::refusal::Answer;
 ghost use mathlib.Core.Path.{_≡_};
-ghost use lib.ListN.{length};
-ghost use Rattle.macho.specs.Refusal.{answerNumber, filledOf};
-ghost use Rattle.lister_text.specs.Listing.{listOf, outAfter};
-ghost use Rattle.hauklivo.specs.Lent.{lentNumber};
+ghost use Rattle.lister_text.specs.Listing.{outAfter};
+ghost use Rattle.hauklivo.specs.Lister.{numberTo, countTo};
 
 // Lists words with their offsets and classes at the start of `out`; `count` gets how many bytes that is.
 #[no_mangle]
 pub extern "C" fn hauklivo_list(words: &[u8], out: &mut [u8], count: &mut usize) -> u8
-    ensures number { λ r. ⌜ r ≡ answerNumber (listOf (now (words .entry)) (length (now (out .entry)))) ⌝ }
-    ensures count { λ r. ⌜ now (count .exit)
-        ≡ lentNumber r (filledOf (listOf (now (words .entry)) (length (now (out .entry))))) (now (count .entry)) ⌝ }
+    ensures number { λ r. ⌜ r ≡ numberTo (now (words .entry)) (now (out .entry)) ⌝ }
+    ensures count { λ _. ⌜ now (count .exit) ≡ countTo (now (words .entry)) (now (out .entry)) (now (count .entry)) ⌝ }
     ensures out { λ _. ⌜ now (out .exit) ≡ outAfter (now (words .entry)) (now (out .entry)) ⌝ }
 {
     match list(words, out) {

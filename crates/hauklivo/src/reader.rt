@@ -2,10 +2,8 @@
 use arm64_reader::read::read_relocs;
 use macho::refusal::Answer;
 ghost use mathlib.Core.Path.{_≡_};
-ghost use Rattle.macho.specs.Refusal.{answerNumber, filledOf};
-ghost use Rattle.arch.specs.Walk.{answerOf, slotsAfter};
-ghost use Rattle.arm64_reader.specs.Read.{readRelocs};
-ghost use Rattle.hauklivo.specs.Lent.{lentNumber};
+ghost use Rattle.arm64_reader.specs.Read.{slotsTo};
+ghost use Rattle.hauklivo.specs.Reader.{numberTo, countTo};
 
 // Reads relocation records into entries; `count` gets how many.
 #[no_mangle]
@@ -16,14 +14,10 @@ pub extern "C" fn hauklivo_read_relocs(
     slots: &mut [u8],
     count: &mut usize,
 ) -> u8
-    ensures number { λ r. ⌜ r
-        ≡ answerNumber (answerOf (readRelocs (now (contents .entry)) (now (rels .entry)) (now (sections .entry)) (now (slots .entry)))) ⌝ }
-    ensures count { λ r. ⌜ now (count .exit)
-        ≡ lentNumber r
-        (filledOf (answerOf (readRelocs (now (contents .entry)) (now (rels .entry)) (now (sections .entry)) (now (slots .entry)))))
-        (now (count .entry)) ⌝ }
-    ensures slots { λ _. ⌜ now (slots .exit)
-        ≡ slotsAfter (readRelocs (now (contents .entry)) (now (rels .entry)) (now (sections .entry)) (now (slots .entry))) (now (slots .entry)) ⌝ }
+    ensures number { λ r. ⌜ r ≡ numberTo (now (contents .entry)) (now (rels .entry)) (now (sections .entry)) (now (slots .entry)) ⌝ }
+    ensures count { λ _. ⌜ now (count .exit)
+        ≡ countTo (now (contents .entry)) (now (rels .entry)) (now (sections .entry)) (now (slots .entry)) (now (count .entry)) ⌝ }
+    ensures slots { λ _. ⌜ now (slots .exit) ≡ slotsTo (now (contents .entry)) (now (rels .entry)) (now (sections .entry)) (now (slots .entry)) ⌝ }
 {
     match read_relocs(contents, rels, sections, slots) {
         Answer::Refused(refusal) => refusal.number(),

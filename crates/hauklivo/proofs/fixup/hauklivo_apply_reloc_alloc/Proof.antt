@@ -1,8 +1,8 @@
 -- The answer of apply_reloc_alloc by its two cases.
 use mathlib.Core.Path.{ap, sym, _∙_}
 use Rattle.macho.specs.declared.refusal.Answer.{Answer}
-use Rattle.macho.specs.Refusal.{answerNumber, filledOf}
-use Rattle.hauklivo.proofs.Lent.{lent-kept, lent-new}
+use Rattle.macho.specs.Refusal.{answerNumber}
+use Rattle.hauklivo.proofs.Lent.{count-kept, count-new}
 use borrow.Author.Needs.{needs}
 use Rattle.hauklivo.proofs.fixup.hauklivo_apply_reloc_alloc.Statement.{statement}
 use Rattle.hauklivo.proofs.fixup.hauklivo_apply_reloc_alloc.Tie as tie
@@ -30,7 +30,7 @@ returns c =
     let k = c .before .before .before .before .before .before .before .before .apply-reloc-alloc .ensures in
     let e = sym (c .before .before .refusal .given .1) ∙ k .0 in
     let x = c .before .before .refusal .given .0 .0 in
-    (c .number .ensures ∙ ap (λ (a : Answer). answerNumber a) e, (lent-kept x _ _ _ (c .number .ensures), k .1))
+    (c .number .ensures ∙ ap (λ (a : Answer). answerNumber a) e, (count-kept x _ _ e, k .1))
 
 same-length-3 : tie.Need-same-length-3
 same-length-3 c = search needs
@@ -42,7 +42,7 @@ returns-2 : tie.Need-returns-2
 returns-2 c =
     let k = c .before .before .before .before .before .before .before .apply-reloc-alloc .ensures in
     let e = sym (c .before .n .given .1) ∙ k .0 in
-    (ap (λ (a : Answer). answerNumber a) e, (lent-new _ _ _ (ap (λ (a : Answer). filledOf a) e), k .1))
+    (ap (λ (a : Answer). answerNumber a) e, (count-new _ _ _ e, k .1))
 
 pub hauklivo-apply-reloc-alloc-spec : {M : Type 1} → statement M
 hauklivo-apply-reloc-alloc-spec =

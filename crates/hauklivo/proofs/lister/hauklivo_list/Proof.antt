@@ -1,8 +1,8 @@
 -- The answer of list by its two cases.
 use mathlib.Core.Path.{ap, sym, _∙_}
 use Rattle.macho.specs.declared.refusal.Answer.{Answer}
-use Rattle.macho.specs.Refusal.{answerNumber, filledOf}
-use Rattle.hauklivo.proofs.Lent.{lent-kept, lent-new}
+use Rattle.macho.specs.Refusal.{answerNumber}
+use Rattle.hauklivo.proofs.Lent.{count-kept, count-new}
 use borrow.Author.Needs.{needs}
 use Rattle.hauklivo.proofs.lister.hauklivo_list.Statement.{statement}
 use Rattle.hauklivo.proofs.lister.hauklivo_list.Tie as tie
@@ -27,7 +27,7 @@ returns c =
     let k = c .before .before .before .before .before .before .list .ensures in
     let e = sym (c .before .before .refusal .given .1) ∙ k .0 in
     let x = c .before .before .refusal .given .0 .0 in
-    (c .number .ensures ∙ ap (λ (a : Answer). answerNumber a) e, (lent-kept x _ _ _ (c .number .ensures), k .1))
+    (c .number .ensures ∙ ap (λ (a : Answer). answerNumber a) e, (count-kept x _ _ e, k .1))
 
 same-length-2 : tie.Need-same-length-2
 same-length-2 c = search needs
@@ -36,7 +36,7 @@ returns-2 : tie.Need-returns-2
 returns-2 c =
     let k = c .before .before .before .before .before .list .ensures in
     let e = sym (c .before .n .given .1) ∙ k .0 in
-    (ap (λ (a : Answer). answerNumber a) e, (lent-new _ _ _ (ap (λ (a : Answer). filledOf a) e), k .1))
+    (ap (λ (a : Answer). answerNumber a) e, (count-new _ _ _ e, k .1))
 
 pub hauklivo-list-spec : {M : Type 1} → statement M
 hauklivo-list-spec =
