@@ -5,20 +5,25 @@ use mathlib.Core.List.{List, [], _∷_}
 use lib.ListN.{length, getD}
 use lib.Dec.{eqb, ltb}
 use Rattle.util.specs.Choice.{choose}
-use Rattle.macho.specs.MachRel.{machRelAt, typeOf}
+use Rattle.macho.specs.MachRel.{machRelSize, machRelAt, typeOf}
+use Rattle.macho.specs.Reloc.{relocSize}
 use Rattle.macho.specs.declared.rel.MachRel.{MachRel}
 use Rattle.macho.specs.declared.refusal.Refusal.the-variants.{Lengths, Slots}
 use Rattle.macho.specs.declared.refusal.Check.{Check}
 use Rattle.macho.specs.declared.refusal.Check.the-variants.{Fit, Refused}
 
--- the n records of 8 bytes from `at` on
+-- the n records from `at` on
 unfoldable pub recordsFrom : List ℕ → ℕ → ℕ → List MachRel
 recordsFrom s zero at = []
-recordsFrom s (suc n) at = machRelAt s at ∷ recordsFrom s n (at + 8)
+recordsFrom s (suc n) at = machRelAt s at ∷ recordsFrom s n (at + machRelSize)
+
+-- how many records a list of bytes has
+abbrev pub recordCount : List ℕ → ℕ
+recordCount s = length s / machRelSize
 
 -- the records of a list of bytes
 unfoldable pub recordsOf : List ℕ → List MachRel
-recordsOf s = recordsFrom s (length s / 8) 0
+recordsOf s = recordsFrom s (recordCount s) 0
 
 -- record i of a list
 abbrev pub recordAt : List MachRel → ℕ → MachRel
@@ -31,8 +36,8 @@ subtractedAt subtractor before rs i = choose (eqb i 0) before (eqb (typeOf (reco
 -- numbers 1 and 2, of the lengths that a reader is lent
 unfoldable pub lengthsOf : ℕ → ℕ → ℕ → Check
 lengthsOf rels sections slots =
-    choose (eqb (rels % 8) 0)
-    (choose (ltb (2 ^ 32 - 1) (rels / 8))
+    choose (eqb (rels % machRelSize) 0)
+    (choose (ltb (2 ^ 32 - 1) (rels / machRelSize))
     (Refused Lengths)
-    (choose (ltb (2 ^ 32 - 1) sections) (Refused Lengths) (choose (ltb slots (24 * (rels / 8))) (Refused Slots) Fit)))
+    (choose (ltb (2 ^ 32 - 1) sections) (Refused Lengths) (choose (ltb slots (relocSize * (rels / machRelSize))) (Refused Slots) Fit)))
     (Refused Lengths)

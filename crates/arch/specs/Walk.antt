@@ -4,7 +4,7 @@ use mathlib.Core.Bool.{Bool, true, false}
 use mathlib.Core.List.{List, [], _∷_, _++_}
 use lib.ListN.{length, drop}
 use lib.Dec.{ltb}
-use Rattle.macho.specs.Reloc.{relocBytes}
+use Rattle.macho.specs.Reloc.{relocSize, relocBytes}
 use Rattle.macho.specs.declared.refusal.Refusal.{Refusal}
 use Rattle.macho.specs.declared.reloc.Reloc.{Reloc}
 use Rattle.macho.specs.declared.refusal.Check.{Check}
@@ -66,4 +66,4 @@ bytesOf (e ∷ es) = relocBytes e ++ bytesOf es
 -- the slots at its end: the entries, then the bytes that were there; a refusal leaves all
 abbrev pub slotsAfter : Reading → List ℕ → List ℕ
 slotsAfter (refused x) slots = slots
-slotsAfter (entries es) slots = bytesOf es ++ drop (24 * length es) slots
+slotsAfter (entries es) slots = bytesOf es ++ drop (relocSize * length es) slots

@@ -1,24 +1,24 @@
-// A table of relocation records, 8 bytes each.
+// A table of relocation records.
 use macho::refusal::Check;
 use macho::refusal::Refusal;
 use macho::rel::MachRel;
+use macho::reloc::Reloc;
 ghost use mathlib.Core.Path.{_≡_};
 ghost use mathlib.Core.Bool.{false};
-ghost use Prim.Native.Nat.{_/_, _<_};
-ghost use lib.ListN.{length};
-ghost use Rattle.arch.specs.Table.{recordsOf, recordAt, subtractedAt, lengthsOf};
+ghost use Prim.Native.Nat.{_<_};
+ghost use Rattle.arch.specs.Table.{recordCount, recordsOf, recordAt, subtractedAt, lengthsOf};
 
 // Record i.
 pub fn record_at(rels: &[u8], i: usize) -> MachRel
-    requires { ⌜ i < length (now rels) / 8 ⌝ }
+    requires { ⌜ i < recordCount (now rels) ⌝ }
     ensures { λ r. ⌜ r ≡ recordAt (recordsOf (now (rels .entry))) i ⌝ }
 {
-    MachRel::read(rels, 8 * i)
+    MachRel::read(rels, MachRel::SIZE * i)
 }
 
 // Whether the record directly before record i is of the machine's SUBTRACTOR type.
 pub fn is_subtracted(rels: &[u8], i: usize, subtractor: u8) -> bool
-    requires { ⌜ i < length (now rels) / 8 ⌝ }
+    requires { ⌜ i < recordCount (now rels) ⌝ }
     ensures { λ r. ⌜ r ≡ subtractedAt subtractor false (recordsOf (now (rels .entry))) i ⌝ }
 {
     if i == 0 {
@@ -31,16 +31,16 @@ pub fn is_subtracted(rels: &[u8], i: usize, subtractor: u8) -> bool
 pub fn check_lengths(rels: usize, sections: usize, slots: usize) -> Check
     ensures { λ r. ⌜ r ≡ lengthsOf rels sections slots ⌝ }
 {
-    if rels % 8 != 0 {
+    if rels % MachRel::SIZE != 0 {
         return Check::Refused(Refusal::Lengths);
     }
-    if 0xffff_ffff < rels / 8 {
+    if 0xffff_ffff < rels / MachRel::SIZE {
         return Check::Refused(Refusal::Lengths);
     }
     if 0xffff_ffff < sections {
         return Check::Refused(Refusal::Lengths);
     }
-    if slots / 24 < rels / 8 {
+    if slots / Reloc::SIZE < rels / MachRel::SIZE {
         return Check::Refused(Refusal::Slots);
     }
     Check::Fit

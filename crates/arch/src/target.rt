@@ -1,6 +1,7 @@
 // What a relocation record refers to: a symbol or a section.
 use macho::refusal::Refusal;
 use macho::rel::MachRel;
+use macho::reloc::TARGET_SECTION;
 use util::wrapping_sub;
 ghost use mathlib.Core.Path.{_≡_};
 ghost use Rattle.macho.specs.MachRel.{idxOf};
@@ -23,7 +24,7 @@ pub fn section_target(sections: &[u64], r: MachRel, addend: u64) -> Target
     let i = (ordinal - 1) as usize;
     if i < sections.len() {
         return Target::Named(
-            0x8000_0000 + (ordinal - 1),
+            TARGET_SECTION + (ordinal - 1),
             wrapping_sub(addend, sections[i]),
         );
     }

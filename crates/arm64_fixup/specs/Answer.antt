@@ -6,7 +6,9 @@ use lib.Dec.{eqb, ltb, leb}
 use lib.ListN.{length, drop}
 use Rattle.util.specs.Choice.{choose}
 use Rattle.macho.specs.Record.{listBytes}
-use Rattle.macho.specs.Report.{reportBytes}
+use Rattle.macho.specs.Reloc.{relocSize}
+use Rattle.macho.specs.Resolved.{resolvedSize}
+use Rattle.macho.specs.Report.{reportSize, reportBytes}
 use Rattle.macho.specs.declared.refusal.Refusal.{Refusal}
 use Rattle.macho.specs.declared.refusal.Refusal.the-variants.{Lengths, Slots}
 use Rattle.macho.specs.declared.refusal.Check.{Check}
@@ -19,11 +21,14 @@ use Rattle.arm64_fixup.specs.Walk.{checkAll, Fixed, fixAll}
 -- number 1: no whole entries or targets, more than 2^32 - 1 entries, or not one target an entry
 abbrev pub disagree : ℕ → ℕ → Bool
 disagree rels targets =
-    not (eqb (rels % 24) 0) || not (eqb (targets % 48) 0) || leb (2 ^ 32) (rels / 24) || not (eqb (rels / 24) (targets / 48))
+    not (eqb (rels % relocSize) 0)
+    || not (eqb (targets % resolvedSize) 0)
+    || leb (2 ^ 32) (rels / relocSize)
+    || not (eqb (rels / relocSize) (targets / resolvedSize))
 
--- number 2: fewer than 24 bytes of slots for each entry
+-- number 2: fewer slots than entries
 abbrev pub lacksSlots : ℕ → ℕ → Bool
-lacksSlots rels slots = ltb slots (24 * (rels / 24))
+lacksSlots rels slots = ltb slots (reportSize * (rels / relocSize))
 
 -- the numbers of the lists' lengths, before those of the entries
 unfoldable pub checkLists : ℕ → ℕ → ℕ → Check
@@ -62,7 +67,7 @@ sectionAfter (fixed f) section = f .section
 
 -- the slots with the reports from the front on, and after them the old bytes
 abbrev pub filled : Fixed → List ℕ → List ℕ
-filled f slots = listBytes reportBytes (f .reports) ++ drop (24 * length (f .reports)) slots
+filled f slots = listBytes reportBytes (f .reports) ++ drop (reportSize * length (f .reports)) slots
 
 -- the slots at exit
 abbrev pub slotsAfter : Outcome → List ℕ → List ℕ

@@ -6,8 +6,8 @@ use lib.Dec.{eqb}
 use lib.ListN.{length}
 use Rattle.util.specs.Choice.{choose}
 use Rattle.util.specs.Word.{le, put}
-use Rattle.macho.specs.Reloc.{relocAt}
-use Rattle.macho.specs.Resolved.{resolvedAt}
+use Rattle.macho.specs.Reloc.{relocSize, relocAt}
+use Rattle.macho.specs.Resolved.{resolvedSize, resolvedAt}
 use Rattle.macho.specs.declared.reloc.Reloc.{Reloc}
 use Rattle.macho.specs.declared.resolved.Resolved.{Resolved}
 use Rattle.macho.specs.declared.report.Report as R
@@ -24,15 +24,19 @@ use Rattle.arm64_fixup_entry.specs.declared.change.Change.{Change}
 
 -- entry i
 abbrev pub entryAt : List ℕ → ℕ → Reloc
-entryAt rels i = relocAt rels (24 * i)
+entryAt rels i = relocAt rels (relocSize * i)
 
 -- its target
 abbrev pub targetAt : List ℕ → ℕ → Resolved
-targetAt targets i = resolvedAt targets (48 * i)
+targetAt targets i = resolvedAt targets (resolvedSize * i)
 
 -- how many entries a list has
 abbrev pub entries : List ℕ → ℕ
-entries rels = length rels / 24
+entries rels = length rels / relocSize
+
+-- how many targets a list has
+abbrev pub targetCount : List ℕ → ℕ
+targetCount targets = length targets / resolvedSize
 
 -- how many entries the work of one takes
 abbrev pub takenBy : ℕ → ℕ

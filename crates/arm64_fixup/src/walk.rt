@@ -17,39 +17,40 @@ use macho::refusal::Answer;
 use macho::refusal::Check;
 use macho::refusal::Refusal;
 use macho::reloc::Reloc;
+use macho::report::Report;
 use macho::resolved::Resolved;
 use util::read32;
 use util::write32;
 use util::write64;
 ghost use mathlib.Core.Path.{_≡_};
-ghost use Prim.Native.Nat.{_+_, _*_, _/_, _≤_, _<_, _^_};
+ghost use Prim.Native.Nat.{_+_, _*_, _≤_, _<_, _^_};
 ghost use lib.Dec.{eqb};
 ghost use lib.ListN.{length};
 ghost use lib.Seq.{sets};
 ghost use Rattle.macho.specs.Record.{listBytes};
-ghost use Rattle.macho.specs.Report.{reportBytes};
+ghost use Rattle.macho.specs.Report.{reportSize, reportBytes};
 ghost use Rattle.arm64_fixup_entry.specs.Check.{checkOf};
 ghost use Rattle.arm64_fixup_entry.specs.Change.{bytesIn};
-ghost use Rattle.arm64_fixup.specs.Walk.{entries, takenBy, checkAll, stored, reportsOf, changeBy, fixAll};
+ghost use Rattle.arm64_fixup.specs.Walk.{entries, targetCount, takenBy, checkAll, stored, reportsOf, changeBy, fixAll};
 ghost use Rattle.arm64_fixup.specs.Answer.{checkLists, filled, answerTo, sectionTo, slotsTo};
 
 // The numbers of the lists' lengths.
 fn check_lists(rels: usize, targets: usize, slots: usize) -> Check
     ensures { λ r. ⌜ r ≡ checkLists rels targets slots ⌝ }
 {
-    if rels % 24 != 0 {
+    if rels % Reloc::SIZE != 0 {
         return Check::Refused(Refusal::Lengths);
     }
-    if targets % 48 != 0 {
+    if targets % Resolved::SIZE != 0 {
         return Check::Refused(Refusal::Lengths);
     }
-    if 0x1_0000_0000 <= rels / 24 {
+    if 0x1_0000_0000 <= rels / Reloc::SIZE {
         return Check::Refused(Refusal::Lengths);
     }
-    if rels / 24 != targets / 48 {
+    if rels / Reloc::SIZE != targets / Resolved::SIZE {
         return Check::Refused(Refusal::Lengths);
     }
-    if slots < 24 * (rels / 24) {
+    if slots < Report::SIZE * (rels / Reloc::SIZE) {
         return Check::Refused(Refusal::Slots);
     }
     Check::Fit
@@ -67,14 +68,14 @@ fn taken(ty: u8) -> usize
 
 // The first walk: goes through all entries and writes nothing.
 fn check_all(len: usize, bases: Bases, rels: &[u8], targets: &[u8]) -> Check
-    requires { ⌜ entries (now rels) ≡ length (now targets) / 48 ⌝ }
+    requires { ⌜ entries (now rels) ≡ targetCount (now targets) ⌝ }
     ensures { λ r. ⌜ r ≡ checkAll len bases (now (rels .entry)) (now (targets .entry)) ⌝ }
 {
-    let n = rels.len() / 24;
+    let n = rels.len() / Reloc::SIZE;
     let mut i = 0;
     while i < n {
-        let e = Reloc::read(rels, 24 * i);
-        let t = Resolved::read(targets, 48 * i);
+        let e = Reloc::read(rels, Reloc::SIZE * i);
+        let t = Resolved::read(targets, Resolved::SIZE * i);
         match check_entry(len, bases, e, t, i + 1 == n) {
             Check::Refused(r) => {
                 return Check::Refused(r);
@@ -97,7 +98,7 @@ fn change_at(
     e: Reloc,
     t: Resolved,
 ) -> Change
-    requires { ⌜ (i < entries (now rels)) × (entries (now rels) < 2 ^ 32) × (entries (now rels) ≡ length (now targets) / 48) ⌝ }
+    requires { ⌜ (i < entries (now rels)) × (entries (now rels) < 2 ^ 32) × (entries (now rels) ≡ targetCount (now targets)) ⌝ }
     requires { ⌜ checkOf (length (now buf)) bases e t (eqb (i + 1) (entries (now rels))) ≡ Check.Fit ⌝ }
     ensures { λ r. ⌜ r ≡ changeBy bases (now (rels .entry)) (now (targets .entry)) (now (buf .entry)) i e t ⌝ }
 {
@@ -108,8 +109,8 @@ fn change_at(
         return silent(Write::Pointer(unsigned_value(bases, e, t)));
     }
     if subtracts(e.ty) {
-        let next = Reloc::read(rels, 24 * (i + 1));
-        let next_target = Resolved::read(targets, 48 * (i + 1));
+        let next = Reloc::read(rels, Reloc::SIZE * (i + 1));
+        let next_target = Resolved::read(targets, Resolved::SIZE * (i + 1));
         return difference(e, subtractor_value(t, next, next_target));
     }
     let at = e.offset as usize;
@@ -138,14 +139,14 @@ fn store(buf: &mut [u8], at: usize, w: Write)
 
 // Stores what a change reports in the next slot, and counts it.
 fn tell(slots: &mut [u8], count: usize, told: Told) -> usize
-    requires { ⌜ 24 * count + 24 ≤ length (now slots) ⌝ }
+    requires { ⌜ reportSize * count + reportSize ≤ length (now slots) ⌝ }
     ensures count { λ r. ⌜ r ≡ count + length (reportsOf told) ⌝ }
-    ensures slots { λ _. ⌜ now (slots .exit) ≡ sets (now (slots .entry)) (24 * count) (listBytes reportBytes (reportsOf told)) ⌝ }
+    ensures slots { λ _. ⌜ now (slots .exit) ≡ sets (now (slots .entry)) (reportSize * count) (listBytes reportBytes (reportsOf told)) ⌝ }
 {
     match told {
         Told::Silent => count,
         Told::Report(r) => {
-            r.write(slots, 24 * count);
+            r.write(slots, Report::SIZE * count);
             count + 1
         }
     }
@@ -154,17 +155,17 @@ fn tell(slots: &mut [u8], count: usize, told: Told) -> usize
 // The second walk, after the first has found nothing to turn down: works each entry on what those before it left.
 fn work_all(buf: &mut [u8], bases: Bases, rels: &[u8], targets: &[u8], slots: &mut [u8]) -> usize
     requires { ⌜ checkAll (length (now buf)) bases (now rels) (now targets) ≡ Check.Fit ⌝ }
-    requires { ⌜ (entries (now rels) ≡ length (now targets) / 48) × (entries (now rels) < 2 ^ 32) × (24 * entries (now rels) ≤ length (now slots)) ⌝ }
+    requires { ⌜ (entries (now rels) ≡ targetCount (now targets)) × (entries (now rels) < 2 ^ 32) × (reportSize * entries (now rels) ≤ length (now slots)) ⌝ }
     ensures count { λ r. ⌜ r ≡ length (fixAll bases (now (rels .entry)) (now (targets .entry)) (now (buf .entry)) .reports) ⌝ }
     ensures section { λ _. ⌜ now (buf .exit) ≡ fixAll bases (now (rels .entry)) (now (targets .entry)) (now (buf .entry)) .section ⌝ }
     ensures slots { λ _. ⌜ now (slots .exit) ≡ filled (fixAll bases (now (rels .entry)) (now (targets .entry)) (now (buf .entry))) (now (slots .entry)) ⌝ }
 {
-    let n = rels.len() / 24;
+    let n = rels.len() / Reloc::SIZE;
     let mut i = 0;
     let mut count = 0;
     while i < n {
-        let e = Reloc::read(rels, 24 * i);
-        let t = Resolved::read(targets, 48 * i);
+        let e = Reloc::read(rels, Reloc::SIZE * i);
+        let t = Resolved::read(targets, Resolved::SIZE * i);
         let c = change_at(buf, bases, rels, targets, i, e, t);
         let w = c.write;
         let told = c.told;

@@ -4,7 +4,7 @@ use mathlib.Core.Bool.{Bool, _&&_, _||_, not}
 use lib.Dec.{eqb, ltb, leb}
 use Rattle.util.specs.Choice.{choose}
 use Rattle.macho.specs.Types.{ARM64-RELOC-SUBTRACTOR, ARM64-RELOC-GOT-LOAD-PAGE21, ARM64-RELOC-GOT-LOAD-PAGEOFF12, ARM64-RELOC-POINTER-TO-GOT}
-use Rattle.macho.specs.Types.{ARM64-RELOC-TLVP-LOAD-PAGE21, ARM64-RELOC-TLVP-LOAD-PAGEOFF12}
+use Rattle.macho.specs.Types.{ARM64-RELOC-TLVP-LOAD-PAGE21, ARM64-RELOC-TLVP-LOAD-PAGEOFF12, ARM64-RELOC-ADDEND}
 use Rattle.macho.specs.Reloc.{isSection}
 use Rattle.macho.specs.Resolved.{hasHelper, wellFormed}
 use Rattle.macho.specs.declared.reloc.Reloc.{Reloc}
@@ -27,9 +27,9 @@ misflagged t = not (wellFormed t)
 abbrev pub overflows : Bases → Reloc → Bool
 overflows b e = leb (2 ^ 64) (placeOf b e)
 
--- number 5: a type of 10 or above
+-- number 5: ADDEND, 10, or a type above
 abbrev pub unsupported : ℕ → Bool
-unsupported ty = leb 10 ty
+unsupported ty = leb ARM64-RELOC-ADDEND ty
 
 -- a type that takes the entry after it, too
 abbrev pub subtracts : ℕ → Bool

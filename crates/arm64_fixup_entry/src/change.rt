@@ -60,15 +60,6 @@ pub enum Traced {
     Untraced,
 }
 
-// The kinds of reports.
-const ADRP_REACH: u8 = 1;
-
-const BRANCH_REACH: u8 = 2;
-
-const ALIGNMENT: u8 = 3;
-
-const NON_LDR: u8 = 4;
-
 // A write with no report.
 pub fn silent(w: Write) -> Change
     ensures { λ r. ⌜ r ≡ silent w ⌝ }
@@ -193,7 +184,7 @@ fn branch(s: Site, e: Reloc, t: Resolved, word: u32) -> Change
     if thunk_serves(e, t, target) {
         return silent(Write::Word(branch_word(word, util::wrapping_sub(t.thunk, s.place))));
     }
-    out_of_reach(s, BRANCH_REACH, target, direct)
+    out_of_reach(s, Report::BRANCH_REACH, target, direct)
 }
 
 // BRANCH26.
@@ -214,7 +205,7 @@ pub fn page21(s: Site, target: u64, word: u32) -> Change
     if adrp_reaches(target, s.place) {
         return silent(Write::Word(insn));
     }
-    out_of_reach(s, ADRP_REACH, target, insn)
+    out_of_reach(s, Report::ADRP_REACH, target, insn)
 }
 
 // An ADD, LDR or STR with the target's page offset.
@@ -223,7 +214,7 @@ pub fn pageoff12(s: Site, target: u64, word: u32) -> Change
 {
     match write_add_ldst_word(word, target) {
         Fit::Word(insn) => silent(Write::Word(insn)),
-        Fit::Misaligned(size) => unfit(s, ALIGNMENT, size as u8),
+        Fit::Misaligned(size) => unfit(s, Report::ALIGNMENT, size as u8),
     }
 }
 
@@ -258,7 +249,7 @@ fn relaxed(s: Site, ty: u8, target: u64, word: u32) -> Change
     if can_relax(ty, word) {
         return silent(Write::Word(relaxed_word(word, target)));
     }
-    unfit(s, NON_LDR, 0)
+    unfit(s, Report::NON_LDR, 0)
 }
 
 // GOT_LOAD_PAGEOFF12 and TLVP_LOAD_PAGEOFF12.

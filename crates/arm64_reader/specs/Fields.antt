@@ -1,5 +1,5 @@
 -- What the entries of a table hold, as functions of its records (document 01, "Odd spots", `read_relocs`).
-use Prim.Native.Nat.{ℕ, suc, _+_, _-_, _^_}
+use Prim.Native.Nat.{ℕ, suc, _+_, _-_}
 use mathlib.Core.Bool.{Bool, true, false}
 use mathlib.Core.List.{List, [], _∷_}
 use lib.ListN.{getD}
@@ -9,6 +9,7 @@ use Rattle.util.specs.Choice.{choose, flag}
 use Rattle.util.specs.Word.{le}
 use Rattle.util.specs.Wrap.{diff}
 use Rattle.macho.specs.MachRel.{idxOf, p2sizeOf, externOf, typeOf}
+use Rattle.macho.specs.Reloc.{targetSection}
 use Rattle.macho.specs.Types.{ARM64-RELOC-UNSIGNED, ARM64-RELOC-SUBTRACTOR, ARM64-RELOC-GOT-LOAD-PAGEOFF12, ARM64-RELOC-TLVP-LOAD-PAGEOFF12}
 use Rattle.macho.specs.Types.{ARM64-RELOC-ADDEND}
 use Rattle.macho.specs.declared.rel.MachRel.{MachRel}
@@ -55,7 +56,7 @@ heldIn r word pointer given =
 
 -- what it names: a symbol, or with bit 31 a section
 abbrev pub targetIn : MachRel → ℕ
-targetIn r = choose (eqb (externOf (r .bits)) 1) (idxOf (r .bits)) (2 ^ 31 + (idxOf (r .bits) - 1))
+targetIn r = choose (eqb (externOf (r .bits)) 1) (idxOf (r .bits)) (targetSection + (idxOf (r .bits) - 1))
 
 -- the addend: of a section less that section's address
 abbrev pub addendIn : List ℕ → MachRel → ℕ → ℕ

@@ -1,16 +1,16 @@
 -- What a list of entries says (document 01, "Records lent by the linker", and SUBTRACTOR in "Fix-up and hint rules").
-use Prim.Native.Nat.{ℕ, _+_, _-_, _^_}
+use Prim.Native.Nat.{ℕ, _+_, _-_}
 use mathlib.Core.List.{List, [], _∷_}
 use lib.Dec.{eqb}
 use Rattle.util.specs.Choice.{choose}
-use Rattle.macho.specs.Reloc.{isSection}
+use Rattle.macho.specs.Reloc.{targetSection, isSection}
 use Rattle.macho.specs.Types.{ARM64-RELOC-SUBTRACTOR}
 use Rattle.macho.specs.declared.reloc.Reloc.{Reloc}
 use Rattle.arm64_reader.specs.Header.{Referent, symbol, section, Less, nothing, less, Relocation}
 
 -- what an entry's target names: bit 31 set means section, counted from 0
 abbrev pub namedBy : ℕ → Referent
-namedBy target = choose (isSection target) (section (target - 2 ^ 31 + 1)) (symbol target)
+namedBy target = choose (isSection target) (section (target - targetSection + 1)) (symbol target)
 
 -- an entry as a relocation
 abbrev pub sayOne : Less → Reloc → Relocation

@@ -5,9 +5,13 @@ use arch::step::Step;
 use arch::table::check_lengths;
 use macho::refusal::Answer;
 use macho::refusal::Check;
+use macho::rel::MachRel;
+use macho::reloc::Reloc;
 ghost use mathlib.Core.Path.{_≡_};
-ghost use Prim.Native.Nat.{_*_, _/_, _≤_};
+ghost use Prim.Native.Nat.{_*_, _≤_};
 ghost use lib.ListN.{length};
+ghost use Rattle.macho.specs.Reloc.{relocSize};
+ghost use Rattle.arch.specs.Table.{recordCount};
 ghost use Rattle.arch.specs.Walk.{Fills, answerOf, slotsAfter};
 ghost use Rattle.arm64_reader.specs.Read.{readTable, answerTo, slotsTo};
 
@@ -15,7 +19,7 @@ ghost use Rattle.arm64_reader.specs.Read.{readTable, answerTo, slotsTo};
 fn check_walk(contents: &[u8], rels: &[u8], sections: &[u64]) -> Answer
     ensures { λ r. ⌜ r ≡ answerOf (readTable (now (contents .entry)) (now (rels .entry)) (now (sections .entry))) ⌝ }
 {
-    let n = rels.len() / 8;
+    let n = rels.len() / MachRel::SIZE;
     let mut i = 0;
     let mut count = 0;
     while i < n {
@@ -34,10 +38,10 @@ fn check_walk(contents: &[u8], rels: &[u8], sections: &[u64]) -> Answer
 
 // The walk that fills, after the first has found that every record reads.
 fn fill_walk(contents: &[u8], rels: &[u8], sections: &[u64], slots: &mut [u8])
-    requires { ⌜ Fills (readTable (now contents) (now rels) (now sections)) × (24 * (length (now rels) / 8) ≤ length (now slots)) ⌝ }
+    requires { ⌜ Fills (readTable (now contents) (now rels) (now sections)) × (relocSize * recordCount (now rels) ≤ length (now slots)) ⌝ }
     ensures { λ _. ⌜ now (slots .exit) ≡ slotsAfter (readTable (now (contents .entry)) (now (rels .entry)) (now (sections .entry))) (now (slots .entry)) ⌝ }
 {
-    let n = rels.len() / 8;
+    let n = rels.len() / MachRel::SIZE;
     let mut i = 0;
     let mut count = 0;
     while i < n {
@@ -46,7 +50,7 @@ fn fill_walk(contents: &[u8], rels: &[u8], sections: &[u64], slots: &mut [u8])
                 return;
             }
             Step::Read(entry, next) => {
-                entry.write(slots, 24 * count);
+                entry.write(slots, Reloc::SIZE * count);
                 i = next;
             }
         }

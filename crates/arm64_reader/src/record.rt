@@ -16,9 +16,9 @@ use util::read64;
 use util::sign_extend;
 ghost use mathlib.Core.Path.{_≡_};
 ghost use mathlib.Core.Bool.{true, false};
-ghost use Prim.Native.Nat.{_/_, _<_, _≤_};
+ghost use Prim.Native.Nat.{_<_, _≤_};
 ghost use lib.ListN.{length, drop};
-ghost use Rattle.arch.specs.Table.{recordsOf};
+ghost use Rattle.arch.specs.Table.{recordCount, recordsOf};
 ghost use Rattle.arm64_reader.specs.Record.{addendOf, adding, recordOf, stepAt, Reads, Plain};
 ghost use Rattle.arm64_reader.specs.Fields.{ownOf, givenOf};
 
@@ -94,7 +94,7 @@ fn contents_from(contents: &[u8], offset: u32) -> &[u8]
 
 // The number of an entry's own record, where the entry starts at record i: the next one where that is ADDEND.
 fn own_number(rels: &[u8], i: usize) -> usize
-    requires { ⌜ i < length (now rels) / 8 ⌝ }
+    requires { ⌜ i < recordCount (now rels) ⌝ }
     ensures { λ j. ⌜ j ≡ ownOf (recordsOf (now (rels .entry))) i ⌝ }
 {
     if record_at(rels, i).ty() == ARM64_RELOC_ADDEND {
@@ -105,7 +105,7 @@ fn own_number(rels: &[u8], i: usize) -> usize
 
 // The addend that an entry's ADDEND record gives it, else 0.
 fn given_addend(rels: &[u8], i: usize) -> u64
-    requires { ⌜ i < length (now rels) / 8 ⌝ }
+    requires { ⌜ i < recordCount (now rels) ⌝ }
     ensures { λ a. ⌜ a ≡ givenOf (recordsOf (now (rels .entry))) i ⌝ }
 {
     let r = record_at(rels, i);
@@ -149,7 +149,7 @@ fn is_plain(r: MachRel) -> bool
 
 // What stands at record i. An ADDEND record gives its offset and its addend to the record after it.
 pub fn read_one(contents: &[u8], rels: &[u8], sections: &[u64], i: usize) -> Step
-    requires { ⌜ i < length (now rels) / 8 ⌝ }
+    requires { ⌜ i < recordCount (now rels) ⌝ }
     ensures { λ s. ⌜ s ≡ stepAt (now (contents .entry)) (now (sections .entry)) false (recordsOf (now (rels .entry))) i ⌝ }
 {
     let first = record_at(rels, i);
@@ -162,7 +162,7 @@ pub fn read_one(contents: &[u8], rels: &[u8], sections: &[u64], i: usize) -> Ste
         return Step::Read(entry_of(first, subtracted, offset, first.idx(), 0), i + 1);
     }
     let j = own_number(rels, i);
-    if j < rels.len() / 8 {
+    if j < rels.len() / MachRel::SIZE {
         let loc = contents_from(contents, offset);
         let own = record_at(rels, j);
         let subtracted = is_subtracted(rels, j, ARM64_RELOC_SUBTRACTOR);
@@ -181,7 +181,7 @@ pub fn read_one(contents: &[u8], rels: &[u8], sections: &[u64], i: usize) -> Ste
 
 // The same of a record that is known to read, without the checks of its form and its word.
 pub fn enter_one(contents: &[u8], rels: &[u8], sections: &[u64], i: usize) -> Step
-    requires { ⌜ (i < length (now rels) / 8) × Reads (stepAt (now contents) (now sections) false (recordsOf (now rels)) i) ⌝ }
+    requires { ⌜ (i < recordCount (now rels)) × Reads (stepAt (now contents) (now sections) false (recordsOf (now rels)) i) ⌝ }
     ensures { λ s. ⌜ s ≡ stepAt (now (contents .entry)) (now (sections .entry)) false (recordsOf (now (rels .entry))) i ⌝ }
 {
     let first = record_at(rels, i);
@@ -189,7 +189,7 @@ pub fn enter_one(contents: &[u8], rels: &[u8], sections: &[u64], i: usize) -> St
         return Step::Refused(Refusal::Bounds);
     }
     let j = own_number(rels, i);
-    if j < rels.len() / 8 {
+    if j < rels.len() / MachRel::SIZE {
         return enter_record(
             contents_from(contents, first.offset),
             sections,

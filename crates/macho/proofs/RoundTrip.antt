@@ -12,11 +12,11 @@ use Rattle.util.specs.Part.{part}
 use Rattle.util.specs.Word.{le, put}
 use Rattle.util.proofs.Word.{le-put, le-put-other}
 use Rattle.macho.specs.Record.{Field, _of_, unused, sizeOf, bytesOf, Fits, Zeros, listBytes}
-use Rattle.macho.specs.MachRel.{machRelAt, machRelFields, machRelBytes}
-use Rattle.macho.specs.Reloc.{relocAt, relocFields, relocBytes}
-use Rattle.macho.specs.Resolved.{resolvedAt, resolvedFields, resolvedBytes}
-use Rattle.macho.specs.Report.{reportAt, reportFields, reportBytes}
-use Rattle.macho.specs.Hint.{insnAt, hintAt, insnFields, hintFields, hintBytes}
+use Rattle.macho.specs.MachRel.{machRelSize, machRelAt, machRelFields, machRelBytes}
+use Rattle.macho.specs.Reloc.{relocSize, relocAt, relocFields, relocBytes}
+use Rattle.macho.specs.Resolved.{resolvedSize, resolvedAt, resolvedFields, resolvedBytes}
+use Rattle.macho.specs.Report.{reportSize, reportAt, reportFields, reportBytes}
+use Rattle.macho.specs.Hint.{hintSize, insnAt, hintAt, insnFields, hintFields, hintBytes}
 use Rattle.macho.specs.declared.reloc.Reloc.{Reloc}
 use Rattle.macho.proofs.Record.{length-bytesOf, HoldsFrom, held, part-held, held-ext, held-unused}
 
@@ -84,7 +84,7 @@ module _ {A : Type 0} {n : ℕ} {value : List ℕ → ℕ → A} {fields : A →
   value-in-list rs ys k d l h = ap (value (listBytes image rs ++ ys)) (sym (zero-add (n * k))) ∙ in-list rs [] ys 0 k d refl l h
 
 -- the five records
-pub machRel : Layout 8 machRelAt machRelFields machRelBytes
+pub machRel : Layout machRelSize machRelAt machRelFields machRelBytes
 unfolding machRelAt machRelBytes
 machRel =
     record {
@@ -94,7 +94,7 @@ machRel =
       has = λ s at. (refl, (refl, tt));
     }
 
-pub reloc : Layout 24 relocAt relocFields relocBytes
+pub reloc : Layout relocSize relocAt relocFields relocBytes
 unfolding relocAt relocBytes
 reloc =
     record {
@@ -104,7 +104,7 @@ reloc =
       has = λ s at. (refl, (refl, (refl, (refl, (refl, (refl, (refl, (refl, tt))))))));
     }
 
-pub resolved : Layout 48 resolvedAt resolvedFields resolvedBytes
+pub resolved : Layout resolvedSize resolvedAt resolvedFields resolvedBytes
 unfolding resolvedAt resolvedBytes
 resolved =
     record {
@@ -114,7 +114,7 @@ resolved =
       has = λ s at. (refl, (refl, (refl, (refl, (refl, (refl, (refl, tt)))))));
     }
 
-pub report : Layout 24 reportAt reportFields reportBytes
+pub report : Layout reportSize reportAt reportFields reportBytes
 unfolding reportAt reportBytes
 report =
     record {
@@ -124,7 +124,7 @@ report =
       has = λ s at. (refl, (refl, (refl, (refl, (refl, tt)))));
     }
 
-pub hint : Layout 64 hintAt hintFields hintBytes
+pub hint : Layout hintSize hintAt hintFields hintBytes
 unfolding insnAt hintAt hintBytes
 hint =
     record {

@@ -11,6 +11,14 @@ use Rattle.macho.specs.Record.{Field, _of_, unused, bytesOf}
 use Rattle.macho.specs.declared.hint.HintInsn.{HintInsn}
 use Rattle.macho.specs.declared.hint.HintRecord.{HintRecord}
 
+-- the size of one of a hint's places in bytes
+abbrev pub insnSize : ℕ
+insnSize = 16
+
+-- a hint's size in bytes
+abbrev pub hintSize : ℕ
+hintSize = 64
+
 -- one of a hint's places: offset in the part, entry number, the word's own address
 unfoldable pub insnAt : List ℕ → ℕ → HintInsn
 insnAt s at = record { off = le 4 s at; rel = le 4 s (at + 4); addr = le 8 s (at + 8) }

@@ -6,6 +6,10 @@ use Rattle.util.specs.Bits.{field}
 use Rattle.macho.specs.Record.{Field, _of_, bytesOf}
 use Rattle.macho.specs.declared.rel.MachRel.{MachRel}
 
+-- its size in bytes
+abbrev pub machRelSize : ℕ
+machRelSize = 8
+
 -- the record at a place: r_address, then the packed fields
 unfoldable pub machRelAt : List ℕ → ℕ → MachRel
 machRelAt s at = record { offset = le 4 s at; bits = le 4 s (at + 4) }

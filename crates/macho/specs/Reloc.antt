@@ -1,5 +1,5 @@
 -- An entry, 24 bytes (document 01, "Records lent by the linker").
-use Prim.Native.Nat.{ℕ, _+_}
+use Prim.Native.Nat.{ℕ, _+_, _^_}
 use mathlib.Core.Bool.{Bool}
 use mathlib.Core.List.{List, [], _∷_}
 use lib.Dec.{eqb}
@@ -7,6 +7,10 @@ use Rattle.util.specs.Word.{le}
 use Rattle.util.specs.Bits.{field}
 use Rattle.macho.specs.Record.{Field, _of_, bytesOf}
 use Rattle.macho.specs.declared.reloc.Reloc.{Reloc}
+
+-- its size in bytes
+abbrev pub relocSize : ℕ
+relocSize = 24
 
 -- the entry at a place
 unfoldable pub relocAt : List ℕ → ℕ → Reloc
@@ -31,6 +35,10 @@ relocFields r =
 unfoldable pub relocBytes : Reloc → List ℕ
 relocBytes r = bytesOf (relocFields r)
 
--- whether a target names a section: bit 31
+-- the bit of a target that names a section
+abbrev pub targetSection : ℕ
+targetSection = 2 ^ 31
+
+-- whether a target has it: bit 31
 abbrev pub isSection : ℕ → Bool
 isSection target = eqb (field target 31 1) 1

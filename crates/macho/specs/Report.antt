@@ -5,6 +5,10 @@ use Rattle.util.specs.Word.{le}
 use Rattle.macho.specs.Record.{Field, _of_, unused, bytesOf}
 use Rattle.macho.specs.declared.report.Report.{Report}
 
+-- its size in bytes
+abbrev pub reportSize : ℕ
+reportSize = 24
+
 -- the report at a place
 unfoldable pub reportAt : List ℕ → ℕ → Report
 reportAt s at =

@@ -8,6 +8,10 @@ use Rattle.util.specs.Bits.{field}
 use Rattle.macho.specs.Record.{Field, _of_, bytesOf}
 use Rattle.macho.specs.declared.resolved.Resolved.{Resolved}
 
+-- its size in bytes
+abbrev pub resolvedSize : ℕ
+resolvedSize = 48
+
 -- the resolved target at a place
 unfoldable pub resolvedAt : List ℕ → ℕ → Resolved
 resolvedAt s at =

@@ -6,7 +6,7 @@ use util::read64;
 ghost use mathlib.Core.Path.{_≡_};
 ghost use Prim.Native.Nat.{_+_, _≤_, _<_};
 ghost use lib.ListN.{length};
-ghost use Rattle.macho.specs.Hint.{insnAt, hintAt, hintCount, hintOf, wordCount};
+ghost use Rattle.macho.specs.Hint.{insnSize, hintSize, insnAt, hintAt, hintCount, hintOf, wordCount};
 
 // One of a hint's places, 16 bytes: offset in the part, entry number, the word's own address.
 pub struct HintInsn {
@@ -35,7 +35,7 @@ impl HintInsn {
 
     // The place at `at`.
     pub fn read(s: &[u8], at: usize) -> HintInsn
-        requires { ⌜ at + 16 ≤ length (now s) ⌝ }
+        requires { ⌜ at + insnSize ≤ length (now s) ⌝ }
         ensures { λ r. ⌜ r ≡ insnAt (now (s .entry)) at ⌝ }
     {
         HintInsn {
@@ -51,7 +51,7 @@ impl HintRecord {
 
     // The hint at `at`.
     pub fn read(s: &[u8], at: usize) -> HintRecord
-        requires { ⌜ at + 64 ≤ length (now s) ⌝ }
+        requires { ⌜ at + hintSize ≤ length (now s) ⌝ }
         ensures { λ r. ⌜ r ≡ hintAt (now (s .entry)) at ⌝ }
     {
         HintRecord {

@@ -4,7 +4,7 @@ ghost use mathlib.Core.Path.{_≡_};
 ghost use Prim.Native.Nat.{_+_, _≤_};
 ghost use lib.Dec.{eqb};
 ghost use lib.ListN.{length};
-ghost use Rattle.macho.specs.MachRel.{machRelAt, idxOf, pcrelOf, p2sizeOf, externOf, typeOf, formOf};
+ghost use Rattle.macho.specs.MachRel.{machRelSize, machRelAt, idxOf, pcrelOf, p2sizeOf, externOf, typeOf, formOf};
 
 // A relocation record, 8 bytes: the address of the field, and the packed bit fields.
 pub struct MachRel {
@@ -17,7 +17,7 @@ impl MachRel {
 
     // The record at `at`.
     pub fn read(s: &[u8], at: usize) -> MachRel
-        requires { ⌜ at + 8 ≤ length (now s) ⌝ }
+        requires { ⌜ at + machRelSize ≤ length (now s) ⌝ }
         ensures { λ r. ⌜ r ≡ machRelAt (now (s .entry)) at ⌝ }
     {
         MachRel {

@@ -9,7 +9,7 @@ ghost use mathlib.Core.Path.{_≡_};
 ghost use Prim.Native.Nat.{_+_, _≤_};
 ghost use lib.ListN.{length};
 ghost use lib.Seq.{sets};
-ghost use Rattle.macho.specs.Reloc.{relocAt, relocBytes, isSection};
+ghost use Rattle.macho.specs.Reloc.{relocSize, relocAt, relocBytes, isSection};
 
 // The bit of a target that names a section.
 pub const TARGET_SECTION: u32 = 0x8000_0000;
@@ -31,7 +31,7 @@ impl Reloc {
 
     // The entry at `at`.
     pub fn read(s: &[u8], at: usize) -> Reloc
-        requires { ⌜ at + 24 ≤ length (now s) ⌝ }
+        requires { ⌜ at + relocSize ≤ length (now s) ⌝ }
         ensures { λ r. ⌜ r ≡ relocAt (now (s .entry)) at ⌝ }
     {
         Reloc {
@@ -48,7 +48,7 @@ impl Reloc {
 
     // Stores the entry at `at`.
     pub fn write(self, s: &mut [u8], at: usize)
-        requires { ⌜ at + 24 ≤ length (now s) ⌝ }
+        requires { ⌜ at + relocSize ≤ length (now s) ⌝ }
         ensures { λ _. ⌜ now (s .exit) ≡ sets (now (s .entry)) at (relocBytes self) ⌝ }
     {
         write_head(

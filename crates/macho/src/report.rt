@@ -8,7 +8,7 @@ ghost use mathlib.Core.Path.{_≡_};
 ghost use Prim.Native.Nat.{_+_, _≤_};
 ghost use lib.ListN.{length};
 ghost use lib.Seq.{sets};
-ghost use Rattle.macho.specs.Report.{reportAt, reportBytes};
+ghost use Rattle.macho.specs.Report.{reportSize, reportAt, reportBytes};
 
 // A report, 24 bytes: entry number, kind, size (alignment), two zero bytes, place and target (reach).
 pub struct Report {
@@ -33,7 +33,7 @@ impl Report {
 
     // The report at `at`.
     pub fn read(s: &[u8], at: usize) -> Report
-        requires { ⌜ at + 24 ≤ length (now s) ⌝ }
+        requires { ⌜ at + reportSize ≤ length (now s) ⌝ }
         ensures { λ r. ⌜ r ≡ reportAt (now (s .entry)) at ⌝ }
     {
         Report {
@@ -47,7 +47,7 @@ impl Report {
 
     // Stores the report at `at`.
     pub fn write(self, s: &mut [u8], at: usize)
-        requires { ⌜ at + 24 ≤ length (now s) ⌝ }
+        requires { ⌜ at + reportSize ≤ length (now s) ⌝ }
         ensures { λ _. ⌜ now (s .exit) ≡ sets (now (s .entry)) at (reportBytes self) ⌝ }
     {
         write_head(s, at, self.entry, self.kind, self.size, 0, 0);

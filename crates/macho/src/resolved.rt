@@ -4,7 +4,7 @@ use util::read64;
 ghost use mathlib.Core.Path.{_≡_};
 ghost use Prim.Native.Nat.{_+_, _≤_, _<_};
 ghost use lib.ListN.{length};
-ghost use Rattle.macho.specs.Resolved.{resolvedAt, flagOf, wellFormed};
+ghost use Rattle.macho.specs.Resolved.{resolvedSize, resolvedAt, flagOf, wellFormed};
 ghost use Rattle.macho.specs.Resolved.{isImported, isTls, hasAddress, canRelaxGot, hasThunk, hasHelper, helperIsOwn, isProbe, isEnabled};
 
 // A resolved target, 48 bytes: address, GOT slot, branch target, thunk, helper, flags, four zero bytes.
@@ -23,7 +23,7 @@ impl Resolved {
 
     // The resolved target at `at`.
     pub fn read(s: &[u8], at: usize) -> Resolved
-        requires { ⌜ at + 48 ≤ length (now s) ⌝ }
+        requires { ⌜ at + resolvedSize ≤ length (now s) ⌝ }
         ensures { λ r. ⌜ r ≡ resolvedAt (now (s .entry)) at ⌝ }
     {
         Resolved {

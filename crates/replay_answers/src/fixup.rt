@@ -6,6 +6,7 @@ use crate::list::value;
 use arm64_fixup::walk::apply_reloc_alloc;
 use check::same;
 use macho::refusal::Answer;
+use macho::report::Report;
 use util::read64;
 ghost use Prim.Native.Nat.{_≤_};
 ghost use lib.ListN.{length};
@@ -38,7 +39,7 @@ fn holds_in(head: &[u8; 16], body: &[u8], section: &mut [u8], slots: &mut [u8]) 
     let after = targets + value(head, 3);
     let reports = after + len;
     let filled = value(head, 5);
-    if body.len() != reports + 24 * filled {
+    if body.len() != reports + Report::SIZE * filled {
         return false;
     }
     if section.len() != len {

@@ -4,6 +4,7 @@ use crate::list::put_pattern;
 use crate::list::value;
 use arm64_reader::read::read_relocs;
 use macho::refusal::Answer;
+use macho::reloc::Reloc;
 use util::read64;
 ghost use Prim.Native.Nat.{_*_, _≤_};
 ghost use lib.ListN.{length};
@@ -40,7 +41,7 @@ fn holds_in(head: &[u8; 16], body: &[u8], slots: &mut [u8], list: &mut [u64]) ->
     let sections = records + value(head, 2);
     let entries = sections + 8 * list.len();
     let filled = value(head, 5);
-    if body.len() != entries + 24 * filled {
+    if body.len() != entries + Reloc::SIZE * filled {
         return false;
     }
     put_addresses(list, &body[sections..entries]);
