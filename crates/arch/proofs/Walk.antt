@@ -250,22 +250,22 @@ kept-of (entries es) x s e = let z : _≡_ {A = ℕ} 0 1 = cc in absurd (omega a
 
 -- lengths that fit leave room for an entry a record
 unfoldable pub Room : ℕ → ℕ → Check → Type 0
-Room rels slots (C.Refused x) = Unit {0}
-Room rels slots C.Fit = 24 * (rels / 8) ≤ slots
+Room records slots (C.Refused x) = Unit {0}
+Room records slots C.Fit = 24 * (records / 8) ≤ slots
 
-room : (rels sections slots : ℕ) → Room rels slots (lengthsOf rels sections slots)
+room : (records sections slots : ℕ) → Room records slots (lengthsOf records sections slots)
 unfolding lengthsOf Room
-room rels sections slots =
-    split R (eqb (rels % 8) 0) _ _
+room records sections slots =
+    split R (eqb (records % 8) 0) _ _
     (λ _.
-    chosen R (ltb (2 ^ 32 - 1) (rels / 8)) _ _ tt
+    chosen R (ltb (2 ^ 32 - 1) (records / 8)) _ _ tt
     (chosen R (ltb (2 ^ 32 - 1) sections) _ _ tt
-    (split R (ltb slots (24 * (rels / 8))) _ _ (λ _. tt) (λ e. ltb-false slots (24 * (rels / 8)) e))))
+    (split R (ltb slots (24 * (records / 8))) _ _ (λ _. tt) (λ e. ltb-false slots (24 * (records / 8)) e))))
     (λ _. tt)
   where
     R : Check → Type 0
-    R = Room rels slots
+    R = Room records slots
 
-pub fit-room : (rels sections slots : ℕ) → lengthsOf rels sections slots ≡ C.Fit → 24 * (rels / 8) ≤ slots
+pub fit-room : (records sections slots : ℕ) → lengthsOf records sections slots ≡ C.Fit → 24 * (records / 8) ≤ slots
 unfolding Room
-fit-room rels sections slots e = subst (Room rels slots) e (room rels sections slots)
+fit-room records sections slots e = subst (Room records slots) e (room records sections slots)

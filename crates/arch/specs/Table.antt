@@ -35,9 +35,9 @@ subtractedAt subtractor before rs i = choose (eqb i 0) before (eqb (typeOf (reco
 
 -- numbers 1 and 2, of the lengths that a reader is lent
 unfoldable pub lengthsOf : ℕ → ℕ → ℕ → Check
-lengthsOf rels sections slots =
-    choose (eqb (rels % machRelSize) 0)
-    (choose (ltb (2 ^ 32 - 1) (rels / machRelSize))
+lengthsOf records sections slots =
+    choose (eqb (records % machRelSize) 0)
+    (choose (ltb (2 ^ 32 - 1) (records / machRelSize))
     (Refused Lengths)
-    (choose (ltb (2 ^ 32 - 1) sections) (Refused Lengths) (choose (ltb slots (relocSize * (rels / machRelSize))) (Refused Slots) Fit)))
+    (choose (ltb (2 ^ 32 - 1) sections) (Refused Lengths) (choose (ltb slots (relocSize * (records / machRelSize))) (Refused Slots) Fit)))
     (Refused Lengths)

@@ -9,38 +9,38 @@ ghost use Prim.Native.Nat.{_<_};
 ghost use Rattle.arch.specs.Table.{recordCount, recordsOf, recordAt, subtractedAt, lengthsOf};
 
 // Record i.
-pub fn record_at(rels: &[u8], i: usize) -> MachRel
-    requires { ⌜ i < recordCount (now rels) ⌝ }
-    ensures { λ r. ⌜ r ≡ recordAt (recordsOf (now (rels .entry))) i ⌝ }
+pub fn record_at(records: &[u8], i: usize) -> MachRel
+    requires { ⌜ i < recordCount (now records) ⌝ }
+    ensures { λ r. ⌜ r ≡ recordAt (recordsOf (now (records .entry))) i ⌝ }
 {
-    MachRel::read(rels, MachRel::SIZE * i)
+    MachRel::read(records, MachRel::SIZE * i)
 }
 
 // Whether the record directly before record i is of the machine's SUBTRACTOR type.
-pub fn is_subtracted(rels: &[u8], i: usize, subtractor: u8) -> bool
-    requires { ⌜ i < recordCount (now rels) ⌝ }
-    ensures { λ r. ⌜ r ≡ subtractedAt subtractor false (recordsOf (now (rels .entry))) i ⌝ }
+pub fn is_subtracted(records: &[u8], i: usize, subtractor: u8) -> bool
+    requires { ⌜ i < recordCount (now records) ⌝ }
+    ensures { λ r. ⌜ r ≡ subtractedAt subtractor false (recordsOf (now (records .entry))) i ⌝ }
 {
     if i == 0 {
         return false;
     }
-    record_at(rels, i - 1).ty() == subtractor
+    record_at(records, i - 1).ty() == subtractor
 }
 
 // The lengths that a reader is lent: of the records and the slots in bytes, of the section list in addresses.
-pub fn check_lengths(rels: usize, sections: usize, slots: usize) -> Check
-    ensures { λ r. ⌜ r ≡ lengthsOf rels sections slots ⌝ }
+pub fn check_lengths(records: usize, sections: usize, slots: usize) -> Check
+    ensures { λ r. ⌜ r ≡ lengthsOf records sections slots ⌝ }
 {
-    if rels % MachRel::SIZE != 0 {
+    if records % MachRel::SIZE != 0 {
         return Check::Refused(Refusal::Lengths);
     }
-    if 0xffff_ffff < rels / MachRel::SIZE {
+    if 0xffff_ffff < records / MachRel::SIZE {
         return Check::Refused(Refusal::Lengths);
     }
     if 0xffff_ffff < sections {
         return Check::Refused(Refusal::Lengths);
     }
-    if slots / Reloc::SIZE < rels / MachRel::SIZE {
+    if slots / Reloc::SIZE < records / MachRel::SIZE {
         return Check::Refused(Refusal::Slots);
     }
     Check::Fit

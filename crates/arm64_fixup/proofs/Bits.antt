@@ -64,30 +64,30 @@ branch-word-bits x d =
 
 -- ---- through the call
 
-module _ {section : List ℕ} {b : Bases} {rels targets slots : List ℕ} {f : Fixed} {k : ℕ} (l : Lone section b rels targets slots f k) where
+module _ {section : List ℕ} {b : Bases} {entries targets slots : List ℕ} {f : Fixed} {k : ℕ} (l : Lone section b entries targets slots f k) where
   -- a page: bit 31, bits 28..24 and bits 4..0 stay, bits 30..29 and 23..5 are the immediate
-  pub page-bits : {target : ℕ} → Page (entryAt rels k) (targetAt targets k) target
-      → (field (wordAt rels (f .section) k) 31 1 ≡ field (wordAt rels section k) 31 1)
-      × (field (wordAt rels (f .section) k) 24 5 ≡ field (wordAt rels section k) 24 5)
-      × (field (wordAt rels (f .section) k) 0 5 ≡ field (wordAt rels section k) 0 5)
-      × (imm21In (wordAt rels (f .section) k) ≡ pageImm target (placeOf b (entryAt rels k)))
-  page-bits {target} r = rw (page-word l r) (adrp-with-bits (wordAt rels section k) target (placeOf b (entryAt rels k)))
+  pub page-bits : {target : ℕ} → Page (entryAt entries k) (targetAt targets k) target
+      → (field (wordAt entries (f .section) k) 31 1 ≡ field (wordAt entries section k) 31 1)
+      × (field (wordAt entries (f .section) k) 24 5 ≡ field (wordAt entries section k) 24 5)
+      × (field (wordAt entries (f .section) k) 0 5 ≡ field (wordAt entries section k) 0 5)
+      × (imm21In (wordAt entries (f .section) k) ≡ pageImm target (placeOf b (entryAt entries k)))
+  page-bits {target} r = rw (page-word l r) (adrp-with-bits (wordAt entries section k) target (placeOf b (entryAt entries k)))
 
   -- a page offset that is a multiple of the word's scale: bits 31..22 and 9..0 stay, bits 21..10 are the offset in that scale
-  pub offset-bits : {target : ℕ} → Offset (entryAt rels k) (targetAt targets k) target → target % 2 ^ scaleOf (wordAt rels section k) ≡ 0
-      → (field (wordAt rels (f .section) k) 22 10 ≡ field (wordAt rels section k) 22 10)
-      × (imm12In (wordAt rels (f .section) k) ≡ target % 2 ^ 12 / 2 ^ scaleOf (wordAt rels section k))
-      × (field (wordAt rels (f .section) k) 0 10 ≡ field (wordAt rels section k) 0 10)
+  pub offset-bits : {target : ℕ} → Offset (entryAt entries k) (targetAt targets k) target → target % 2 ^ scaleOf (wordAt entries section k) ≡ 0
+      → (field (wordAt entries (f .section) k) 22 10 ≡ field (wordAt entries section k) 22 10)
+      × (imm12In (wordAt entries (f .section) k) ≡ target % 2 ^ 12 / 2 ^ scaleOf (wordAt entries section k))
+      × (field (wordAt entries (f .section) k) 0 10 ≡ field (wordAt entries section k) 0 10)
   offset-bits {target} r h =
-      let q = div-le-self (target % 2 ^ 12) (2 ^ scaleOf (wordAt rels section k)) in
+      let q = div-le-self (target % 2 ^ 12) (2 ^ scaleOf (wordAt entries section k)) in
       rw (offset-word l r h)
-      (three-fields (field (wordAt rels section k) 22 10) (target % 2 ^ 12 / 2 ^ scaleOf (wordAt rels section k)) (field (wordAt rels section k) 0 10)
+      (three-fields (field (wordAt entries section k) 22 10) (target % 2 ^ 12 / 2 ^ scaleOf (wordAt entries section k)) (field (wordAt entries section k) 0 10)
       (omega arith) (omega arith) (omega arith))
 
   -- a branch at no tracing site: bits 31..26 stay, bits 25..0 are the displacement in words
-  pub branch-bits : entryAt rels k .ty ≡ ARM64-RELOC-BRANCH26 → dtraceSiteInsn (entryAt rels k) (targetAt targets k) ≡ Untraced
-      → (field (wordAt rels (f .section) k) 26 6 ≡ field (wordAt rels section k) 26 6)
-      × (imm26In (wordAt rels (f .section) k) ≡ field (displacement (entryAt rels k) (targetAt targets k) (placeOf b (entryAt rels k))) 2 26)
+  pub branch-bits : entryAt entries k .ty ≡ ARM64-RELOC-BRANCH26 → dtraceSiteInsn (entryAt entries k) (targetAt targets k) ≡ Untraced
+      → (field (wordAt entries (f .section) k) 26 6 ≡ field (wordAt entries section k) 26 6)
+      × (imm26In (wordAt entries (f .section) k) ≡ field (displacement (entryAt entries k) (targetAt targets k) (placeOf b (entryAt entries k))) 2 26)
   branch-bits ty plain =
       rw (branch-word l ty plain)
-      (branch-word-bits (wordAt rels section k) (displacement (entryAt rels k) (targetAt targets k) (placeOf b (entryAt rels k))))
+      (branch-word-bits (wordAt entries section k) (displacement (entryAt entries k) (targetAt targets k) (placeOf b (entryAt entries k))))

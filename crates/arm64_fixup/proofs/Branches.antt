@@ -55,68 +55,69 @@ branch-word-lt : (w d : ℕ) → branchWord w d < 2 ^ 32
 unfolding branchWord
 branch-word-lt w d = omega arith
 
-module _ {section : List ℕ} {b : Bases} {rels targets slots : List ℕ} {f : Fixed} {k : ℕ} (l : Lone section b rels targets slots f k)
-    (ty : entryAt rels k .ty ≡ ARM64-RELOC-BRANCH26) (plain : dtraceSiteInsn (entryAt rels k) (targetAt targets k) ≡ Untraced)
+module _ {section : List ℕ} {b : Bases} {entries targets slots : List ℕ} {f : Fixed} {k : ℕ} (l : Lone section b entries targets slots f k)
+    (ty : entryAt entries k .ty ≡ ARM64-RELOC-BRANCH26) (plain : dtraceSiteInsn (entryAt entries k) (targetAt targets k) ≡ Untraced)
   where
     -- any word, at no tracing site: bits 31..26 stay, the others are the displacement in words
-    pub branch-word : wordAt rels (f .section) k
-        ≡ branchWord (wordAt rels section k) (displacement (entryAt rels k) (targetAt targets k) (placeOf b (entryAt rels k)))
+    pub branch-word : wordAt entries (f .section) k
+        ≡ branchWord (wordAt entries section k) (displacement (entryAt entries k) (targetAt targets k) (placeOf b (entryAt entries k)))
     branch-word =
         stores-word l
         (ap (λ (c : Change). c .write) (branch-untraced b k _ _ _ _ _ ty plain)
-        ∙ branch-write (siteOf b k (entryAt rels k)) (entryAt rels k) (targetAt targets k) (wordAt rels section k))
-        ∙ mod-eq-of-lt (branch-word-lt (wordAt rels section k) (displacement (entryAt rels k) (targetAt targets k) (placeOf b (entryAt rels k))))
+        ∙ branch-write (siteOf b k (entryAt entries k)) (entryAt entries k) (targetAt targets k) (wordAt entries section k))
+        ∙ mod-eq-of-lt (branch-word-lt (wordAt entries section k) (displacement (entryAt entries k) (targetAt targets k) (placeOf b (entryAt entries k))))
 
     -- a B stays a B, and a BL a BL
-    pub b-stays : (imm26 : ℕ) → decode (wordAt rels section k) ≡ form (B imm26)
-        → decode (wordAt rels (f .section) k) ≡ form (B (field (displacement (entryAt rels k) (targetAt targets k) (placeOf b (entryAt rels k))) 2 26))
+    pub b-stays : (imm26 : ℕ) → decode (wordAt entries section k) ≡ form (B imm26)
+        → decode (wordAt entries (f .section) k) ≡ form (B (field (displacement (entryAt entries k) (targetAt targets k) (placeOf b (entryAt entries k))) 2 26))
     b-stays imm26 d = ap decode branch-word ∙ b-patched _ imm26 _ d
 
-    pub bl-stays : (imm26 : ℕ) → decode (wordAt rels section k) ≡ form (BL imm26)
-        → decode (wordAt rels (f .section) k) ≡ form (BL (field (displacement (entryAt rels k) (targetAt targets k) (placeOf b (entryAt rels k))) 2 26))
+    pub bl-stays : (imm26 : ℕ) → decode (wordAt entries section k) ≡ form (BL imm26)
+        → decode (wordAt entries (f .section) k)
+        ≡ form (BL (field (displacement (entryAt entries k) (targetAt targets k) (placeOf b (entryAt entries k))) 2 26))
     bl-stays imm26 d = ap decode branch-word ∙ bl-patched _ imm26 _ d
 
     -- in reach it goes to T, where place and T are multiples of 4
-    pub goes : branchReaches (branchTarget (entryAt rels k) (targetAt targets k)) (placeOf b (entryAt rels k)) ≡ true
-        → branchTarget (entryAt rels k) (targetAt targets k) % 4 ≡ 0
-        → placeOf b (entryAt rels k) % 4 ≡ 0
-        → M.branchTarget (field (displacement (entryAt rels k) (targetAt targets k) (placeOf b (entryAt rels k))) 2 26) (placeOf b (entryAt rels k))
-        ≡ branchTarget (entryAt rels k) (targetAt targets k)
+    pub goes : branchReaches (branchTarget (entryAt entries k) (targetAt targets k)) (placeOf b (entryAt entries k)) ≡ true
+        → branchTarget (entryAt entries k) (targetAt targets k) % 4 ≡ 0
+        → placeOf b (entryAt entries k) % 4 ≡ 0
+        → M.branchTarget (field (displacement (entryAt entries k) (targetAt targets k) (placeOf b (entryAt entries k))) 2 26) (placeOf b (entryAt entries k))
+        ≡ branchTarget (entryAt entries k) (targetAt targets k)
     goes near t p =
-        ap (λ (d : ℕ). M.branchTarget (field d 2 26) (placeOf b (entryAt rels k))) (choose-true _ _ _ near)
+        ap (λ (d : ℕ). M.branchTarget (field d 2 26) (placeOf b (entryAt entries k))) (choose-true _ _ _ near)
         ∙ branch-means _ _ (branch-lt _ _) (passed l .place) near t p
 
     -- else, where a thunk serves and is in reach of the branch, to the thunk
-    pub goes-by-thunk : branchReaches (branchTarget (entryAt rels k) (targetAt targets k)) (placeOf b (entryAt rels k)) ≡ false
-        → thunkServes (entryAt rels k) (targetAt targets k) (branchTarget (entryAt rels k) (targetAt targets k)) ≡ true
-        → branchReaches (targetAt targets k .thunk) (placeOf b (entryAt rels k)) ≡ true
+    pub goes-by-thunk : branchReaches (branchTarget (entryAt entries k) (targetAt targets k)) (placeOf b (entryAt entries k)) ≡ false
+        → thunkServes (entryAt entries k) (targetAt targets k) (branchTarget (entryAt entries k) (targetAt targets k)) ≡ true
+        → branchReaches (targetAt targets k .thunk) (placeOf b (entryAt entries k)) ≡ true
         → targetAt targets k .thunk < 2 ^ 64
         → targetAt targets k .thunk % 4 ≡ 0
-        → placeOf b (entryAt rels k) % 4 ≡ 0
-        → M.branchTarget (field (displacement (entryAt rels k) (targetAt targets k) (placeOf b (entryAt rels k))) 2 26) (placeOf b (entryAt rels k))
+        → placeOf b (entryAt entries k) % 4 ≡ 0
+        → M.branchTarget (field (displacement (entryAt entries k) (targetAt targets k) (placeOf b (entryAt entries k))) 2 26) (placeOf b (entryAt entries k))
         ≡ targetAt targets k .thunk
     goes-by-thunk far serves near lt t p =
-        ap (λ (d : ℕ). M.branchTarget (field d 2 26) (placeOf b (entryAt rels k))) (choose-false _ _ _ far ∙ choose-true _ _ _ serves)
+        ap (λ (d : ℕ). M.branchTarget (field d 2 26) (placeOf b (entryAt entries k))) (choose-false _ _ _ far ∙ choose-true _ _ _ serves)
         ∙ branch-means _ _ lt (passed l .place) near t p
 
 -- at a tracing site
-module _ {section : List ℕ} {b : Bases} {rels targets slots : List ℕ} {f : Fixed} {k : ℕ} (l : Lone section b rels targets slots f k)
-    (ty : entryAt rels k .ty ≡ ARM64-RELOC-BRANCH26)
+module _ {section : List ℕ} {b : Bases} {entries targets slots : List ℕ} {f : Fixed} {k : ℕ} (l : Lone section b entries targets slots f k)
+    (ty : entryAt entries k .ty ≡ ARM64-RELOC-BRANCH26)
   where
-    site-word : {w : ℕ} → dtraceSiteInsn (entryAt rels k) (targetAt targets k) ≡ Insn w → wordAt rels (f .section) k ≡ w % 2 ^ 32
+    site-word : {w : ℕ} → dtraceSiteInsn (entryAt entries k) (targetAt targets k) ≡ Insn w → wordAt entries (f .section) k ≡ w % 2 ^ 32
     site-word d =
         stores-word l
         (ap (λ (c : Change). c .write)
         (branch-does b k _ _ _ _ _ ty
-        ∙ ap (λ (d : Traced). branchUnless d (branch (siteOf b k (entryAt rels k)) (entryAt rels k) (targetAt targets k) (wordAt rels section k))) d))
+        ∙ ap (λ (d : Traced). branchUnless d (branch (siteOf b k (entryAt entries k)) (entryAt entries k) (targetAt targets k) (wordAt entries section k))) d))
 
     -- a symbol's probe becomes NOP, is-enabled "movz x0, #0"
-    pub probe-site : isSymbol (entryAt rels k) ≡ true → isProbe (targetAt targets k) ≡ true → decode (wordAt rels (f .section) k) ≡ form NOP
+    pub probe-site : isSymbol (entryAt entries k) ≡ true → isProbe (targetAt targets k) ≡ true → decode (wordAt entries (f .section) k) ≡ form NOP
     unfolding dtraceSiteInsn choose
     probe-site s p = ap decode (site-word {w = nopWord} (rw (s, p))) ∙ nop-made
 
-    pub is-enabled-site : isSymbol (entryAt rels k) ≡ true → isProbe (targetAt targets k) ≡ false → isEnabled (targetAt targets k) ≡ true
-        → decode (wordAt rels (f .section) k) ≡ form (MOVZ 1 0 0 0)
+    pub is-enabled-site : isSymbol (entryAt entries k) ≡ true → isProbe (targetAt targets k) ≡ false → isEnabled (targetAt targets k) ≡ true
+        → decode (wordAt entries (f .section) k) ≡ form (MOVZ 1 0 0 0)
     unfolding dtraceSiteInsn choose
     is-enabled-site s p e = ap decode (site-word {w = isEnabledWord} (rw (s, p, e))) ∙ is-enabled-made
 
@@ -130,29 +131,31 @@ helper-lt : (own : Bool) (d : ℕ) → helperWord own d < 2 ^ 32
 unfolding helperWord
 helper-lt own d = chosen (λ (w : ℕ). w < 2 ^ 32) own _ _ (encode-lt (B (field d 2 26)) (omega arith)) (encode-lt (BL (field d 2 26)) (omega arith))
 
-module _ {section : List ℕ} {b : Bases} {rels targets slots : List ℕ} {f : Fixed} {k : ℕ} (l : Lone section b rels targets slots f k)
-    (ty : entryAt rels k .ty ≡ ARM64-RELOC-GOT-LOAD-PAGE21) (h : hasHelper (targetAt targets k) ≡ true)
+module _ {section : List ℕ} {b : Bases} {entries targets slots : List ℕ} {f : Fixed} {k : ℕ} (l : Lone section b entries targets slots f k)
+    (ty : entryAt entries k .ty ≡ ARM64-RELOC-GOT-LOAD-PAGE21) (h : hasHelper (targetAt targets k) ≡ true)
   where
-    helper-word : wordAt rels (f .section) k ≡ helperWord (helperIsOwn (targetAt targets k)) (diff (targetAt targets k .helper) (placeOf b (entryAt rels k)))
+    helper-word : wordAt entries (f .section) k
+        ≡ helperWord (helperIsOwn (targetAt targets k)) (diff (targetAt targets k .helper) (placeOf b (entryAt entries k)))
     helper-word =
         stores-word l (ap (λ (c : Change). c .write) (got-page-does b k _ _ _ _ _ ty ∙ helped _ _ _ _ h))
-        ∙ mod-eq-of-lt (helper-lt (helperIsOwn (targetAt targets k)) (diff (targetAt targets k .helper) (placeOf b (entryAt rels k))))
+        ∙ mod-eq-of-lt (helper-lt (helperIsOwn (targetAt targets k)) (diff (targetAt targets k .helper) (placeOf b (entryAt entries k))))
 
     pub helper-own : helperIsOwn (targetAt targets k) ≡ true
-        → decode (wordAt rels (f .section) k) ≡ form (B (field (diff (targetAt targets k .helper) (placeOf b (entryAt rels k))) 2 26))
+        → decode (wordAt entries (f .section) k) ≡ form (B (field (diff (targetAt targets k .helper) (placeOf b (entryAt entries k))) 2 26))
     helper-own o =
-        ap decode (helper-word ∙ ap (λ (t : Bool). helperWord t (diff (targetAt targets k .helper) (placeOf b (entryAt rels k)))) o) ∙ helper-made _ .0
+        ap decode (helper-word ∙ ap (λ (t : Bool). helperWord t (diff (targetAt targets k .helper) (placeOf b (entryAt entries k)))) o) ∙ helper-made _ .0
 
     pub helper-shared : helperIsOwn (targetAt targets k) ≡ false
-        → decode (wordAt rels (f .section) k) ≡ form (BL (field (diff (targetAt targets k .helper) (placeOf b (entryAt rels k))) 2 26))
+        → decode (wordAt entries (f .section) k)
+        ≡ form (BL (field (diff (targetAt targets k .helper) (placeOf b (entryAt entries k))) 2 26))
     helper-shared o =
-        ap decode (helper-word ∙ ap (λ (t : Bool). helperWord t (diff (targetAt targets k .helper) (placeOf b (entryAt rels k)))) o) ∙ helper-made _ .1
+        ap decode (helper-word ∙ ap (λ (t : Bool). helperWord t (diff (targetAt targets k .helper) (placeOf b (entryAt entries k)))) o) ∙ helper-made _ .1
 
     -- in reach, where place and helper are multiples of 4, it goes to the helper
-    pub helper-goes : branchReaches (targetAt targets k .helper) (placeOf b (entryAt rels k)) ≡ true
+    pub helper-goes : branchReaches (targetAt targets k .helper) (placeOf b (entryAt entries k)) ≡ true
         → targetAt targets k .helper < 2 ^ 64
         → targetAt targets k .helper % 4 ≡ 0
-        → placeOf b (entryAt rels k) % 4 ≡ 0
-        → M.branchTarget (field (diff (targetAt targets k .helper) (placeOf b (entryAt rels k))) 2 26) (placeOf b (entryAt rels k))
+        → placeOf b (entryAt entries k) % 4 ≡ 0
+        → M.branchTarget (field (diff (targetAt targets k .helper) (placeOf b (entryAt entries k))) 2 26) (placeOf b (entryAt entries k))
         ≡ targetAt targets k .helper
     helper-goes near lt t p = branch-means _ _ lt (passed l .place) near t p

@@ -36,7 +36,7 @@ resolved addr flags =
 
 -- the number of a call
 abbrev pub number : List ℕ → ℕ → List ℕ → List ℕ → List ℕ → ℕ
-number section base rels targets slots = answerNumber (answerOf (outcomeOf section (basesOf base 0) rels targets slots))
+number section base entries targets slots = answerNumber (answerOf (outcomeOf section (basesOf base 0) entries targets slots))
 
 -- a call on one word at 0x1000 with one entry
 abbrev pub oneWord : ℕ → ℕ → ℕ → ℕ → Outcome

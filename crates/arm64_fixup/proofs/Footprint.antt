@@ -15,7 +15,7 @@ use Rattle.macho.specs.Resolved.{hasAddress}
 use Rattle.macho.specs.declared.reloc.Reloc.{Reloc}
 use Rattle.macho.specs.declared.resolved.Resolved.{Resolved}
 use Rattle.arm64_fixup_entry.specs.Target.{importedSymbol, widthOf}
-use Rattle.arm64_fixup.specs.Walk.{entries, stored, Fixed, changeAt}
+use Rattle.arm64_fixup.specs.Walk.{entryCount, stored, Fixed, changeAt}
 use Rattle.arm64_fixup.specs.Footprint.{offsetAt, widthAt, Touches, Writes, Alone}
 use Rattle.arm64_fixup.specs.Answer.{Outcome, refused, fixed, outcomeOf, sectionAfter}
 use Rattle.arm64_fixup_entry.specs.declared.target.Bases.{Bases}
@@ -38,45 +38,47 @@ unaddressed-width e t h a = ⊎-elim page offset h
     offset : e .ty ≡ ARM64-RELOC-PAGEOFF12 → widthOf e t ≡ 0
     offset q = rw (q, a)
 
-module _ (section : List ℕ) (b : Bases) (rels targets slots : List ℕ) where
+module _ (section : List ℕ) (b : Bases) (entries targets slots : List ℕ) where
   -- what an entry writes lies in its footprint
-  pub writes-touch : (i p : ℕ) → Writes section b rels targets i p → Touches rels targets i p
-  writes-touch i p w = (w .0, omega (arith, w .1, written-fits section b rels targets i))
+  pub writes-touch : (i p : ℕ) → Writes section b entries targets i p → Touches entries targets i p
+  writes-touch i p w = (w .0, omega (arith, w .1, written-fits section b entries targets i))
 
   -- so an entry whose footprint meets no other is alone
-  pub apart-alone : (k : ℕ) → ((i p : ℕ) → i < entries rels → (i ≡ k → ⊥) → Touches rels targets k p → Touches rels targets i p → ⊥)
-      → Alone section b rels targets k
+  pub apart-alone : (k : ℕ) → ((i p : ℕ) → i < entryCount entries → (i ≡ k → ⊥) → Touches entries targets k p → Touches entries targets i p → ⊥)
+      → Alone section b entries targets k
   apart-alone k apart i p l ne t w = apart i p l ne t (writes-touch i p w)
 
   -- bytes that no entry writes stay, whatever the call answers
-  pub unwritten : (p : ℕ) → ((i : ℕ) → i < entries rels → Writes section b rels targets i p → ⊥)
-      → getD (sectionAfter (outcomeOf section b rels targets slots) section) p 0 ≡ getD section p 0
-  unwritten p h = go (outcomeOf section b rels targets slots) refl
+  pub unwritten : (p : ℕ) → ((i : ℕ) → i < entryCount entries → Writes section b entries targets i p → ⊥)
+      → getD (sectionAfter (outcomeOf section b entries targets slots) section) p 0 ≡ getD section p 0
+  unwritten p h = go (outcomeOf section b entries targets slots) refl
     where
-      go : (o : Outcome) → outcomeOf section b rels targets slots ≡ o → getD (sectionAfter o section) p 0 ≡ getD section p 0
+      go : (o : Outcome) → outcomeOf section b entries targets slots ≡ o → getD (sectionAfter o section) p 0 ≡ getD section p 0
       go (refused r) e = refl
       go (fixed f) e =
-          ap (λ (g : Fixed). getD (g .section) p 0) (accepts section b rels targets slots e .work) ∙ from-start section b rels targets (entries rels) p h
+          ap (λ (g : Fixed). getD (g .section) p 0) (accepts section b entries targets slots e .work)
+          ∙ from-start section b entries targets (entryCount entries) p h
 
-  module _ {f : Fixed} (accepted : outcomeOf section b rels targets slots ≡ fixed f) (k : ℕ) (below : k < entries rels) where
+  module _ {f : Fixed} (accepted : outcomeOf section b entries targets slots ≡ fixed f) (k : ℕ) (below : k < entryCount entries) where
     -- a byte of entry k's footprint, which no entry before it wrote in, ends as its step on the lent bytes leaves it, unless a later entry writes it
-    pub last-written : ((j p : ℕ) → j < k → Touches rels targets k p → Writes section b rels targets j p → ⊥)
-        → (p : ℕ) → Touches rels targets k p → ((j : ℕ) → k < j → j < entries rels → Writes section b rels targets j p → ⊥)
-        → getD (f .section) p 0 ≡ getD (stored section (offsetAt rels k) (changeAt b rels targets section k .write)) p 0
+    pub last-written : ((j p : ℕ) → j < k → Touches entries targets k p → Writes section b entries targets j p → ⊥)
+        → (p : ℕ) → Touches entries targets k p → ((j : ℕ) → k < j → j < entryCount entries → Writes section b entries targets j p → ⊥)
+        → getD (f .section) p 0 ≡ getD (stored section (offsetAt entries k) (changeAt b entries targets section k .write)) p 0
     last-written before p t after =
-        let a = accepts section b rels targets slots accepted in
+        let a = accepts section b entries targets slots accepted in
         ap (λ (g : Fixed). getD (g .section) p 0) (a .work)
-        ∙ only-it section b rels targets k below (a .fit) before (touched-worked rels targets k (omega arith)) p t after
+        ∙ only-it section b entries targets k below (a .fit) before (touched-worked entries targets k (omega arith)) p t after
 
-    module _ (alone : Alone section b rels targets k) where
+    module _ (alone : Alone section b entries targets k) where
       -- bytes that only entry k writes end as its step on the lent bytes leaves them
-      pub only : (p : ℕ) → Touches rels targets k p
-          → getD (f .section) p 0 ≡ getD (stored section (offsetAt rels k) (changeAt b rels targets section k .write)) p 0
+      pub only : (p : ℕ) → Touches entries targets k p
+          → getD (f .section) p 0 ≡ getD (stored section (offsetAt entries k) (changeAt b entries targets section k .write)) p 0
       only p t =
           last-written (λ j q l u w. alone j q (omega arith) (λ e. omega arith) u w) p t
           (λ j g l w. alone j p l (λ e. omega arith) t w)
 
       -- and so do its words
-      pub only-word : (n : ℕ) → n ≤ widthAt rels targets k
-          → le n (f .section) (offsetAt rels k) ≡ le n (stored section (offsetAt rels k) (changeAt b rels targets section k .write)) (offsetAt rels k)
-      only-word n h = le-ext n _ _ (offsetAt rels k) (offsetAt rels k) (λ j l. only (offsetAt rels k + j) (omega arith, omega arith))
+      pub only-word : (n : ℕ) → n ≤ widthAt entries targets k
+          → le n (f .section) (offsetAt entries k)
+          ≡ le n (stored section (offsetAt entries k) (changeAt b entries targets section k .write)) (offsetAt entries k)
+      only-word n h = le-ext n _ _ (offsetAt entries k) (offsetAt entries k) (λ j l. only (offsetAt entries k + j) (omega arith, omega arith))

@@ -22,7 +22,7 @@ use Rattle.arm64_fixup_entry.specs.Target.{targetOf, slotOf, gotTarget, widthOf
 use Rattle.arm64_fixup_entry.specs.Check.{subtracts, checkOf}
 use Rattle.arm64_fixup_entry.specs.Change.{unsignedValue, subtractorValue, difference, dtraceSiteInsn, branchTarget, thunkServes, branch, gotPage21}
 use Rattle.arm64_fixup_entry.specs.Change.{gotPageoff12, pointerToGot, wordChange, changeOf}
-use Rattle.arm64_fixup.specs.Walk.{entryAt, targetAt, entries, consumed, checkAt, first, checkTo, Fixed, changeAt, applied, workAt, fixTo}
+use Rattle.arm64_fixup.specs.Walk.{entryAt, targetAt, entryCount, consumed, checkAt, first, checkTo, Fixed, changeAt, applied, workAt, fixTo}
 use Rattle.arm64_fixup.specs.Answer.{checkLists, after, fixed, outcomeOf}
 use Rattle.arm64_fixup_entry.specs.declared.target.Bases.{Bases}
 use Rattle.macho.specs.declared.refusal.Check.{Check}
@@ -60,115 +60,117 @@ unfolding changeOf choose
 indifferent b i e t n₁ n₂ t₁ t₂ word s = rw s
 
 -- lists that agree in what is not ignored
-pub record Agree (rels rels′ targets targets′ : List ℕ) : Type 0 where
-  pub length-rels : length rels ≡ length rels′
+pub record Agree (entries entries′ targets targets′ : List ℕ) : Type 0 where
+  pub length-entries : length entries ≡ length entries′
   pub length-targets : length targets ≡ length targets′
-  pub worked : (i : ℕ) → i < entries rels → consumed rels i ≡ false
-      → (seen (entryAt rels i) ≡ seen (entryAt rels′ i)) × (targetAt targets i ≡ targetAt targets′ i)
-  pub taken : (i : ℕ) → i < entries rels → consumed rels i ≡ true
-      → (entryAt rels i .addend ≡ entryAt rels′ i .addend) × (targetAt targets i .addr ≡ targetAt targets′ i .addr)
+  pub worked : (i : ℕ) → i < entryCount entries → consumed entries i ≡ false
+      → (seen (entryAt entries i) ≡ seen (entryAt entries′ i)) × (targetAt targets i ≡ targetAt targets′ i)
+  pub taken : (i : ℕ) → i < entryCount entries → consumed entries i ≡ true
+      → (entryAt entries i .addend ≡ entryAt entries′ i .addend) × (targetAt targets i .addr ≡ targetAt targets′ i .addr)
 
-module _ (b : Bases) (rels rels′ targets targets′ : List ℕ) (agree : Agree rels rels′ targets targets′) where
-  same-count : entries rels ≡ entries rels′
-  same-count = ap (λ (n : ℕ). n / 24) (agree .length-rels)
+module _ (b : Bases) (entries entries′ targets targets′ : List ℕ) (agree : Agree entries entries′ targets targets′) where
+  same-count : entryCount entries ≡ entryCount entries′
+  same-count = ap (λ (n : ℕ). n / 24) (agree .length-entries)
 
-  consumed-next : (i : ℕ) → i < entries rels → consumed rels i ≡ consumed rels′ i → (t : Bool) → consumed rels i ≡ t
-      → (subtracts (entryAt rels i .ty) && not (consumed rels i)) ≡ (subtracts (entryAt rels′ i .ty) && not (consumed rels′ i))
-  consumed-next i l h true e = rw (sym h ∙ e, e) (and-false (subtracts (entryAt rels i .ty)) ∙ sym (and-false (subtracts (entryAt rels′ i .ty))))
+  consumed-next : (i : ℕ) → i < entryCount entries → consumed entries i ≡ consumed entries′ i → (t : Bool) → consumed entries i ≡ t
+      → (subtracts (entryAt entries i .ty) && not (consumed entries i)) ≡ (subtracts (entryAt entries′ i .ty) && not (consumed entries′ i))
+  consumed-next i l h true e = rw (sym h ∙ e, e) (and-false (subtracts (entryAt entries i .ty)) ∙ sym (and-false (subtracts (entryAt entries′ i .ty))))
   consumed-next i l h false e = ap₂ (λ (x y : Bool). x && not y) (ap (λ (r : Reloc). subtracts (r .ty)) (agree .worked i l e .0)) h
 
-  same-consumed : (i : ℕ) → i ≤ entries rels → consumed rels i ≡ consumed rels′ i
+  same-consumed : (i : ℕ) → i ≤ entryCount entries → consumed entries i ≡ consumed entries′ i
   unfolding consumed
   same-consumed zero l = refl
-  same-consumed (suc i) l = consumed-next i l (same-consumed i (omega arith)) (consumed rels i) refl
+  same-consumed (suc i) l = consumed-next i l (same-consumed i (omega arith)) (consumed entries i) refl
 
   -- the first walk
-  same-check-at : (len i : ℕ) → i < entries rels → (t : Bool) → consumed rels i ≡ t → checkAt len b rels targets i ≡ checkAt len b rels′ targets′ i
-  same-check-at len i l true e = check-taken len b rels targets i e ∙ sym (check-taken len b rels′ targets′ i (sym (same-consumed i (omega arith)) ∙ e))
+  same-check-at : (len i : ℕ) → i < entryCount entries → (t : Bool) → consumed entries i ≡ t
+      → checkAt len b entries targets i ≡ checkAt len b entries′ targets′ i
+  same-check-at len i l true e = check-taken len b entries targets i e ∙ sym (check-taken len b entries′ targets′ i (sym (same-consumed i (omega arith)) ∙ e))
   same-check-at len i l false e =
       let a = agree .worked i l e in
-      check-worked len b rels targets i e
+      check-worked len b entries targets i e
       ∙ sym (check-seen len b _ _ _)
-      ∙ ap (λ (r : Reloc). checkOf len b r (targetAt targets i) (eqb (i + 1) (entries rels))) (a .0)
-      ∙ ap (λ (t : Resolved). checkOf len b (seen (entryAt rels′ i)) t (eqb (i + 1) (entries rels))) (a .1)
-      ∙ ap (λ (n : ℕ). checkOf len b (seen (entryAt rels′ i)) (targetAt targets′ i) (eqb (i + 1) n)) same-count
+      ∙ ap (λ (r : Reloc). checkOf len b r (targetAt targets i) (eqb (i + 1) (entryCount entries))) (a .0)
+      ∙ ap (λ (t : Resolved). checkOf len b (seen (entryAt entries′ i)) t (eqb (i + 1) (entryCount entries))) (a .1)
+      ∙ ap (λ (n : ℕ). checkOf len b (seen (entryAt entries′ i)) (targetAt targets′ i) (eqb (i + 1) n)) same-count
       ∙ check-seen len b _ _ _
-      ∙ sym (check-worked len b rels′ targets′ i (sym (same-consumed i (omega arith)) ∙ e))
+      ∙ sym (check-worked len b entries′ targets′ i (sym (same-consumed i (omega arith)) ∙ e))
 
-  same-check : (len k : ℕ) → k ≤ entries rels → checkTo len b rels targets k ≡ checkTo len b rels′ targets′ k
+  same-check : (len k : ℕ) → k ≤ entryCount entries → checkTo len b entries targets k ≡ checkTo len b entries′ targets′ k
   unfolding checkTo
   same-check len zero l = refl
-  same-check len (suc i) l = ap₂ first (same-check len i (omega arith)) (same-check-at len i l (consumed rels i) refl)
+  same-check len (suc i) l = ap₂ first (same-check len i (omega arith)) (same-check-at len i l (consumed entries i) refl)
 
   -- the second walk
-  same-next : (i : ℕ) → i < entries rels → (t : Bool) → consumed rels i ≡ t
-      → (entryAt rels i .addend ≡ entryAt rels′ i .addend) × (targetAt targets i .addr ≡ targetAt targets′ i .addr)
+  same-next : (i : ℕ) → i < entryCount entries → (t : Bool) → consumed entries i ≡ t
+      → (entryAt entries i .addend ≡ entryAt entries′ i .addend) × (targetAt targets i .addr ≡ targetAt targets′ i .addr)
   same-next i l true e = agree .taken i l e
   same-next i l false e =
       let a = agree .worked i l e in
       (ap (λ (r : Reloc). r .addend) (a .0), ap (λ (t : Resolved). t .addr) (a .1))
 
-  module _ (len : ℕ) (fit : checkTo len b rels targets (entries rels) ≡ Fit) where
-    module _ (i : ℕ) (l : i < entries rels) (free : consumed rels i ≡ false) (s : List ℕ) where
+  module _ (len : ℕ) (fit : checkTo len b entries targets (entryCount entries) ≡ Fit) where
+    module _ (i : ℕ) (l : i < entryCount entries) (free : consumed entries i ≡ false) (s : List ℕ) where
       -- the entry's own fields
       same-own : (next : Reloc) (nextTarget : Resolved)
-          → changeOf b i (entryAt rels i) (targetAt targets i) next nextTarget (le 4 s (entryAt rels i .offset))
-          ≡ changeOf b i (entryAt rels′ i) (targetAt targets′ i) next nextTarget (le 4 s (entryAt rels′ i .offset))
+          → changeOf b i (entryAt entries i) (targetAt targets i) next nextTarget (le 4 s (entryAt entries i .offset))
+          ≡ changeOf b i (entryAt entries′ i) (targetAt targets′ i) next nextTarget (le 4 s (entryAt entries′ i .offset))
       same-own next nextTarget =
-          sym (change-seen b i (entryAt rels i) (targetAt targets i) next nextTarget _)
+          sym (change-seen b i (entryAt entries i) (targetAt targets i) next nextTarget _)
           ∙ ap₂ (λ (r : Reloc) (t : Resolved). changeOf b i r t (addendOf (next .addend)) (addressOf (nextTarget .addr)) (le 4 s (r .offset)))
           (agree .worked i l free .0) (agree .worked i l free .1)
-          ∙ change-seen b i (entryAt rels′ i) (targetAt targets′ i) next nextTarget _
+          ∙ change-seen b i (entryAt entries′ i) (targetAt targets′ i) next nextTarget _
 
       -- what it takes of the next entry
-      same-other : (word : ℕ) (t : Bool) → subtracts (entryAt rels′ i .ty) ≡ t
-          → changeOf b i (entryAt rels′ i) (targetAt targets′ i) (entryAt rels (i + 1)) (targetAt targets (i + 1)) word
-          ≡ changeOf b i (entryAt rels′ i) (targetAt targets′ i) (entryAt rels′ (i + 1)) (targetAt targets′ (i + 1)) word
+      same-other : (word : ℕ) (t : Bool) → subtracts (entryAt entries′ i .ty) ≡ t
+          → changeOf b i (entryAt entries′ i) (targetAt targets′ i) (entryAt entries (i + 1)) (targetAt targets (i + 1)) word
+          ≡ changeOf b i (entryAt entries′ i) (targetAt targets′ i) (entryAt entries′ (i + 1)) (targetAt targets′ (i + 1)) word
       same-other word false e = indifferent b i _ _ _ _ _ _ word e
       same-other word true e =
           let own = ap (λ (r : Reloc). subtracts (r .ty)) (agree .worked i l free .0) ∙ e in
-          let checked = sym (check-worked len b rels targets i free) ∙ passes len b rels targets (entries rels) i fit l in
-          let n = same-next (i + 1) (followed len b _ _ i (entries rels) checked own l) (consumed rels (i + 1)) refl in
-          sym (change-seen b i _ _ (entryAt rels (i + 1)) (targetAt targets (i + 1)) word)
-          ∙ ap₂ (λ (a s : ℕ). changeOf b i (seen (entryAt rels′ i)) (targetAt targets′ i) (addendOf a) (addressOf s) word) (n .0) (n .1)
-          ∙ change-seen b i _ _ (entryAt rels′ (i + 1)) (targetAt targets′ (i + 1)) word
+          let checked = sym (check-worked len b entries targets i free) ∙ passes len b entries targets (entryCount entries) i fit l in
+          let n = same-next (i + 1) (followed len b _ _ i (entryCount entries) checked own l) (consumed entries (i + 1)) refl in
+          sym (change-seen b i _ _ (entryAt entries (i + 1)) (targetAt targets (i + 1)) word)
+          ∙ ap₂ (λ (a s : ℕ). changeOf b i (seen (entryAt entries′ i)) (targetAt targets′ i) (addendOf a) (addressOf s) word) (n .0) (n .1)
+          ∙ change-seen b i _ _ (entryAt entries′ (i + 1)) (targetAt targets′ (i + 1)) word
 
-      same-change : changeAt b rels targets s i ≡ changeAt b rels′ targets′ s i
+      same-change : changeAt b entries targets s i ≡ changeAt b entries′ targets′ s i
       same-change = same-own _ _ ∙ same-other _ _ refl
 
-    same-work-at : (f : Fixed) (i : ℕ) → i < entries rels → (t : Bool) → consumed rels i ≡ t → workAt b rels targets f i ≡ workAt b rels′ targets′ f i
-    same-work-at f i l true e = work-taken b rels targets f i e ∙ sym (work-taken b rels′ targets′ f i (sym (same-consumed i (omega arith)) ∙ e))
+    same-work-at : (f : Fixed) (i : ℕ) → i < entryCount entries → (t : Bool) → consumed entries i ≡ t
+        → workAt b entries targets f i ≡ workAt b entries′ targets′ f i
+    same-work-at f i l true e = work-taken b entries targets f i e ∙ sym (work-taken b entries′ targets′ f i (sym (same-consumed i (omega arith)) ∙ e))
     same-work-at f i l false e =
-        work-worked b rels targets f i e
+        work-worked b entries targets f i e
         ∙ ap₂ (λ (r : Reloc) (c : Change). applied f (r .offset) c) (agree .worked i l e .0) (same-change i l e (f .section))
-        ∙ sym (work-worked b rels′ targets′ f i (sym (same-consumed i (omega arith)) ∙ e))
+        ∙ sym (work-worked b entries′ targets′ f i (sym (same-consumed i (omega arith)) ∙ e))
 
-    same-work : (section : List ℕ) (k : ℕ) → k ≤ entries rels → fixTo b rels targets section k ≡ fixTo b rels′ targets′ section k
+    same-work : (section : List ℕ) (k : ℕ) → k ≤ entryCount entries → fixTo b entries targets section k ≡ fixTo b entries′ targets′ section k
     unfolding fixTo
     same-work section zero l = refl
     same-work section (suc i) l =
-        same-work-at (fixTo b rels targets section i) i l (consumed rels i) refl
-        ∙ ap (λ (f : Fixed). workAt b rels′ targets′ f i) (same-work section i (omega arith))
+        same-work-at (fixTo b entries targets section i) i l (consumed entries i) refl
+        ∙ ap (λ (f : Fixed). workAt b entries′ targets′ f i) (same-work section i (omega arith))
 
   -- the whole call
-  pub ignored : (section slots : List ℕ) → outcomeOf section b rels targets slots ≡ outcomeOf section b rels′ targets′ slots
+  pub ignored : (section slots : List ℕ) → outcomeOf section b entries targets slots ≡ outcomeOf section b entries′ targets′ slots
   unfolding outcomeOf
-  ignored section slots = go (checkTo (length section) b rels targets (entries rels)) refl
+  ignored section slots = go (checkTo (length section) b entries targets (entryCount entries)) refl
     where
-      lists-same : checkLists (length rels) (length targets) (length slots) ≡ checkLists (length rels′) (length targets′) (length slots)
-      lists-same = ap₂ (λ (m n : ℕ). checkLists m n (length slots)) (agree .length-rels) (agree .length-targets)
+      lists-same : checkLists (length entries) (length targets) (length slots) ≡ checkLists (length entries′) (length targets′) (length slots)
+      lists-same = ap₂ (λ (m n : ℕ). checkLists m n (length slots)) (agree .length-entries) (agree .length-targets)
 
-      checks-same : checkTo (length section) b rels targets (entries rels) ≡ checkTo (length section) b rels′ targets′ (entries rels′)
-      checks-same = same-check (length section) (entries rels) (omega arith) ∙ ap (λ (n : ℕ). checkTo (length section) b rels′ targets′ n) same-count
+      checks-same : checkTo (length section) b entries targets (entryCount entries) ≡ checkTo (length section) b entries′ targets′ (entryCount entries′)
+      checks-same = same-check (length section) (entryCount entries) (omega arith) ∙ ap (λ (n : ℕ). checkTo (length section) b entries′ targets′ n) same-count
 
-      go : (c : Check) → checkTo (length section) b rels targets (entries rels) ≡ c
-          → outcomeOf section b rels targets slots ≡ outcomeOf section b rels′ targets′ slots
+      go : (c : Check) → checkTo (length section) b entries targets (entryCount entries) ≡ c
+          → outcomeOf section b entries targets slots ≡ outcomeOf section b entries′ targets′ slots
       go (Refused r) e = ap₂ after lists-same (rw (e, sym checks-same ∙ e))
       go Fit e =
           ap₂ after lists-same
           (rw (e, sym checks-same ∙ e)
           (ap fixed
-          (same-work (length section) e section (entries rels) (omega arith) ∙ ap (λ (n : ℕ). fixTo b rels′ targets′ section n) same-count)))
+          (same-work (length section) e section (entryCount entries) (omega arith) ∙ ap (λ (n : ℕ). fixTo b entries′ targets′ section n) same-count)))
 
 -- ---- the spare bytes of one entry
 
@@ -187,26 +189,26 @@ elsewhere i j k off n l h = go (ltb k i) (ltb i k) refl refl
     go false false e d =
         ⊎-elim (λ w. inr (omega (arith, ltb-false k i e, ltb-false i k d))) (λ w. inl (omega (arith, ltb-false k i e, ltb-false i k d))) h
 
-seen-set : (rels : List ℕ) (i j v k : ℕ) → j < 4 → seen (entryAt (set rels (24 * i + 12 + j) v) k) ≡ seen (entryAt rels k)
+seen-set : (entries : List ℕ) (i j v k : ℕ) → j < 4 → seen (entryAt (set entries (24 * i + 12 + j) v) k) ≡ seen (entryAt entries k)
 unfolding relocAt
-seen-set rels i j v k l =
+seen-set entries i j v k l =
     let p : ℕ = 24 * i + 12 + j in
-    let at : (n off : ℕ) → (off + n ≤ 12) ⊎ ((16 ≤ off) × (off + n ≤ 24)) → le n (set rels p v) (24 * k + off) ≡ le n rels (24 * k + off) =
-    λ n off h. le-set n rels (24 * k + off) p v (elsewhere i j k off n l h) in
+    let at : (n off : ℕ) → (off + n ≤ 12) ⊎ ((16 ≤ off) × (off + n ≤ 24)) → le n (set entries p v) (24 * k + off) ≡ le n entries (24 * k + off) =
+    λ n off h. le-set n entries (24 * k + off) p v (elsewhere i j k off n l h) in
     let zero-off : 24 * k ≡ 24 * k + 0 = omega arith in
-    let o : le 4 (set rels p v) (24 * k) ≡ le 4 rels (24 * k) = rw zero-off (at 4 0 (inl (lit≤ tt))) in
+    let o : le 4 (set entries p v) (24 * k) ≡ le 4 entries (24 * k) = rw zero-off (at 4 0 (inl (lit≤ tt))) in
     rw (o, at 1 4 (inl (lit≤ tt)), at 1 5 (inl (lit≤ tt)), at 4 8 (inl (lit≤ tt)), at 8 16 (inr (lit≤ tt, lit≤ tt)))
 
 -- whatever they hold
-pub spare-bytes : (section : List ℕ) (b : Bases) (rels targets slots : List ℕ) (i j v : ℕ) → j < 4
-    → outcomeOf section b rels targets slots ≡ outcomeOf section b (set rels (24 * i + 12 + j) v) targets slots
-spare-bytes section b rels targets slots i j v l =
-    ignored b rels (set rels (24 * i + 12 + j) v) targets targets
+pub spare-bytes : (section : List ℕ) (b : Bases) (entries targets slots : List ℕ) (i j v : ℕ) → j < 4
+    → outcomeOf section b entries targets slots ≡ outcomeOf section b (set entries (24 * i + 12 + j) v) targets slots
+spare-bytes section b entries targets slots i j v l =
+    ignored b entries (set entries (24 * i + 12 + j) v) targets targets
     (record {
-      length-rels = simp length-set;
+      length-entries = simp length-set;
       length-targets = refl;
-      worked = λ k _ _. (sym (seen-set rels i j v k l), refl);
-      taken = λ k _ _. (ap (λ (r : Reloc). r .addend) (sym (seen-set rels i j v k l)), refl);
+      worked = λ k _ _. (sym (seen-set entries i j v k l), refl);
+      taken = λ k _ _. (ap (λ (r : Reloc). r .addend) (sym (seen-set entries i j v k l)), refl);
     })
     section
     slots
@@ -228,14 +230,14 @@ apart-48 i j k off n ne l h = go (ltb i k) refl
     go true e = inl (omega (arith, ltb-true i k e))
     go false e = inr (⊎-elim (λ q. absurd (ne q)) (λ (w : k < i). omega arith) (eq-or-lt-of-le (ltb-false i k e)))
 
-entry-set : (rels : List ℕ) (i j v k : ℕ) → (k ≡ i → ⊥) → j < 24 → entryAt (set rels (24 * i + j) v) k ≡ entryAt rels k
+entry-set : (entries : List ℕ) (i j v k : ℕ) → (k ≡ i → ⊥) → j < 24 → entryAt (set entries (24 * i + j) v) k ≡ entryAt entries k
 unfolding relocAt
-entry-set rels i j v k ne l =
+entry-set entries i j v k ne l =
     let p : ℕ = 24 * i + j in
-    let at : (n off : ℕ) → off + n ≤ 24 → le n (set rels p v) (24 * k + off) ≡ le n rels (24 * k + off) =
-    λ n off h. le-set n rels (24 * k + off) p v (apart-24 i j k off n ne l h) in
+    let at : (n off : ℕ) → off + n ≤ 24 → le n (set entries p v) (24 * k + off) ≡ le n entries (24 * k + off) =
+    λ n off h. le-set n entries (24 * k + off) p v (apart-24 i j k off n ne l h) in
     let zero-off : 24 * k ≡ 24 * k + 0 = omega arith in
-    let o : le 4 (set rels p v) (24 * k) ≡ le 4 rels (24 * k) = rw zero-off (at 4 0 (lit≤ tt)) in
+    let o : le 4 (set entries p v) (24 * k) ≡ le 4 entries (24 * k) = rw zero-off (at 4 0 (lit≤ tt)) in
     rw (
       o,
       at 1 4 (lit≤ tt),
@@ -258,9 +260,9 @@ target-set targets i j v k ne l =
     rw (o, at 8 8 (lit≤ tt), at 8 16 (lit≤ tt), at 8 24 (lit≤ tt), at 8 32 (lit≤ tt), at 4 40 (lit≤ tt), at 4 44 (lit≤ tt))
 
 -- an addend, and an address, hold no other byte of a record
-addend-set : (rels : List ℕ) (i j v k : ℕ) → j < 16 → entryAt (set rels (24 * i + j) v) k .addend ≡ entryAt rels k .addend
+addend-set : (entries : List ℕ) (i j v k : ℕ) → j < 16 → entryAt (set entries (24 * i + j) v) k .addend ≡ entryAt entries k .addend
 unfolding relocAt
-addend-set rels i j v k l = le-set 8 rels (24 * k + 16) (24 * i + j) v (go (ltb k i) refl)
+addend-set entries i j v k l = le-set 8 entries (24 * k + 16) (24 * i + j) v (go (ltb k i) refl)
   where
     go : (x : Bool) → ltb k i ≡ x → (24 * i + j < 24 * k + 16) ⊎ (24 * k + 16 + 8 ≤ 24 * i + j)
     go true e = inr (omega (arith, ltb-true k i e))
@@ -274,27 +276,27 @@ address-set targets i j v k m l = le-set 8 targets (48 * k) (48 * i + j) v (go (
     go true e = inl (omega (arith, ltb-true i k e))
     go false e = inr (omega (arith, ltb-false i k e))
 
-module _ (section : List ℕ) (b : Bases) (rels targets slots : List ℕ) (i j v : ℕ) (taken : consumed rels i ≡ true) where
-  other : (k : ℕ) → consumed rels k ≡ false → k ≡ i → ⊥
-  other k free e = true≢false (sym taken ∙ ap (consumed rels) (sym e) ∙ free)
+module _ (section : List ℕ) (b : Bases) (entries targets slots : List ℕ) (i j v : ℕ) (taken : consumed entries i ≡ true) where
+  other : (k : ℕ) → consumed entries k ≡ false → k ≡ i → ⊥
+  other k free e = true≢false (sym taken ∙ ap (consumed entries) (sym e) ∙ free)
 
-  pub consumed-entry : j < 16 → outcomeOf section b rels targets slots ≡ outcomeOf section b (set rels (24 * i + j) v) targets slots
+  pub consumed-entry : j < 16 → outcomeOf section b entries targets slots ≡ outcomeOf section b (set entries (24 * i + j) v) targets slots
   consumed-entry l =
-      ignored b rels (set rels (24 * i + j) v) targets targets
+      ignored b entries (set entries (24 * i + j) v) targets targets
       (record {
-        length-rels = simp length-set;
+        length-entries = simp length-set;
         length-targets = refl;
-        worked = λ k _ free. (ap seen (sym (entry-set rels i j v k (other k free) (omega arith))), refl);
-        taken = λ k _ _. (sym (addend-set rels i j v k l), refl);
+        worked = λ k _ free. (ap seen (sym (entry-set entries i j v k (other k free) (omega arith))), refl);
+        taken = λ k _ _. (sym (addend-set entries i j v k l), refl);
       })
       section
       slots
 
-  pub consumed-target : 8 ≤ j → j < 48 → outcomeOf section b rels targets slots ≡ outcomeOf section b rels (set targets (48 * i + j) v) slots
+  pub consumed-target : 8 ≤ j → j < 48 → outcomeOf section b entries targets slots ≡ outcomeOf section b entries (set targets (48 * i + j) v) slots
   consumed-target m l =
-      ignored b rels rels targets (set targets (48 * i + j) v)
+      ignored b entries entries targets (set targets (48 * i + j) v)
       (record {
-        length-rels = refl;
+        length-entries = refl;
         length-targets = simp length-set;
         worked = λ k _ free. (refl, sym (target-set targets i j v k (other k free) l));
         taken = λ k _ _. (refl, sym (address-set targets i j v k m l));

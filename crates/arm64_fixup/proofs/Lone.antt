@@ -9,7 +9,7 @@ use Rattle.util.specs.Word.{le}
 use Rattle.util.proofs.Word.{le-put}
 use Rattle.arm64_fixup_entry.specs.Target.{widthOf}
 use Rattle.arm64_fixup_entry.specs.Change.{bytesIn}
-use Rattle.arm64_fixup.specs.Walk.{entryAt, targetAt, entries, stored, Fixed, changeAt, fixTo}
+use Rattle.arm64_fixup.specs.Walk.{entryAt, targetAt, entryCount, stored, Fixed, changeAt, fixTo}
 use Rattle.arm64_fixup.specs.Footprint.{offsetAt, widthAt, Lone, wordAt, pointerAt}
 use Rattle.arm64_fixup_entry.specs.declared.target.Bases.{Bases}
 use Rattle.arm64_fixup_entry.specs.declared.change.Write.{Write}
@@ -21,47 +21,47 @@ use Rattle.arm64_fixup.proofs.Whole.{accepts}
 use Rattle.arm64_fixup.proofs.Bytewise.{worked-width, same-change}
 use Rattle.arm64_fixup.proofs.Footprint.{only-word}
 
-module _ {section : List ℕ} {b : Bases} {rels targets slots : List ℕ} {f : Fixed} {k : ℕ} (l : Lone section b rels targets slots f k) where
+module _ {section : List ℕ} {b : Bases} {entries targets slots : List ℕ} {f : Fixed} {k : ℕ} (l : Lone section b entries targets slots f k) where
   -- the entry passed its check
-  pub passed : Sound (length section) b (entryAt rels k) (targetAt targets k) (eqb (k + 1) (entries rels))
+  pub passed : Sound (length section) b (entryAt entries k) (targetAt targets k) (eqb (k + 1) (entryCount entries))
   passed =
-      sound (length section) b (entryAt rels k) (targetAt targets k) (eqb (k + 1) (entries rels))
-      (fit-at b rels targets section k (l .worked) (accepts section b rels targets slots (l .accepted) .fit) (l .listed) refl refl refl)
+      sound (length section) b (entryAt entries k) (targetAt targets k) (eqb (k + 1) (entryCount entries))
+      (fit-at b entries targets section k (l .worked) (accepts section b entries targets slots (l .accepted) .fit) (l .listed) refl refl refl)
 
   -- its step at its turn is the one on the lent bytes
-  pub lent-step : changeAt b rels targets (fixTo b rels targets section k .section) k ≡ changeAt b rels targets section k
+  pub lent-step : changeAt b entries targets (fixTo b entries targets section k .section) k ≡ changeAt b entries targets section k
   lent-step =
-      same-change section b rels targets k (l .listed) (accepts section b rels targets slots (l .accepted) .fit)
+      same-change section b entries targets k (l .listed) (accepts section b entries targets slots (l .accepted) .fit)
       (λ j p m t w. l .alone j p (omega (arith, l .listed)) (λ e. omega arith) t w) (l .worked)
 
   -- the bytes of its width at its place
-  pub stands : (n : ℕ) → n ≤ widthAt rels targets k
-      → (offsetAt rels k + n ≤ length section)
-      × (le n (f .section) (offsetAt rels k) ≡ le n (stored section (offsetAt rels k) (changeAt b rels targets section k .write)) (offsetAt rels k))
+  pub stands : (n : ℕ) → n ≤ widthAt entries targets k
+      → (offsetAt entries k + n ≤ length section)
+      × (le n (f .section) (offsetAt entries k) ≡ le n (stored section (offsetAt entries k) (changeAt b entries targets section k .write)) (offsetAt entries k))
   stands n h =
       let s = passed in
-      (omega (arith, worked-width rels targets k (l .worked)), only-word section b rels targets slots (l .accepted) k (l .listed) (l .alone) n h)
+      (omega (arith, worked-width entries targets k (l .worked)), only-word section b entries targets slots (l .accepted) k (l .listed) (l .alone) n h)
 
   -- a change stores no more than the width
-  wide-enough : (n : ℕ) → bytesIn (changeAt b rels targets section k .write) ≡ n → n ≤ widthAt rels targets k
+  wide-enough : (n : ℕ) → bytesIn (changeAt b entries targets section k .write) ≡ n → n ≤ widthAt entries targets k
   wide-enough n h =
-      rw (← h, worked-width rels targets k (l .worked))
-      (change-fits b k (entryAt rels k) (targetAt targets k) (entryAt rels (k + 1)) (targetAt targets (k + 1)) (wordAt rels section k))
+      rw (← h, worked-width entries targets k (l .worked))
+      (change-fits b k (entryAt entries k) (targetAt targets k) (entryAt entries (k + 1)) (targetAt targets (k + 1)) (wordAt entries section k))
 
   -- the word, or the pointer, that it stores
-  pub stores-word : {v : ℕ} → changeAt b rels targets section k .write ≡ Word v → wordAt rels (f .section) k ≡ v % 2 ^ 32
+  pub stores-word : {v : ℕ} → changeAt b entries targets section k .write ≡ Word v → wordAt entries (f .section) k ≡ v % 2 ^ 32
   stores-word {v} h =
       let w = stands 4 (wide-enough 4 (ap bytesIn h)) in
-      w .1 ∙ ap (λ (x : Write). le 4 (stored section (offsetAt rels k) x) (offsetAt rels k)) h ∙ le-put 4 section (offsetAt rels k) v (w .0)
+      w .1 ∙ ap (λ (x : Write). le 4 (stored section (offsetAt entries k) x) (offsetAt entries k)) h ∙ le-put 4 section (offsetAt entries k) v (w .0)
 
-  pub stores-pointer : {v : ℕ} → changeAt b rels targets section k .write ≡ Pointer v → pointerAt rels (f .section) k ≡ v % 2 ^ 64
+  pub stores-pointer : {v : ℕ} → changeAt b entries targets section k .write ≡ Pointer v → pointerAt entries (f .section) k ≡ v % 2 ^ 64
   stores-pointer {v} h =
       let w = stands 8 (wide-enough 8 (ap bytesIn h)) in
-      w .1 ∙ ap (λ (x : Write). le 8 (stored section (offsetAt rels k) x) (offsetAt rels k)) h ∙ le-put 8 section (offsetAt rels k) v (w .0)
+      w .1 ∙ ap (λ (x : Write). le 8 (stored section (offsetAt entries k) x) (offsetAt entries k)) h ∙ le-put 8 section (offsetAt entries k) v (w .0)
 
   -- the word that it leaves
-  pub leaves-word : 4 ≤ widthOf (entryAt rels k) (targetAt targets k) → changeAt b rels targets section k .write ≡ Nothing
-      → wordAt rels (f .section) k ≡ wordAt rels section k
+  pub leaves-word : 4 ≤ widthOf (entryAt entries k) (targetAt targets k) → changeAt b entries targets section k .write ≡ Nothing
+      → wordAt entries (f .section) k ≡ wordAt entries section k
   leaves-word n h =
-      stands 4 (rw (worked-width rels targets k (l .worked)) n) .1
-      ∙ ap (λ (x : Write). le 4 (stored section (offsetAt rels k) x) (offsetAt rels k)) h
+      stands 4 (rw (worked-width entries targets k (l .worked)) n) .1
+      ∙ ap (λ (x : Write). le 4 (stored section (offsetAt entries k) x) (offsetAt entries k)) h

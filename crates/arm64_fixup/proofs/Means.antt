@@ -64,20 +64,20 @@ adrp-with-lt : (w hi lo : ℕ) → adrpWith w hi lo < 2 ^ 32
 unfolding adrpWith pageOffset pageImm
 adrp-with-lt w hi lo = omega arith
 
-module _ {section : List ℕ} {b : Bases} {rels targets slots : List ℕ} {f : Fixed} {k : ℕ} (l : Lone section b rels targets slots f k) where
+module _ {section : List ℕ} {b : Bases} {entries targets slots : List ℕ} {f : Fixed} {k : ℕ} (l : Lone section b entries targets slots f k) where
   -- any word: bit 31, bits 28..24 and bits 4..0 stay, the others are the immediate
-  pub page-word : {target : ℕ} → Page (entryAt rels k) (targetAt targets k) target
-      → wordAt rels (f .section) k ≡ adrpWith (wordAt rels section k) target (placeOf b (entryAt rels k))
+  pub page-word : {target : ℕ} → Page (entryAt entries k) (targetAt targets k) target
+      → wordAt entries (f .section) k ≡ adrpWith (wordAt entries section k) target (placeOf b (entryAt entries k))
   page-word {target} r =
-      stores-word l (ap (λ (c : Change). c .write) (page-does-it b k _ _ _ _ _ r) ∙ page-write _ target (wordAt rels section k))
-      ∙ mod-eq-of-lt (adrp-with-lt (wordAt rels section k) target (placeOf b (entryAt rels k)))
+      stores-word l (ap (λ (c : Change). c .write) (page-does-it b k _ _ _ _ _ r) ∙ page-write _ target (wordAt entries section k))
+      ∙ mod-eq-of-lt (adrp-with-lt (wordAt entries section k) target (placeOf b (entryAt entries k)))
 
   -- an ADRP is one of the old register; in reach, it makes the target's page
-  pub page-means : {target : ℕ} → Page (entryAt rels k) (targetAt targets k) target
-      → (rd imm : ℕ) → decode (wordAt rels section k) ≡ form (ADRP rd imm)
-      → adrpReaches target (placeOf b (entryAt rels k)) ≡ true
-      → (decode (wordAt rels (f .section) k) ≡ form (ADRP rd (pageImm target (placeOf b (entryAt rels k)))))
-      × (adrpPage (pageImm target (placeOf b (entryAt rels k))) (placeOf b (entryAt rels k)) ≡ pageOf target)
+  pub page-means : {target : ℕ} → Page (entryAt entries k) (targetAt targets k) target
+      → (rd imm : ℕ) → decode (wordAt entries section k) ≡ form (ADRP rd imm)
+      → adrpReaches target (placeOf b (entryAt entries k)) ≡ true
+      → (decode (wordAt entries (f .section) k) ≡ form (ADRP rd (pageImm target (placeOf b (entryAt entries k)))))
+      × (adrpPage (pageImm target (placeOf b (entryAt entries k))) (placeOf b (entryAt entries k)) ≡ pageOf target)
   page-means {target} r rd imm d near = (
     ap decode (page-word r) ∙ adrp-patched _ rd imm target _ (le-lt 4 section _) d,
     adrp-means target _ (page-lt _ _ r) (passed l .place) near,
@@ -95,29 +95,29 @@ unfolding widthOf choose
 offset-width e t (offset h a) = rw (h, a) (lit≤ tt)
 offset-width e t (got-offset g n) = got-offset-width e t g
 
-module _ {section : List ℕ} {b : Bases} {rels targets slots : List ℕ} {f : Fixed} {k : ℕ} (l : Lone section b rels targets slots f k) where
-  module _ {target : ℕ} (r : Offset (entryAt rels k) (targetAt targets k) target) where
-    fits : {w : ℕ} → offsetWith (wordAt rels section k) target ≡ Fit.Word w → wordAt rels (f .section) k ≡ w % 2 ^ 32
-    fits e = stores-word l (ap (λ (c : Change). c .write) (offset-does-it b k _ _ _ _ _ r ∙ ap (fitted (siteOf b k (entryAt rels k))) e))
+module _ {section : List ℕ} {b : Bases} {entries targets slots : List ℕ} {f : Fixed} {k : ℕ} (l : Lone section b entries targets slots f k) where
+  module _ {target : ℕ} (r : Offset (entryAt entries k) (targetAt targets k) target) where
+    fits : {w : ℕ} → offsetWith (wordAt entries section k) target ≡ Fit.Word w → wordAt entries (f .section) k ≡ w % 2 ^ 32
+    fits e = stores-word l (ap (λ (c : Change). c .write) (offset-does-it b k _ _ _ _ _ r ∙ ap (fitted (siteOf b k (entryAt entries k))) e))
 
-    stays : {n : ℕ} → offsetWith (wordAt rels section k) target ≡ Fit.Misaligned n → wordAt rels (f .section) k ≡ wordAt rels section k
+    stays : {n : ℕ} → offsetWith (wordAt entries section k) target ≡ Fit.Misaligned n → wordAt entries (f .section) k ≡ wordAt entries section k
     stays e =
         leaves-word l (offset-width _ _ r)
-        (ap (λ (c : Change). c .write) (offset-does-it b k _ _ _ _ _ r ∙ ap (fitted (siteOf b k (entryAt rels k))) e))
+        (ap (λ (c : Change). c .write) (offset-does-it b k _ _ _ _ _ r ∙ ap (fitted (siteOf b k (entryAt entries k))) e))
 
     -- an ADD is the old one with the target's low 12 bits
-    pub offset-add : (sf sh rd rn imm12 : ℕ) → decode (wordAt rels section k) ≡ form (ADD sf sh rd rn imm12)
-        → decode (wordAt rels (f .section) k) ≡ form (ADD sf sh rd rn (field target 0 12))
+    pub offset-add : (sf sh rd rn imm12 : ℕ) → decode (wordAt entries section k) ≡ form (ADD sf sh rd rn imm12)
+        → decode (wordAt entries (f .section) k) ≡ form (ADD sf sh rd rn (field target 0 12))
     offset-add sf sh rd rn imm12 d =
         let i = decode-in-range _ (ADD sf sh rd rn imm12) d in
         let j : InRange (ADD sf sh rd rn (field target 0 12)) = (i .0, i .1, i .2, i .3, omega arith) in
         ap decode (fits (add-patched _ sf sh rd rn imm12 target d) ∙ mod-eq-of-lt (encode-lt (ADD sf sh rd rn (field target 0 12)) j))
         ∙ decode-encode (ADD sf sh rd rn (field target 0 12)) j
 
-    module _ (size v opc rt rn imm12 : ℕ) (d : decode (wordAt rels section k) ≡ form (LDST size v opc rt rn imm12)) where
+    module _ (size v opc rt rn imm12 : ℕ) (d : decode (wordAt entries section k) ≡ form (LDST size v opc rt rn imm12)) where
       -- a load or store is the old one with the target's low 12 bits in its unit
       pub offset-access : target % movedBy (rowOf size v opc) ≡ 0
-          → decode (wordAt rels (f .section) k) ≡ form (LDST size v opc rt rn (target % 2 ^ 12 / movedBy (rowOf size v opc)))
+          → decode (wordAt entries (f .section) k) ≡ form (LDST size v opc rt rn (target % 2 ^ 12 / movedBy (rowOf size v opc)))
       offset-access h =
           let i = decode-in-range _ (LDST size v opc rt rn imm12) d in
           let q = div-le-self (target % 2 ^ 12) (movedBy (rowOf size v opc)) in
@@ -128,12 +128,12 @@ module _ {section : List ℕ} {b : Bases} {rels targets slots : List ℕ} {f : F
           ∙ decode-encode (LDST size v opc rt rn (target % 2 ^ 12 / movedBy (rowOf size v opc))) j
 
       -- where its size does not divide the target, it stays
-      pub offset-misaligned : (target % movedBy (rowOf size v opc) ≡ 0 → ⊥) → wordAt rels (f .section) k ≡ wordAt rels section k
+      pub offset-misaligned : (target % movedBy (rowOf size v opc) ≡ 0 → ⊥) → wordAt entries (f .section) k ≡ wordAt entries section k
       offset-misaligned h = stays (load-store-patched _ size v opc rt rn imm12 target d ∙ choose-false _ _ _ (ne-eqb _ _ h))
 
     -- a prefetch is the old one with the target's low 12 bits in eights, where 8 divides the target
-    pub offset-prefetch : (rt rn imm12 : ℕ) → decode (wordAt rels section k) ≡ form (PRFM rt rn imm12) → target % 8 ≡ 0
-        → decode (wordAt rels (f .section) k) ≡ form (PRFM rt rn (target % 2 ^ 12 / 8))
+    pub offset-prefetch : (rt rn imm12 : ℕ) → decode (wordAt entries section k) ≡ form (PRFM rt rn imm12) → target % 8 ≡ 0
+        → decode (wordAt entries (f .section) k) ≡ form (PRFM rt rn (target % 2 ^ 12 / 8))
     offset-prefetch rt rn imm12 d h =
         let i = decode-in-range _ (PRFM rt rn imm12) d in
         let j : InRange (PRFM rt rn (target % 2 ^ 12 / 8)) = (i .0, i .1, omega arith) in
@@ -143,15 +143,16 @@ module _ {section : List ℕ} {b : Bases} {rels targets slots : List ℕ} {f : F
         ∙ decode-encode (PRFM rt rn (target % 2 ^ 12 / 8)) j
 
     -- any word: bits 31..22 and 9..0 stay, bits 21..10 are the page offset in the word's scale; or all of it stays
-    pub offset-word : target % 2 ^ scaleOf (wordAt rels section k) ≡ 0
-        → wordAt rels (f .section) k
-        ≡ field (wordAt rels section k) 22 10 * 2 ^ 22 + target % 2 ^ 12 / 2 ^ scaleOf (wordAt rels section k) * 2 ^ 10 + field (wordAt rels section k) 0 10
+    pub offset-word : target % 2 ^ scaleOf (wordAt entries section k) ≡ 0
+        → wordAt entries (f .section) k
+        ≡ field (wordAt entries section k) 22 10 * 2 ^ 22
+        + target % 2 ^ 12 / 2 ^ scaleOf (wordAt entries section k) * 2 ^ 10 + field (wordAt entries section k) 0 10
     unfolding offsetWith
     offset-word h =
-        let q = div-le-self (target % 2 ^ 12) (2 ^ scaleOf (wordAt rels section k)) in
+        let q = div-le-self (target % 2 ^ 12) (2 ^ scaleOf (wordAt entries section k)) in
         fits (choose-true _ _ _ (eq-eqb _ _ h)) ∙ mod-eq-of-lt (omega arith)
 
-    pub offset-kept : (target % 2 ^ scaleOf (wordAt rels section k) ≡ 0 → ⊥) → wordAt rels (f .section) k ≡ wordAt rels section k
+    pub offset-kept : (target % 2 ^ scaleOf (wordAt entries section k) ≡ 0 → ⊥) → wordAt entries (f .section) k ≡ wordAt entries section k
     unfolding offsetWith
     offset-kept h = stays (choose-false _ _ _ (ne-eqb _ _ h))
 
@@ -161,21 +162,21 @@ relaxes-it : (s : Site) (e : Reloc) (t : Resolved) (word : ℕ) → canRelaxGot 
 unfolding gotPageoff12 choose
 relaxes-it s e t word h = rw h
 
-module _ {section : List ℕ} {b : Bases} {rels targets slots : List ℕ} {f : Fixed} {k : ℕ} (l : Lone section b rels targets slots f k)
-    (r : Relaxed (entryAt rels k) (targetAt targets k))
+module _ {section : List ℕ} {b : Bases} {entries targets slots : List ℕ} {f : Fixed} {k : ℕ} (l : Lone section b entries targets slots f k)
+    (r : Relaxed (entryAt entries k) (targetAt targets k))
   where
-    pub relaxed-does : changeAt b rels targets section k
-        ≡ relaxed (siteOf b k (entryAt rels k)) (entryAt rels k .ty) (targetOf (entryAt rels k) (targetAt targets k)) (wordAt rels section k)
+    pub relaxed-does : changeAt b entries targets section k
+        ≡ relaxed (siteOf b k (entryAt entries k)) (entryAt entries k .ty) (targetOf (entryAt entries k) (targetAt targets k)) (wordAt entries section k)
     relaxed-does = got-offset-does-it b k _ _ _ _ _ (r .type) ∙ relaxes-it _ _ _ _ (r .relaxes)
 
     -- an LDR, for GOT also a 64-bit ADD, becomes the 64-bit ADD of its registers and the low 12 bits of S + A
-    pub relaxed-means : canRelax (entryAt rels k .ty) (wordAt rels section k) ≡ true
-        → decode (wordAt rels (f .section) k)
-        ≡ form (ADD 1 0 (rdIn (wordAt rels section k)) (rnIn (wordAt rels section k)) (field (targetOf (entryAt rels k) (targetAt targets k)) 0 12))
+    pub relaxed-means : canRelax (entryAt entries k .ty) (wordAt entries section k) ≡ true
+        → decode (wordAt entries (f .section) k)
+        ≡ form (ADD 1 0 (rdIn (wordAt entries section k)) (rnIn (wordAt entries section k)) (field (targetOf (entryAt entries k) (targetAt targets k)) 0 12))
     unfolding relaxed relaxedWord
     relaxed-means h =
-        let target = targetOf (entryAt rels k) (targetAt targets k) in
-        let w = wordAt rels section k in
+        let target = targetOf (entryAt entries k) (targetAt targets k) in
+        let w = wordAt entries section k in
         let j : InRange (ADD 1 0 (rdIn w) (rnIn w) (field target 0 12)) = (lit< tt, lit< tt, omega arith, omega arith, omega arith) in
         ap decode
         (stores-word l (ap (λ (c : Change). c .write) (relaxed-does ∙ choose-true _ _ _ h))
@@ -183,7 +184,7 @@ module _ {section : List ℕ} {b : Bases} {rels targets slots : List ℕ} {f : F
         ∙ relaxed-made w target
 
     -- any other word stays
-    pub relaxed-kept : canRelax (entryAt rels k .ty) (wordAt rels section k) ≡ false → wordAt rels (f .section) k ≡ wordAt rels section k
+    pub relaxed-kept : canRelax (entryAt entries k .ty) (wordAt entries section k) ≡ false → wordAt entries (f .section) k ≡ wordAt entries section k
     unfolding relaxed
     relaxed-kept h =
         leaves-word l (got-offset-width _ _ (r .type)) (ap (λ (c : Change). c .write) (relaxed-does ∙ choose-false _ _ _ h))
@@ -191,46 +192,46 @@ module _ {section : List ℕ} {b : Bases} {rels targets slots : List ℕ} {f : F
 -- ---- page and page offset together. What the word at m makes or accesses is said of a source that holds the ADRP's page: so it is where
 -- the source is the ADRP's register
 
-module _ {section : List ℕ} {b : Bases} {rels targets slots : List ℕ} {f : Fixed} {k m : ℕ}
-    (l : Lone section b rels targets slots f k) (l′ : Lone section b rels targets slots f m)
-    {target : ℕ} (r : Page (entryAt rels k) (targetAt targets k) target) (near : adrpReaches target (placeOf b (entryAt rels k)) ≡ true)
-    (rd imm : ℕ) (d : decode (wordAt rels section k) ≡ form (ADRP rd imm))
+module _ {section : List ℕ} {b : Bases} {entries targets slots : List ℕ} {f : Fixed} {k m : ℕ}
+    (l : Lone section b entries targets slots f k) (l′ : Lone section b entries targets slots f m)
+    {target : ℕ} (r : Page (entryAt entries k) (targetAt targets k) target) (near : adrpReaches target (placeOf b (entryAt entries k)) ≡ true)
+    (rd imm : ℕ) (d : decode (wordAt entries section k) ≡ form (ADRP rd imm))
   where
     -- ADRP and an unshifted ADD of 64 bits make the target
-    pub adrp-add : Offset (entryAt rels m) (targetAt targets m) target
-        → (rd′ rn imm12 : ℕ) → decode (wordAt rels section m) ≡ form (ADD 1 0 rd′ rn imm12)
-        → (decode (wordAt rels (f .section) k) ≡ form (ADRP rd (pageImm target (placeOf b (entryAt rels k)))))
-        × (decode (wordAt rels (f .section) m) ≡ form (ADD 1 0 rd′ rn (field target 0 12)))
-        × (M.addValue 1 0 (adrpPage (pageImm target (placeOf b (entryAt rels k))) (placeOf b (entryAt rels k))) (field target 0 12) ≡ target)
+    pub adrp-add : Offset (entryAt entries m) (targetAt targets m) target
+        → (rd′ rn imm12 : ℕ) → decode (wordAt entries section m) ≡ form (ADD 1 0 rd′ rn imm12)
+        → (decode (wordAt entries (f .section) k) ≡ form (ADRP rd (pageImm target (placeOf b (entryAt entries k)))))
+        × (decode (wordAt entries (f .section) m) ≡ form (ADD 1 0 rd′ rn (field target 0 12)))
+        × (M.addValue 1 0 (adrpPage (pageImm target (placeOf b (entryAt entries k))) (placeOf b (entryAt entries k))) (field target 0 12) ≡ target)
     adrp-add r′ rd′ rn imm12 d′ = (
       page-means l r rd imm d near .0,
       offset-add l′ r′ 1 0 rd′ rn imm12 d′,
-      add-means target (placeOf b (entryAt rels k)) (page-lt _ _ r) (passed l .place) near,
+      add-means target (placeOf b (entryAt entries k)) (page-lt _ _ r) (passed l .place) near,
     )
 
     -- and so do ADRP and a relaxed load
-    pub adrp-relaxed : Relaxed (entryAt rels m) (targetAt targets m) → targetOf (entryAt rels m) (targetAt targets m) ≡ target
-        → canRelax (entryAt rels m .ty) (wordAt rels section m) ≡ true
-        → (decode (wordAt rels (f .section) k) ≡ form (ADRP rd (pageImm target (placeOf b (entryAt rels k)))))
-        × (decode (wordAt rels (f .section) m) ≡ form (ADD 1 0 (rdIn (wordAt rels section m)) (rnIn (wordAt rels section m)) (field target 0 12)))
-        × (M.addValue 1 0 (adrpPage (pageImm target (placeOf b (entryAt rels k))) (placeOf b (entryAt rels k))) (field target 0 12) ≡ target)
+    pub adrp-relaxed : Relaxed (entryAt entries m) (targetAt targets m) → targetOf (entryAt entries m) (targetAt targets m) ≡ target
+        → canRelax (entryAt entries m .ty) (wordAt entries section m) ≡ true
+        → (decode (wordAt entries (f .section) k) ≡ form (ADRP rd (pageImm target (placeOf b (entryAt entries k)))))
+        × (decode (wordAt entries (f .section) m) ≡ form (ADD 1 0 (rdIn (wordAt entries section m)) (rnIn (wordAt entries section m)) (field target 0 12)))
+        × (M.addValue 1 0 (adrpPage (pageImm target (placeOf b (entryAt entries k))) (placeOf b (entryAt entries k))) (field target 0 12) ≡ target)
     adrp-relaxed r′ same h = (
       page-means l r rd imm d near .0,
       relaxed-means l′ r′ h
-          ∙ ap (λ (t : ℕ). form (ADD 1 0 (rdIn (wordAt rels section m)) (rnIn (wordAt rels section m)) (field t 0 12))) same,
-      add-means target (placeOf b (entryAt rels k)) (page-lt _ _ r) (passed l .place) near,
+          ∙ ap (λ (t : ℕ). form (ADD 1 0 (rdIn (wordAt entries section m)) (rnIn (wordAt entries section m)) (field t 0 12))) same,
+      add-means target (placeOf b (entryAt entries k)) (page-lt _ _ r) (passed l .place) near,
     )
 
     -- ADRP and a load or store, whose size divides the target, access it
-    pub adrp-access : Offset (entryAt rels m) (targetAt targets m) target
-        → (size v opc rt rn imm12 : ℕ) → decode (wordAt rels section m) ≡ form (LDST size v opc rt rn imm12) → target % movedBy (rowOf size v opc) ≡ 0
-        → (decode (wordAt rels (f .section) k) ≡ form (ADRP rd (pageImm target (placeOf b (entryAt rels k)))))
-        × (decode (wordAt rels (f .section) m) ≡ form (LDST size v opc rt rn (target % 2 ^ 12 / movedBy (rowOf size v opc))))
-        × (M.accessAddress (rowOf size v opc) (adrpPage (pageImm target (placeOf b (entryAt rels k))) (placeOf b (entryAt rels k)))
+    pub adrp-access : Offset (entryAt entries m) (targetAt targets m) target
+        → (size v opc rt rn imm12 : ℕ) → decode (wordAt entries section m) ≡ form (LDST size v opc rt rn imm12) → target % movedBy (rowOf size v opc) ≡ 0
+        → (decode (wordAt entries (f .section) k) ≡ form (ADRP rd (pageImm target (placeOf b (entryAt entries k)))))
+        × (decode (wordAt entries (f .section) m) ≡ form (LDST size v opc rt rn (target % 2 ^ 12 / movedBy (rowOf size v opc))))
+        × (M.accessAddress (rowOf size v opc) (adrpPage (pageImm target (placeOf b (entryAt entries k))) (placeOf b (entryAt entries k)))
         (target % 2 ^ 12 / movedBy (rowOf size v opc))
         ≡ target)
     adrp-access r′ size v opc rt rn imm12 d′ h = (
       page-means l r rd imm d near .0,
       offset-access l′ r′ size v opc rt rn imm12 d′ h,
-      access-means target (placeOf b (entryAt rels k)) (page-lt _ _ r) (passed l .place) _ size v opc rt rn imm12 d′ near h,
+      access-means target (placeOf b (entryAt entries k)) (page-lt _ _ r) (passed l .place) _ size v opc rt rn imm12 d′ near h,
     )

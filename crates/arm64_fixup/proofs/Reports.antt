@@ -15,7 +15,7 @@ use Rattle.arm64_insn.specs.Reach.{adrpReaches}
 use Rattle.arm64_insn.specs.Branch.{branchReaches}
 use Rattle.arm64_fixup_entry.specs.Target.{placeOf}
 use Rattle.arm64_fixup_entry.specs.Change.{silent, branchTarget, thunkServes, dtraceSiteInsn, branch, page21, difference, changeOf}
-use Rattle.arm64_fixup.specs.Walk.{entryAt, targetAt, entries, consumed, reportsOf, Fixed, changeAt, workAt, fixTo}
+use Rattle.arm64_fixup.specs.Walk.{entryAt, targetAt, entryCount, consumed, reportsOf, Fixed, changeAt, workAt, fixTo}
 use Rattle.arm64_fixup.specs.Footprint.{Lone, Unreported, wordAt}
 use Rattle.arm64_fixup_entry.specs.Roles.{Page}
 use Rattle.arm64_fixup_entry.specs.declared.target.Bases.{Bases}
@@ -56,19 +56,19 @@ change-tells b i e t next nextTarget word =
 
 -- ---- what is told stands in the list
 
-module _ (b : Bases) (rels targets : List ℕ) where
+module _ (b : Bases) (entries targets : List ℕ) where
   -- reports stay
-  work-keeps : (f : Fixed) (i : ℕ) {r : R.Report} → List·Memᴰ r (f .reports) → List·Memᴰ r (workAt b rels targets f i .reports)
+  work-keeps : (f : Fixed) (i : ℕ) {r : R.Report} → List·Memᴰ r (f .reports) → List·Memᴰ r (workAt b entries targets f i .reports)
   unfolding workAt
-  work-keeps f i {r} m = chosen (λ (g : Fixed). List·Memᴰ r (g .reports)) (consumed rels i) f _ m (Memᴰ·append-left _ m)
+  work-keeps f i {r} m = chosen (λ (g : Fixed). List·Memᴰ r (g .reports)) (consumed entries i) f _ m (Memᴰ·append-left _ m)
 
-  fix-keeps : (section : List ℕ) (j i : ℕ) {r : R.Report} → List·Memᴰ r (fixTo b rels targets section i .reports)
-      → List·Memᴰ r (fixTo b rels targets section (j + i) .reports)
-  fix-keeps section zero i {r} m = subst (λ (k : ℕ). List·Memᴰ r (fixTo b rels targets section k .reports)) (omega arith) m
+  fix-keeps : (section : List ℕ) (j i : ℕ) {r : R.Report} → List·Memᴰ r (fixTo b entries targets section i .reports)
+      → List·Memᴰ r (fixTo b entries targets section (j + i) .reports)
+  fix-keeps section zero i {r} m = subst (λ (k : ℕ). List·Memᴰ r (fixTo b entries targets section k .reports)) (omega arith) m
   fix-keeps section (suc j) i {r} m =
-      subst (λ (k : ℕ). List·Memᴰ r (fixTo b rels targets section k .reports)) {x = suc (j + i)} {y = suc j + i} (omega arith)
-      (subst (λ (g : Fixed). List·Memᴰ r (g .reports)) (sym (fix-suc b rels targets section (j + i)))
-      (work-keeps (fixTo b rels targets section (j + i)) (j + i) (fix-keeps section j i m)))
+      subst (λ (k : ℕ). List·Memᴰ r (fixTo b entries targets section k .reports)) {x = suc (j + i)} {y = suc j + i} (omega arith)
+      (subst (λ (g : Fixed). List·Memᴰ r (g .reports)) (sym (fix-suc b entries targets section (j + i)))
+      (work-keeps (fixTo b entries targets section (j + i)) (j + i) (fix-keeps section j i m)))
 
 -- a page and a branch that tell nothing
 pub silent-test : (q : Bool) (w : Write) (c : Change) (r : R.Report) → c .told ≡ Report r → choose q (silent w) c .told ≡ Silent → q ≡ true
@@ -86,45 +86,47 @@ unfolding branch
 branch-silent s e t word far h =
     silent-test (branchReaches (branchTarget e t) (s .place)) _ _ _ (ap (λ (c : Change). c .told) (choose-false (thunkServes e t (branchTarget e t)) _ _ far)) h
 
-module _ {section : List ℕ} {b : Bases} {rels targets slots : List ℕ} {f : Fixed} {k : ℕ} (l : Lone section b rels targets slots f k) where
+module _ {section : List ℕ} {b : Bases} {entries targets slots : List ℕ} {f : Fixed} {k : ℕ} (l : Lone section b entries targets slots f k) where
   -- what entry k tells of the lent bytes stands in the list
-  pub told-in : {r : R.Report} → changeAt b rels targets section k .told ≡ Report r → List·Memᴰ r (f .reports)
+  pub told-in : {r : R.Report} → changeAt b entries targets section k .told ≡ Report r → List·Memᴰ r (f .reports)
   told-in {r} h =
-      let a = accepts section b rels targets slots (l .accepted) in
-      let one : fixTo b rels targets section (suc k) .reports ≡ fixTo b rels targets section k .reports ++ (r ∷ []) =
+      let a = accepts section b entries targets slots (l .accepted) in
+      let one : fixTo b entries targets section (suc k) .reports ≡ fixTo b entries targets section k .reports ++ (r ∷ []) =
       ap (λ (g : Fixed). g .reports)
-      (fix-suc b rels targets section k ∙ work-worked b rels targets (fixTo b rels targets section k) k (l .worked))
-      ∙ ap (λ (t : Told). fixTo b rels targets section k .reports ++ reportsOf t) (ap (λ (c : Change). c .told) (lent-step l) ∙ h) in
-      let m : List·Memᴰ r (fixTo b rels targets section (suc k) .reports) =
-      subst (λ (rs : List R.Report). List·Memᴰ r rs) (sym one) (Memᴰ·append-right (fixTo b rels targets section k .reports) (List·Memᴰ·head {xs = []} refl)) in
-      let n : entries rels - suc k + suc k ≡ entries rels = omega (arith, l .listed) in
+      (fix-suc b entries targets section k ∙ work-worked b entries targets (fixTo b entries targets section k) k (l .worked))
+      ∙ ap (λ (t : Told). fixTo b entries targets section k .reports ++ reportsOf t) (ap (λ (c : Change). c .told) (lent-step l) ∙ h) in
+      let m : List·Memᴰ r (fixTo b entries targets section (suc k) .reports) =
+      subst (λ (rs : List R.Report). List·Memᴰ r rs) (sym one)
+      (Memᴰ·append-right (fixTo b entries targets section k .reports) (List·Memᴰ·head {xs = []} refl)) in
+      let n : entryCount entries - suc k + suc k ≡ entryCount entries = omega (arith, l .listed) in
       subst (λ (g : Fixed). List·Memᴰ r (g .reports)) (sym (a .work))
-      (subst (λ (j : ℕ). List·Memᴰ r (fixTo b rels targets section j .reports)) n (fix-keeps b rels targets section (entries rels - suc k) (suc k) m))
+      (subst (λ (j : ℕ). List·Memᴰ r (fixTo b entries targets section j .reports)) n
+      (fix-keeps b entries targets section (entryCount entries - suc k) (suc k) m))
 
   -- an entry that no report names told nothing
-  pub unreported : Unreported f k → changeAt b rels targets section k .told ≡ Silent
+  pub unreported : Unreported f k → changeAt b entries targets section k .told ≡ Silent
   unfolding Of Tells
-  unreported u = go (changeAt b rels targets section k .told) refl
+  unreported u = go (changeAt b entries targets section k .told) refl
     where
-      go : (t : Told) → changeAt b rels targets section k .told ≡ t → t ≡ Silent
+      go : (t : Told) → changeAt b entries targets section k .told ≡ t → t ≡ Silent
       go Silent e = refl
       go (Report r) e =
           absurd
           (u r (told-in e)
           (subst (Of k) e
-          (change-tells b k (entryAt rels k) (targetAt targets k) (entryAt rels (k + 1)) (targetAt targets (k + 1)) (wordAt rels section k))))
+          (change-tells b k (entryAt entries k) (targetAt targets k) (entryAt entries (k + 1)) (targetAt targets (k + 1)) (wordAt entries section k))))
 
   -- so an ADRP was in reach
-  pub page-in-reach : {target : ℕ} → Page (entryAt rels k) (targetAt targets k) target → Unreported f k
-      → adrpReaches target (placeOf b (entryAt rels k)) ≡ true
+  pub page-in-reach : {target : ℕ} → Page (entryAt entries k) (targetAt targets k) target → Unreported f k
+      → adrpReaches target (placeOf b (entryAt entries k)) ≡ true
   page-in-reach {target} r u =
-      page-silent (siteOf b k (entryAt rels k)) target (wordAt rels section k)
+      page-silent (siteOf b k (entryAt entries k)) target (wordAt entries section k)
       (sym (ap (λ (c : Change). c .told) (page-does-it b k _ _ _ _ _ r)) ∙ unreported u)
 
   -- and a branch that takes no thunk
-  pub branch-in-reach : entryAt rels k .ty ≡ ARM64-RELOC-BRANCH26 → dtraceSiteInsn (entryAt rels k) (targetAt targets k) ≡ Untraced → Unreported f k
-      → thunkServes (entryAt rels k) (targetAt targets k) (branchTarget (entryAt rels k) (targetAt targets k)) ≡ false
-      → branchReaches (branchTarget (entryAt rels k) (targetAt targets k)) (placeOf b (entryAt rels k)) ≡ true
+  pub branch-in-reach : entryAt entries k .ty ≡ ARM64-RELOC-BRANCH26 → dtraceSiteInsn (entryAt entries k) (targetAt targets k) ≡ Untraced → Unreported f k
+      → thunkServes (entryAt entries k) (targetAt targets k) (branchTarget (entryAt entries k) (targetAt targets k)) ≡ false
+      → branchReaches (branchTarget (entryAt entries k) (targetAt targets k)) (placeOf b (entryAt entries k)) ≡ true
   branch-in-reach ty plain u far =
-      branch-silent (siteOf b k (entryAt rels k)) (entryAt rels k) (targetAt targets k) (wordAt rels section k) far
+      branch-silent (siteOf b k (entryAt entries k)) (entryAt entries k) (targetAt targets k) (wordAt entries section k) far
       (sym (ap (λ (c : Change). c .told) (branch-untraced b k _ _ _ _ _ ty plain)) ∙ unreported u)

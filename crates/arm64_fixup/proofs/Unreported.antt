@@ -42,29 +42,29 @@ use Rattle.arm64_fixup.proofs.Reports.{silent-test, unreported, page-in
 
 -- ---- branches
 
-module _ {section : List ℕ} {b : Bases} {rels targets slots : List ℕ} {f : Fixed} {k : ℕ} (l : Lone section b rels targets slots f k)
-    (ty : entryAt rels k .ty ≡ ARM64-RELOC-BRANCH26) (plain : dtraceSiteInsn (entryAt rels k) (targetAt targets k) ≡ Untraced)
+module _ {section : List ℕ} {b : Bases} {entries targets slots : List ℕ} {f : Fixed} {k : ℕ} (l : Lone section b entries targets slots f k)
+    (ty : entryAt entries k .ty ≡ ARM64-RELOC-BRANCH26) (plain : dtraceSiteInsn (entryAt entries k) (targetAt targets k) ≡ Untraced)
     (u : Unreported f k)
-    (direct : (branchReaches (branchTarget (entryAt rels k) (targetAt targets k)) (placeOf b (entryAt rels k)) ≡ true)
-    ⊎ (thunkServes (entryAt rels k) (targetAt targets k) (branchTarget (entryAt rels k) (targetAt targets k)) ≡ false))
-    (t : branchTarget (entryAt rels k) (targetAt targets k) % 4 ≡ 0) (p : placeOf b (entryAt rels k) % 4 ≡ 0)
+    (direct : (branchReaches (branchTarget (entryAt entries k) (targetAt targets k)) (placeOf b (entryAt entries k)) ≡ true)
+    ⊎ (thunkServes (entryAt entries k) (targetAt targets k) (branchTarget (entryAt entries k) (targetAt targets k)) ≡ false))
+    (t : branchTarget (entryAt entries k) (targetAt targets k) % 4 ≡ 0) (p : placeOf b (entryAt entries k) % 4 ≡ 0)
   where
     -- the immediate that it gets
     abbrev imm : ℕ
-    imm = field (displacement (entryAt rels k) (targetAt targets k) (placeOf b (entryAt rels k))) 2 26
+    imm = field (displacement (entryAt entries k) (targetAt targets k) (placeOf b (entryAt entries k))) 2 26
 
-    to-target : M.branchTarget imm (placeOf b (entryAt rels k)) ≡ branchTarget (entryAt rels k) (targetAt targets k)
+    to-target : M.branchTarget imm (placeOf b (entryAt entries k)) ≡ branchTarget (entryAt entries k) (targetAt targets k)
     to-target = goes l ty plain (⊎-elim (λ h. h) (branch-in-reach l ty plain u) direct) t p
 
     -- a B or a BL that takes no thunk, since it reaches T or since none serves, goes from P to T
-    pub b-goes : (imm26 : ℕ) → decode (wordAt rels section k) ≡ form (B imm26)
-        → (decode (wordAt rels (f .section) k) ≡ form (B imm))
-        × (M.branchTarget imm (placeOf b (entryAt rels k)) ≡ branchTarget (entryAt rels k) (targetAt targets k))
+    pub b-goes : (imm26 : ℕ) → decode (wordAt entries section k) ≡ form (B imm26)
+        → (decode (wordAt entries (f .section) k) ≡ form (B imm))
+        × (M.branchTarget imm (placeOf b (entryAt entries k)) ≡ branchTarget (entryAt entries k) (targetAt targets k))
     b-goes imm26 d = (b-stays l ty plain imm26 d, to-target)
 
-    pub bl-goes : (imm26 : ℕ) → decode (wordAt rels section k) ≡ form (BL imm26)
-        → (decode (wordAt rels (f .section) k) ≡ form (BL imm))
-        × (M.branchTarget imm (placeOf b (entryAt rels k)) ≡ branchTarget (entryAt rels k) (targetAt targets k))
+    pub bl-goes : (imm26 : ℕ) → decode (wordAt entries section k) ≡ form (BL imm26)
+        → (decode (wordAt entries (f .section) k) ≡ form (BL imm))
+        × (M.branchTarget imm (placeOf b (entryAt entries k)) ≡ branchTarget (entryAt entries k) (targetAt targets k))
     bl-goes imm26 d = (bl-stays l ty plain imm26 d, to-target)
 
 -- ---- page offsets
@@ -78,23 +78,23 @@ relaxed-silent : (s : Site) (ty target word : ℕ) → relaxed s ty target word 
 unfolding relaxed
 relaxed-silent s ty target word h = silent-test (canRelax ty word) _ _ _ refl h
 
-module _ {section : List ℕ} {b : Bases} {rels targets slots : List ℕ} {f : Fixed} {k : ℕ} (l : Lone section b rels targets slots f k) where
+module _ {section : List ℕ} {b : Bases} {entries targets slots : List ℕ} {f : Fixed} {k : ℕ} (l : Lone section b entries targets slots f k) where
   -- the size of a load or store divides the target
-  pub access-aligned : {target : ℕ} → Offset (entryAt rels k) (targetAt targets k) target → Unreported f k
-      → (size v opc rt rn imm12 : ℕ) → decode (wordAt rels section k) ≡ form (LDST size v opc rt rn imm12) → target % movedBy (rowOf size v opc) ≡ 0
+  pub access-aligned : {target : ℕ} → Offset (entryAt entries k) (targetAt targets k) target → Unreported f k
+      → (size v opc rt rn imm12 : ℕ) → decode (wordAt entries section k) ≡ form (LDST size v opc rt rn imm12) → target % movedBy (rowOf size v opc) ≡ 0
   access-aligned {target} r u size v opc rt rn imm12 d =
       eqb-true (target % movedBy (rowOf size v opc)) 0
-      (fitted-silent (siteOf b k (entryAt rels k)) (eqb (target % movedBy (rowOf size v opc)) 0) _ _
+      (fitted-silent (siteOf b k (entryAt entries k)) (eqb (target % movedBy (rowOf size v opc)) 0) _ _
       (sym
       (ap (λ (c : Change). c .told)
       (offset-does-it b k _ _ _ _ _ r
-      ∙ ap (λ (x : Fit). fitted (siteOf b k (entryAt rels k)) x) (load-store-patched _ size v opc rt rn imm12 target d)))
+      ∙ ap (λ (x : Fit). fitted (siteOf b k (entryAt entries k)) x) (load-store-patched _ size v opc rt rn imm12 target d)))
       ∙ unreported l u))
 
   -- a relaxed page offset had a word that can be relaxed
-  pub relaxed-fits : Relaxed (entryAt rels k) (targetAt targets k) → Unreported f k → canRelax (entryAt rels k .ty) (wordAt rels section k) ≡ true
+  pub relaxed-fits : Relaxed (entryAt entries k) (targetAt targets k) → Unreported f k → canRelax (entryAt entries k .ty) (wordAt entries section k) ≡ true
   relaxed-fits r u =
-      relaxed-silent (siteOf b k (entryAt rels k)) (entryAt rels k .ty) (targetOf (entryAt rels k) (targetAt targets k)) (wordAt rels section k)
+      relaxed-silent (siteOf b k (entryAt entries k)) (entryAt entries k .ty) (targetOf (entryAt entries k) (targetAt targets k)) (wordAt entries section k)
       (sym (ap (λ (c : Change). c .told) (relaxed-does l r)) ∙ unreported l u)
 
 -- ---- pairs: entry k has a page and the word of an ADRP, entry m the page offset. What the word at m makes or accesses is said of a source
@@ -108,53 +108,53 @@ got-address : (e : Reloc) (t : Resolved) → canRelaxGot t ≡ true → gotTarge
 unfolding gotTarget
 got-address e t h = choose-true (canRelaxGot t) _ _ h
 
-module _ {section : List ℕ} {b : Bases} {rels targets slots : List ℕ} {f : Fixed} {k m : ℕ}
-    (l : Lone section b rels targets slots f k) (u : Unreported f k) (l′ : Lone section b rels targets slots f m)
-    (rd imm : ℕ) (d : decode (wordAt rels section k) ≡ form (ADRP rd imm))
+module _ {section : List ℕ} {b : Bases} {entries targets slots : List ℕ} {f : Fixed} {k m : ℕ}
+    (l : Lone section b entries targets slots f k) (u : Unreported f k) (l′ : Lone section b entries targets slots f m)
+    (rd imm : ℕ) (d : decode (wordAt entries section k) ≡ form (ADRP rd imm))
   where
     -- the page of a target that the word at k makes
     abbrev pageTo : ℕ → ℕ
-    pageTo target = adrpPage (pageImm target (placeOf b (entryAt rels k))) (placeOf b (entryAt rels k))
+    pageTo target = adrpPage (pageImm target (placeOf b (entryAt entries k))) (placeOf b (entryAt entries k))
 
     -- what k's word is then
     abbrev PageAt : ℕ → Type 0
-    PageAt target = decode (wordAt rels (f .section) k) ≡ form (ADRP rd (pageImm target (placeOf b (entryAt rels k))))
+    PageAt target = decode (wordAt entries (f .section) k) ≡ form (ADRP rd (pageImm target (placeOf b (entryAt entries k))))
 
-    page-of : {page target : ℕ} → Page (entryAt rels k) (targetAt targets k) page → page ≡ target → Page (entryAt rels k) (targetAt targets k) target
-    page-of r same = subst (λ (t : ℕ). Page (entryAt rels k) (targetAt targets k) t) same r
+    page-of : {page target : ℕ} → Page (entryAt entries k) (targetAt targets k) page → page ≡ target → Page (entryAt entries k) (targetAt targets k) target
+    page-of r same = subst (λ (t : ℕ). Page (entryAt entries k) (targetAt targets k) t) same r
 
     -- an unshifted ADD of 64 bits makes the target that both have: S + A of PAGE21 and PAGEOFF12
-    pub pair-add : {page target : ℕ} → Page (entryAt rels k) (targetAt targets k) page → Offset (entryAt rels m) (targetAt targets m) target
+    pub pair-add : {page target : ℕ} → Page (entryAt entries k) (targetAt targets k) page → Offset (entryAt entries m) (targetAt targets m) target
         → page ≡ target
-        → (rd′ rn imm12 : ℕ) → decode (wordAt rels section m) ≡ form (ADD 1 0 rd′ rn imm12)
+        → (rd′ rn imm12 : ℕ) → decode (wordAt entries section m) ≡ form (ADD 1 0 rd′ rn imm12)
         → PageAt target
-        × (decode (wordAt rels (f .section) m) ≡ form (ADD 1 0 rd′ rn (field target 0 12)))
+        × (decode (wordAt entries (f .section) m) ≡ form (ADD 1 0 rd′ rn (field target 0 12)))
         × (M.addValue 1 0 (pageTo target) (field target 0 12) ≡ target)
     pair-add r r′ same = let p = page-of r same in adrp-add l l′ p (page-in-reach l p u) rd imm d r′
 
     -- of a GOT or TLVP pair that is not relaxed, G + A
-    pub got-add : Page (entryAt rels k) (targetAt targets k) (gotTarget (entryAt rels k) (targetAt targets k)) → GotOffset (entryAt rels m)
+    pub got-add : Page (entryAt entries k) (targetAt targets k) (gotTarget (entryAt entries k) (targetAt targets k)) → GotOffset (entryAt entries m)
         → canRelaxGot (targetAt targets k) ≡ false
         → canRelaxGot (targetAt targets m) ≡ false
-        → slotOf (entryAt rels k) (targetAt targets k) ≡ slotOf (entryAt rels m) (targetAt targets m)
-        → (rd′ rn imm12 : ℕ) → decode (wordAt rels section m) ≡ form (ADD 1 0 rd′ rn imm12)
-        → PageAt (slotOf (entryAt rels m) (targetAt targets m))
-        × (decode (wordAt rels (f .section) m) ≡ form (ADD 1 0 rd′ rn (field (slotOf (entryAt rels m) (targetAt targets m)) 0 12)))
-        × (M.addValue 1 0 (pageTo (slotOf (entryAt rels m) (targetAt targets m))) (field (slotOf (entryAt rels m) (targetAt targets m)) 0 12)
-        ≡ slotOf (entryAt rels m) (targetAt targets m))
+        → slotOf (entryAt entries k) (targetAt targets k) ≡ slotOf (entryAt entries m) (targetAt targets m)
+        → (rd′ rn imm12 : ℕ) → decode (wordAt entries section m) ≡ form (ADD 1 0 rd′ rn imm12)
+        → PageAt (slotOf (entryAt entries m) (targetAt targets m))
+        × (decode (wordAt entries (f .section) m) ≡ form (ADD 1 0 rd′ rn (field (slotOf (entryAt entries m) (targetAt targets m)) 0 12)))
+        × (M.addValue 1 0 (pageTo (slotOf (entryAt entries m) (targetAt targets m))) (field (slotOf (entryAt entries m) (targetAt targets m)) 0 12)
+        ≡ slotOf (entryAt entries m) (targetAt targets m))
     got-add r g n n′ same = pair-add r (got-offset g n′) (got-slot _ _ n ∙ same)
 
-    module _ (size v opc rt rn imm12 : ℕ) (d′ : decode (wordAt rels section m) ≡ form (LDST size v opc rt rn imm12))
+    module _ (size v opc rt rn imm12 : ℕ) (d′ : decode (wordAt entries section m) ≡ form (LDST size v opc rt rn imm12))
         (u′ : Unreported f m)
       where
         -- what m's word is then, and where it loads or stores
         abbrev AccessAt : ℕ → Type 0
         AccessAt target =
-            (decode (wordAt rels (f .section) m) ≡ form (LDST size v opc rt rn (target % 2 ^ 12 / movedBy (rowOf size v opc))))
+            (decode (wordAt entries (f .section) m) ≡ form (LDST size v opc rt rn (target % 2 ^ 12 / movedBy (rowOf size v opc))))
             × (M.accessAddress (rowOf size v opc) (pageTo target) (target % 2 ^ 12 / movedBy (rowOf size v opc)) ≡ target)
 
         -- a load or store accesses the target that both have: S + A of PAGE21 and PAGEOFF12
-        pub pair-access : {page target : ℕ} → Page (entryAt rels k) (targetAt targets k) page → Offset (entryAt rels m) (targetAt targets m) target
+        pub pair-access : {page target : ℕ} → Page (entryAt entries k) (targetAt targets k) page → Offset (entryAt entries m) (targetAt targets m) target
             → page ≡ target
             → PageAt target × AccessAt target
         pair-access r r′ same =
@@ -164,24 +164,24 @@ module _ {section : List ℕ} {b : Bases} {rels targets slots : List ℕ} {f : F
             (w .0, (w .1, w .2))
 
         -- of a GOT or TLVP pair that is not relaxed, G + A
-        pub got-access : Page (entryAt rels k) (targetAt targets k) (gotTarget (entryAt rels k) (targetAt targets k)) → GotOffset (entryAt rels m)
+        pub got-access : Page (entryAt entries k) (targetAt targets k) (gotTarget (entryAt entries k) (targetAt targets k)) → GotOffset (entryAt entries m)
             → canRelaxGot (targetAt targets k) ≡ false
             → canRelaxGot (targetAt targets m) ≡ false
-            → slotOf (entryAt rels k) (targetAt targets k) ≡ slotOf (entryAt rels m) (targetAt targets m)
-            → PageAt (slotOf (entryAt rels m) (targetAt targets m)) × AccessAt (slotOf (entryAt rels m) (targetAt targets m))
+            → slotOf (entryAt entries k) (targetAt targets k) ≡ slotOf (entryAt entries m) (targetAt targets m)
+            → PageAt (slotOf (entryAt entries m) (targetAt targets m)) × AccessAt (slotOf (entryAt entries m) (targetAt targets m))
         got-access r g n n′ same = pair-access r (got-offset g n′) (got-slot _ _ n ∙ same)
 
     -- of one that is relaxed, the ADD in the load's place makes S + A
-    pub got-relaxed : Page (entryAt rels k) (targetAt targets k) (gotTarget (entryAt rels k) (targetAt targets k))
-        → Relaxed (entryAt rels m) (targetAt targets m)
+    pub got-relaxed : Page (entryAt entries k) (targetAt targets k) (gotTarget (entryAt entries k) (targetAt targets k))
+        → Relaxed (entryAt entries m) (targetAt targets m)
         → Unreported f m
         → canRelaxGot (targetAt targets k) ≡ true
-        → targetOf (entryAt rels k) (targetAt targets k) ≡ targetOf (entryAt rels m) (targetAt targets m)
-        → PageAt (targetOf (entryAt rels m) (targetAt targets m))
-        × (decode (wordAt rels (f .section) m)
-        ≡ form (ADD 1 0 (rdIn (wordAt rels section m)) (rnIn (wordAt rels section m)) (field (targetOf (entryAt rels m) (targetAt targets m)) 0 12)))
-        × (M.addValue 1 0 (pageTo (targetOf (entryAt rels m) (targetAt targets m))) (field (targetOf (entryAt rels m) (targetAt targets m)) 0 12)
-        ≡ targetOf (entryAt rels m) (targetAt targets m))
+        → targetOf (entryAt entries k) (targetAt targets k) ≡ targetOf (entryAt entries m) (targetAt targets m)
+        → PageAt (targetOf (entryAt entries m) (targetAt targets m))
+        × (decode (wordAt entries (f .section) m)
+        ≡ form (ADD 1 0 (rdIn (wordAt entries section m)) (rnIn (wordAt entries section m)) (field (targetOf (entryAt entries m) (targetAt targets m)) 0 12)))
+        × (M.addValue 1 0 (pageTo (targetOf (entryAt entries m) (targetAt targets m))) (field (targetOf (entryAt entries m) (targetAt targets m)) 0 12)
+        ≡ targetOf (entryAt entries m) (targetAt targets m))
     got-relaxed r r′ u′ x same =
         let p = page-of r (got-address _ _ x ∙ same) in
         adrp-relaxed l l′ p (page-in-reach l p u) rd imm d r′ refl (relaxed-fits l′ r′ u′)

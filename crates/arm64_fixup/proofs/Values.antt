@@ -38,46 +38,46 @@ difference-8 : (e : Reloc) (value : ℕ) → (e .size ≡ 4 → ⊥) → differe
 unfolding difference choose
 difference-8 e value s = rw (ne-eqb _ _ s)
 
-module _ {section : List ℕ} {b : Bases} {rels targets slots : List ℕ} {f : Fixed} {k : ℕ} (l : Lone section b rels targets slots f k) where
+module _ {section : List ℕ} {b : Bases} {entries targets slots : List ℕ} {f : Fixed} {k : ℕ} (l : Lone section b entries targets slots f k) where
   -- UNSIGNED of anything but an imported symbol: S + A
-  pub unsigned-plain : entryAt rels k .ty ≡ ARM64-RELOC-UNSIGNED → importedSymbol (entryAt rels k) (targetAt targets k) ≡ false
+  pub unsigned-plain : entryAt entries k .ty ≡ ARM64-RELOC-UNSIGNED → importedSymbol (entryAt entries k) (targetAt targets k) ≡ false
       → isTls (targetAt targets k) ≡ false
-      → pointerAt rels (f .section) k ≡ sum (targetAt targets k .addr) (entryAt rels k .addend)
+      → pointerAt entries (f .section) k ≡ sum (targetAt targets k .addr) (entryAt entries k .addend)
   unfolding unsignedValue targetOf choose
   unsigned-plain h i t =
       stores-pointer l (ap (λ (c : Change). c .write) (unsigned-does b k _ _ _ _ _ h i))
-      ∙ rw t (mod-eq-of-lt (sum-lt (targetAt targets k .addr) (entryAt rels k .addend)))
+      ∙ rw t (mod-eq-of-lt (sum-lt (targetAt targets k .addr) (entryAt entries k .addend)))
 
   -- of a thread-local: S + A less the start of thread-local storage
-  pub unsigned-tls : entryAt rels k .ty ≡ ARM64-RELOC-UNSIGNED → importedSymbol (entryAt rels k) (targetAt targets k) ≡ false
+  pub unsigned-tls : entryAt entries k .ty ≡ ARM64-RELOC-UNSIGNED → importedSymbol (entryAt entries k) (targetAt targets k) ≡ false
       → isTls (targetAt targets k) ≡ true
-      → pointerAt rels (f .section) k ≡ diff (sum (targetAt targets k .addr) (entryAt rels k .addend)) (b .«tls_begin»)
+      → pointerAt entries (f .section) k ≡ diff (sum (targetAt targets k .addr) (entryAt entries k .addend)) (b .«tls_begin»)
   unfolding unsignedValue targetOf choose
   unsigned-tls h i t =
       stores-pointer l (ap (λ (c : Change). c .write) (unsigned-does b k _ _ _ _ _ h i))
-      ∙ rw t (mod-eq-of-lt (diff-lt (sum (targetAt targets k .addr) (entryAt rels k .addend)) (b .«tls_begin»)))
+      ∙ rw t (mod-eq-of-lt (diff-lt (sum (targetAt targets k .addr) (entryAt entries k .addend)) (b .«tls_begin»)))
 
   -- SUBTRACTOR: the next entry's S + A minus the own S, its low 4 bytes or all 8
-  pub subtractor-4 : entryAt rels k .ty ≡ ARM64-RELOC-SUBTRACTOR → entryAt rels k .size ≡ 4
-      → wordAt rels (f .section) k
-      ≡ diff (sum (targetAt targets (k + 1) .addr) (entryAt rels (k + 1) .addend)) (targetAt targets k .addr) % 2 ^ 32
+  pub subtractor-4 : entryAt entries k .ty ≡ ARM64-RELOC-SUBTRACTOR → entryAt entries k .size ≡ 4
+      → wordAt entries (f .section) k
+      ≡ diff (sum (targetAt targets (k + 1) .addr) (entryAt entries (k + 1) .addend)) (targetAt targets k .addr) % 2 ^ 32
   unfolding subtractorValue targetOf
   subtractor-4 h s =
       stores-word l (ap (λ (c : Change). c .write) (subtractor-does b k _ _ _ _ _ h ∙ difference-4 _ _ s))
-      ∙ mod-mod (diff (sum (targetAt targets (k + 1) .addr) (entryAt rels (k + 1) .addend)) (targetAt targets k .addr)) (2 ^ 32)
+      ∙ mod-mod (diff (sum (targetAt targets (k + 1) .addr) (entryAt entries (k + 1) .addend)) (targetAt targets k .addr)) (2 ^ 32)
 
-  pub subtractor-8 : entryAt rels k .ty ≡ ARM64-RELOC-SUBTRACTOR → (entryAt rels k .size ≡ 4 → ⊥)
-      → pointerAt rels (f .section) k
-      ≡ diff (sum (targetAt targets (k + 1) .addr) (entryAt rels (k + 1) .addend)) (targetAt targets k .addr)
+  pub subtractor-8 : entryAt entries k .ty ≡ ARM64-RELOC-SUBTRACTOR → (entryAt entries k .size ≡ 4 → ⊥)
+      → pointerAt entries (f .section) k
+      ≡ diff (sum (targetAt targets (k + 1) .addr) (entryAt entries (k + 1) .addend)) (targetAt targets k .addr)
   unfolding subtractorValue targetOf
   subtractor-8 h s =
       stores-pointer l (ap (λ (c : Change). c .write) (subtractor-does b k _ _ _ _ _ h ∙ difference-8 _ _ s))
-      ∙ mod-eq-of-lt (diff-lt (sum (targetAt targets (k + 1) .addr) (entryAt rels (k + 1) .addend)) (targetAt targets k .addr))
+      ∙ mod-eq-of-lt (diff-lt (sum (targetAt targets (k + 1) .addr) (entryAt entries (k + 1) .addend)) (targetAt targets k .addr))
 
   -- POINTER_TO_GOT: the low 32 bits of G + A - P
-  pub pointer-to-got : entryAt rels k .ty ≡ ARM64-RELOC-POINTER-TO-GOT
-      → wordAt rels (f .section) k ≡ diff (sum (targetAt targets k .got) (entryAt rels k .addend)) (placeOf b (entryAt rels k)) % 2 ^ 32
+  pub pointer-to-got : entryAt entries k .ty ≡ ARM64-RELOC-POINTER-TO-GOT
+      → wordAt entries (f .section) k ≡ diff (sum (targetAt targets k .got) (entryAt entries k .addend)) (placeOf b (entryAt entries k)) % 2 ^ 32
   unfolding pointerToGot slotOf
   pointer-to-got h =
       stores-word l (ap (λ (c : Change). c .write) (pointer-does b k _ _ _ _ _ h))
-      ∙ mod-mod (diff (sum (targetAt targets k .got) (entryAt rels k .addend)) (placeOf b (entryAt rels k))) (2 ^ 32)
+      ∙ mod-mod (diff (sum (targetAt targets k .got) (entryAt entries k .addend)) (placeOf b (entryAt entries k))) (2 ^ 32)

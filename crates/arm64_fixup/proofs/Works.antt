@@ -17,7 +17,7 @@ use Rattle.macho.specs.declared.resolved.Resolved.{Resolved}
 use Rattle.macho.specs.declared.report.Report.{Report}
 use Rattle.arm64_fixup_entry.specs.Check.{checkOf}
 use Rattle.arm64_fixup_entry.specs.Change.{bytesIn, changeOf}
-use Rattle.arm64_fixup.specs.Walk.{entries, entryAt, targetAt, takenBy, consumed, checkAll, stored, reportsOf, Fixed}
+use Rattle.arm64_fixup.specs.Walk.{entryCount, entryAt, targetAt, takenBy, consumed, checkAll, stored, reportsOf, Fixed}
 use Rattle.arm64_fixup.specs.Walk.{applied, fixTo, fixAll}
 use Rattle.arm64_fixup.specs.Answer.{filled}
 use Rattle.arm64_fixup_entry.specs.declared.target.Bases.{Bases}
@@ -72,57 +72,58 @@ room len b i e t last next nextTarget word h q =
     let s = sound len b e t last h in
     rw q (omega (arith, change-fits b i e t next nextTarget word))
 
-module _ (b : Bases) (rels targets section : List ℕ) (i : ℕ) (free : consumed rels i ≡ false) where
+module _ (b : Bases) (entries targets section : List ℕ) (i : ℕ) (free : consumed entries i ≡ false) where
   -- the entry was checked
-  pub fit-at : {e : Reloc} {t : Resolved} {len : ℕ} → checkAll (length section) b rels targets ≡ Fit → i < entries rels
-      → e ≡ entryAt rels i → t ≡ targetAt targets i → len ≡ length section → checkOf len b e t (eqb (i + 1) (entries rels)) ≡ Fit
+  pub fit-at : {e : Reloc} {t : Resolved} {len : ℕ} → checkAll (length section) b entries targets ≡ Fit → i < entryCount entries
+      → e ≡ entryAt entries i → t ≡ targetAt targets i → len ≡ length section → checkOf len b e t (eqb (i + 1) (entryCount entries)) ≡ Fit
   fit-at h below pe pt pl =
-      rw (pl, pe, pt) (sym (check-worked (length section) b rels targets i free) ∙ passes (length section) b rels targets (entries rels) i h below)
+      rw (pl, pe, pt) (sym (check-worked (length section) b entries targets i free) ∙ passes (length section) b entries targets (entryCount entries) i h below)
 
-  module _ {e : Reloc} {t : Resolved} {c : Change} {k : ℕ} (pe : e ≡ entryAt rels i) (pt : t ≡ targetAt targets i) (pk : k ≡ takenBy (e .ty))
-      {buf : List ℕ} (pb : buf ≡ fixTo b rels targets section i .section)
-      (pc : c ≡ changeOf b i e t (entryAt rels (i + 1)) (targetAt targets (i + 1)) (le 4 buf (e .offset)))
+  module _ {e : Reloc} {t : Resolved} {c : Change} {k : ℕ} (pe : e ≡ entryAt entries i) (pt : t ≡ targetAt targets i) (pk : k ≡ takenBy (e .ty))
+      {buf : List ℕ} (pb : buf ≡ fixTo b entries targets section i .section)
+      (pc : c ≡ changeOf b i e t (entryAt entries (i + 1)) (targetAt targets (i + 1)) (le 4 buf (e .offset)))
     where
-      step : fixTo b rels targets section (i + k) ≡ applied (fixTo b rels targets section i) (e .offset) c
-      step = rw (pc, pb, pk, pe, pt) (fix-next b rels targets section i free)
+      step : fixTo b entries targets section (i + k) ≡ applied (fixTo b entries targets section i) (e .offset) c
+      step = rw (pc, pb, pk, pe, pt) (fix-next b entries targets section i free)
 
       -- what holds after the turn
-      pub work-again : (slots₀ : List ℕ) {count count′ : ℕ} {slots slots′ buf′ : List ℕ} → i < entries rels → checkAll (length section) b rels targets ≡ Fit
+      pub work-again : (slots₀ : List ℕ) {count count′ : ℕ} {slots slots′ buf′ : List ℕ} → i < entryCount entries
+          → checkAll (length section) b entries targets ≡ Fit
           → count ≤ i
-          → count ≡ length (fixTo b rels targets section i .reports)
-          → slots ≡ sets slots₀ 0 (listBytes reportBytes (fixTo b rels targets section i .reports))
+          → count ≡ length (fixTo b entries targets section i .reports)
+          → slots ≡ sets slots₀ 0 (listBytes reportBytes (fixTo b entries targets section i .reports))
           → buf′ ≡ stored buf (e .offset) (c .write)
           → count′ ≡ count + length (reportsOf (c .told))
           → slots′ ≡ sets slots (24 * count) (listBytes reportBytes (reportsOf (c .told)))
-          → (i + k ≤ entries rels)
-          × (consumed rels (i + k) ≡ false)
+          → (i + k ≤ entryCount entries)
+          × (consumed entries (i + k) ≡ false)
           × (count′ ≤ i + k)
-          × (count′ ≡ length (fixTo b rels targets section (i + k) .reports))
-          × (buf′ ≡ fixTo b rels targets section (i + k) .section)
-          × (slots′ ≡ sets slots₀ 0 (listBytes reportBytes (fixTo b rels targets section (i + k) .reports)))
+          × (count′ ≡ length (fixTo b entries targets section (i + k) .reports))
+          × (buf′ ≡ fixTo b entries targets section (i + k) .section)
+          × (slots′ ≡ sets slots₀ 0 (listBytes reportBytes (fixTo b entries targets section (i + k) .reports)))
       work-again slots₀ below h few pn ps qb qn qs = (
-        rw (pk, pe) (next-within (length section) b rels targets i free below (fit-at h below refl refl refl)),
-        rw (pk, pe) (next-worked rels i free),
+        rw (pk, pe) (next-within (length section) b entries targets i free below (fit-at h below refl refl refl)),
+        rw (pk, pe) (next-worked entries i free),
         omega (arith, at-most-one (c .told), takes (e .ty) pk .0),
         rw step (qn ∙ simp length-append (omega arith)),
         rw step (qb ∙ ap (λ (s : List ℕ). stored s (e .offset) (c .write)) pb),
-        rw step (qs ∙ rw (ps, pn) (sym (more slots₀ (fixTo b rels targets section i .reports) (reportsOf (c .told))))),
+        rw step (qs ∙ rw (ps, pn) (sym (more slots₀ (fixTo b entries targets section i .reports) (reportsOf (c .told))))),
       )
 
 -- what holds after the last turn
-pub work-done : (b : Bases) (rels targets section slots₀ : List ℕ) (i : ℕ) {count : ℕ} {buf slots : List ℕ} → i ≤ entries rels → entries rels ≤ i
+pub work-done : (b : Bases) (entries targets section slots₀ : List ℕ) (i : ℕ) {count : ℕ} {buf slots : List ℕ} → i ≤ entryCount entries → entryCount entries ≤ i
     → count ≤ i
-    → 24 * entries rels ≤ length slots₀
-    → count ≡ length (fixTo b rels targets section i .reports)
-    → buf ≡ fixTo b rels targets section i .section
-    → slots ≡ sets slots₀ 0 (listBytes reportBytes (fixTo b rels targets section i .reports))
-    → (count ≡ length (fixAll b rels targets section .reports))
-    × ((buf ≡ fixAll b rels targets section .section) × (slots ≡ filled (fixAll b rels targets section) slots₀))
-work-done b rels targets section slots₀ i {count} {buf} {slots} l g few enough pn pb ps =
+    → 24 * entryCount entries ≤ length slots₀
+    → count ≡ length (fixTo b entries targets section i .reports)
+    → buf ≡ fixTo b entries targets section i .section
+    → slots ≡ sets slots₀ 0 (listBytes reportBytes (fixTo b entries targets section i .reports))
+    → (count ≡ length (fixAll b entries targets section .reports))
+    × ((buf ≡ fixAll b entries targets section .section) × (slots ≡ filled (fixAll b entries targets section) slots₀))
+work-done b entries targets section slots₀ i {count} {buf} {slots} l g few enough pn pb ps =
     ended
     (λ (k : ℕ).
-    (count ≡ length (fixTo b rels targets section k .reports))
-    × ((buf ≡ fixTo b rels targets section k .section) × (slots ≡ filled (fixTo b rels targets section k) slots₀)))
+    (count ≡ length (fixTo b entries targets section k .reports))
+    × ((buf ≡ fixTo b entries targets section k .section) × (slots ≡ filled (fixTo b entries targets section k) slots₀)))
     l
     g
-    (pn, (pb, ps ∙ front slots₀ (fixTo b rels targets section i) (omega arith)))
+    (pn, (pb, ps ∙ front slots₀ (fixTo b entries targets section i) (omega arith)))

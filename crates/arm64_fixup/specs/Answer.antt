@@ -20,20 +20,20 @@ use Rattle.arm64_fixup.specs.Walk.{checkAll, Fixed, fixAll}
 
 -- number 1: no whole entries or targets, more than 2^32 - 1 entries, or not one target an entry
 abbrev pub disagree : ℕ → ℕ → Bool
-disagree rels targets =
-    not (eqb (rels % relocSize) 0)
+disagree entries targets =
+    not (eqb (entries % relocSize) 0)
     || not (eqb (targets % resolvedSize) 0)
-    || leb (2 ^ 32) (rels / relocSize)
-    || not (eqb (rels / relocSize) (targets / resolvedSize))
+    || leb (2 ^ 32) (entries / relocSize)
+    || not (eqb (entries / relocSize) (targets / resolvedSize))
 
 -- number 2: fewer slots than entries
 abbrev pub lacksSlots : ℕ → ℕ → Bool
-lacksSlots rels slots = ltb slots (reportSize * (rels / relocSize))
+lacksSlots entries slots = ltb slots (reportSize * (entries / relocSize))
 
 -- the numbers of the lists' lengths, before those of the entries
 unfoldable pub checkLists : ℕ → ℕ → ℕ → Check
-checkLists rels targets slots =
-    choose (disagree rels targets) (C.Refused Lengths) (choose (lacksSlots rels slots) (C.Refused Slots) C.Fit)
+checkLists entries targets slots =
+    choose (disagree entries targets) (C.Refused Lengths) (choose (lacksSlots entries slots) (C.Refused Slots) C.Fit)
 
 -- the address of the section's first byte, and the start of thread-local storage
 abbrev pub basesOf : ℕ → ℕ → Bases
@@ -51,9 +51,9 @@ after C.Fit o = o
 
 -- the lists' lengths first, then the entries, and only then the work
 unfoldable pub outcomeOf : List ℕ → Bases → List ℕ → List ℕ → List ℕ → Outcome
-outcomeOf section b rels targets slots =
-    after (checkLists (length rels) (length targets) (length slots))
-    (after (checkAll (length section) b rels targets) (fixed (fixAll b rels targets section)))
+outcomeOf section b entries targets slots =
+    after (checkLists (length entries) (length targets) (length slots))
+    (after (checkAll (length section) b entries targets) (fixed (fixAll b entries targets section)))
 
 -- the answer: how many reports were filled, or the refusal
 abbrev pub answerOf : Outcome → Answer
@@ -76,12 +76,12 @@ slotsAfter (fixed f) slots = filled f slots
 
 -- what a call answers to what was lent
 abbrev pub answerTo : List ℕ → ℕ → ℕ → List ℕ → List ℕ → List ℕ → Answer
-answerTo section base tls rels targets slots = answerOf (outcomeOf section (basesOf base tls) rels targets slots)
+answerTo section base tls entries targets slots = answerOf (outcomeOf section (basesOf base tls) entries targets slots)
 
 -- the section after it
 abbrev pub sectionTo : List ℕ → ℕ → ℕ → List ℕ → List ℕ → List ℕ → List ℕ
-sectionTo section base tls rels targets slots = sectionAfter (outcomeOf section (basesOf base tls) rels targets slots) section
+sectionTo section base tls entries targets slots = sectionAfter (outcomeOf section (basesOf base tls) entries targets slots) section
 
 -- the slots after it
 abbrev pub slotsTo : List ℕ → ℕ → ℕ → List ℕ → List ℕ → List ℕ → List ℕ
-slotsTo section base tls rels targets slots = slotsAfter (outcomeOf section (basesOf base tls) rels targets slots) slots
+slotsTo section base tls entries targets slots = slotsAfter (outcomeOf section (basesOf base tls) entries targets slots) slots

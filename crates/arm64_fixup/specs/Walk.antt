@@ -24,15 +24,15 @@ use Rattle.arm64_fixup_entry.specs.declared.change.Change.{Change}
 
 -- entry i
 abbrev pub entryAt : List ℕ → ℕ → Reloc
-entryAt rels i = relocAt rels (relocSize * i)
+entryAt entries i = relocAt entries (relocSize * i)
 
 -- its target
 abbrev pub targetAt : List ℕ → ℕ → Resolved
 targetAt targets i = resolvedAt targets (resolvedSize * i)
 
 -- how many entries a list has
-abbrev pub entries : List ℕ → ℕ
-entries rels = length rels / relocSize
+abbrev pub entryCount : List ℕ → ℕ
+entryCount entries = length entries / relocSize
 
 -- how many targets a list has
 abbrev pub targetCount : List ℕ → ℕ
@@ -44,13 +44,13 @@ takenBy ty = choose (subtracts ty) 2 1
 
 -- whether the SUBTRACTOR before it takes entry i
 unfoldable pub consumed : List ℕ → ℕ → Bool
-consumed rels zero = false
-consumed rels (suc i) = subtracts (entryAt rels i .ty) && not (consumed rels i)
+consumed entries zero = false
+consumed entries (suc i) = subtracts (entryAt entries i .ty) && not (consumed entries i)
 
 -- the check of entry i; a consumed one is not looked at
 unfoldable pub checkAt : ℕ → Bases → List ℕ → List ℕ → ℕ → Check
-checkAt len b rels targets i =
-    choose (consumed rels i) Fit (checkOf len b (entryAt rels i) (targetAt targets i) (eqb (i + 1) (entries rels)))
+checkAt len b entries targets i =
+    choose (consumed entries i) Fit (checkOf len b (entryAt entries i) (targetAt targets i) (eqb (i + 1) (entryCount entries)))
 
 -- the first refusal of two checks
 abbrev pub first : Check → Check → Check
@@ -59,12 +59,12 @@ first Fit c = c
 
 -- the first refusal among the first k entries
 unfoldable pub checkTo : ℕ → Bases → List ℕ → List ℕ → ℕ → Check
-checkTo len b rels targets zero = Fit
-checkTo len b rels targets (suc i) = first (checkTo len b rels targets i) (checkAt len b rels targets i)
+checkTo len b entries targets zero = Fit
+checkTo len b entries targets (suc i) = first (checkTo len b entries targets i) (checkAt len b entries targets i)
 
 -- the first refusal among all entries
 abbrev pub checkAll : ℕ → Bases → List ℕ → List ℕ → Check
-checkAll len b rels targets = checkTo len b rels targets (entries rels)
+checkAll len b entries targets = checkTo len b entries targets (entryCount entries)
 
 -- the bytes with a write at a place
 abbrev pub stored : List ℕ → ℕ → Write → List ℕ
@@ -84,11 +84,11 @@ pub record Fixed : Type 0 where
 
 -- what an entry i does to the section: the next entry and the word at its place are looked up
 abbrev pub changeBy : Bases → List ℕ → List ℕ → List ℕ → ℕ → Reloc → Resolved → Change
-changeBy b rels targets section i e t = changeOf b i e t (entryAt rels (i + 1)) (targetAt targets (i + 1)) (le 4 section (e .offset))
+changeBy b entries targets section i e t = changeOf b i e t (entryAt entries (i + 1)) (targetAt targets (i + 1)) (le 4 section (e .offset))
 
 -- what entry i of the list does to the section
 abbrev pub changeAt : Bases → List ℕ → List ℕ → List ℕ → ℕ → Change
-changeAt b rels targets section i = changeBy b rels targets section i (entryAt rels i) (targetAt targets i)
+changeAt b entries targets section i = changeBy b entries targets section i (entryAt entries i) (targetAt targets i)
 
 -- a change at a place
 abbrev pub applied : Fixed → ℕ → Change → Fixed
@@ -96,13 +96,13 @@ applied f at c = record { section = stored (f .section) at (c .write); reports =
 
 -- entry i after those before it; a consumed one does nothing of its own
 unfoldable pub workAt : Bases → List ℕ → List ℕ → Fixed → ℕ → Fixed
-workAt b rels targets f i = choose (consumed rels i) f (applied f (entryAt rels i .offset) (changeAt b rels targets (f .section) i))
+workAt b entries targets f i = choose (consumed entries i) f (applied f (entryAt entries i .offset) (changeAt b entries targets (f .section) i))
 
 -- the first k entries, from the lent section on
 unfoldable pub fixTo : Bases → List ℕ → List ℕ → List ℕ → ℕ → Fixed
-fixTo b rels targets section zero = record { section = section; reports = [] }
-fixTo b rels targets section (suc i) = workAt b rels targets (fixTo b rels targets section i) i
+fixTo b entries targets section zero = record { section = section; reports = [] }
+fixTo b entries targets section (suc i) = workAt b entries targets (fixTo b entries targets section i) i
 
 -- all entries
 abbrev pub fixAll : Bases → List ℕ → List ℕ → List ℕ → Fixed
-fixAll b rels targets section = fixTo b rels targets section (entries rels)
+fixAll b entries targets section = fixTo b entries targets section (entryCount entries)

@@ -31,26 +31,26 @@ ghost use Rattle.macho.specs.Record.{listBytes};
 ghost use Rattle.macho.specs.Report.{reportSize, reportBytes};
 ghost use Rattle.arm64_fixup_entry.specs.Check.{checkOf};
 ghost use Rattle.arm64_fixup_entry.specs.Change.{bytesIn};
-ghost use Rattle.arm64_fixup.specs.Walk.{entries, targetCount, takenBy, checkAll, stored, reportsOf, changeBy, fixAll};
+ghost use Rattle.arm64_fixup.specs.Walk.{entryCount, targetCount, takenBy, checkAll, stored, reportsOf, changeBy, fixAll};
 ghost use Rattle.arm64_fixup.specs.Answer.{checkLists, filled, answerTo, sectionTo, slotsTo};
 
 // The numbers of the lists' lengths.
-fn check_lists(rels: usize, targets: usize, slots: usize) -> Check
-    ensures { λ r. ⌜ r ≡ checkLists rels targets slots ⌝ }
+fn check_lists(entries: usize, targets: usize, slots: usize) -> Check
+    ensures { λ r. ⌜ r ≡ checkLists entries targets slots ⌝ }
 {
-    if rels % Reloc::SIZE != 0 {
+    if entries % Reloc::SIZE != 0 {
         return Check::Refused(Refusal::Lengths);
     }
     if targets % Resolved::SIZE != 0 {
         return Check::Refused(Refusal::Lengths);
     }
-    if 0x1_0000_0000 <= rels / Reloc::SIZE {
+    if 0x1_0000_0000 <= entries / Reloc::SIZE {
         return Check::Refused(Refusal::Lengths);
     }
-    if rels / Reloc::SIZE != targets / Resolved::SIZE {
+    if entries / Reloc::SIZE != targets / Resolved::SIZE {
         return Check::Refused(Refusal::Lengths);
     }
-    if slots < Report::SIZE * (rels / Reloc::SIZE) {
+    if slots < Report::SIZE * (entries / Reloc::SIZE) {
         return Check::Refused(Refusal::Slots);
     }
     Check::Fit
@@ -67,14 +67,14 @@ fn taken(ty: u8) -> usize
 }
 
 // The first walk: goes through all entries and writes nothing.
-fn check_all(len: usize, bases: Bases, rels: &[u8], targets: &[u8]) -> Check
-    requires { ⌜ entries (now rels) ≡ targetCount (now targets) ⌝ }
-    ensures { λ r. ⌜ r ≡ checkAll len bases (now (rels .entry)) (now (targets .entry)) ⌝ }
+fn check_all(len: usize, bases: Bases, entries: &[u8], targets: &[u8]) -> Check
+    requires { ⌜ entryCount (now entries) ≡ targetCount (now targets) ⌝ }
+    ensures { λ r. ⌜ r ≡ checkAll len bases (now (entries .entry)) (now (targets .entry)) ⌝ }
 {
-    let n = rels.len() / Reloc::SIZE;
+    let n = entries.len() / Reloc::SIZE;
     let mut i = 0;
     while i < n {
-        let e = Reloc::read(rels, Reloc::SIZE * i);
+        let e = Reloc::read(entries, Reloc::SIZE * i);
         let t = Resolved::read(targets, Resolved::SIZE * i);
         match check_entry(len, bases, e, t, i + 1 == n) {
             Check::Refused(r) => {
@@ -92,15 +92,15 @@ fn check_all(len: usize, bases: Bases, rels: &[u8], targets: &[u8]) -> Check
 fn change_at(
     buf: &[u8],
     bases: Bases,
-    rels: &[u8],
+    entries: &[u8],
     targets: &[u8],
     i: usize,
     e: Reloc,
     t: Resolved,
 ) -> Change
-    requires { ⌜ (i < entries (now rels)) × (entries (now rels) < 2 ^ 32) × (entries (now rels) ≡ targetCount (now targets)) ⌝ }
-    requires { ⌜ checkOf (length (now buf)) bases e t (eqb (i + 1) (entries (now rels))) ≡ Check.Fit ⌝ }
-    ensures { λ r. ⌜ r ≡ changeBy bases (now (rels .entry)) (now (targets .entry)) (now (buf .entry)) i e t ⌝ }
+    requires { ⌜ (i < entryCount (now entries)) × (entryCount (now entries) < 2 ^ 32) × (entryCount (now entries) ≡ targetCount (now targets)) ⌝ }
+    requires { ⌜ checkOf (length (now buf)) bases e t (eqb (i + 1) (entryCount (now entries))) ≡ Check.Fit ⌝ }
+    ensures { λ r. ⌜ r ≡ changeBy bases (now (entries .entry)) (now (targets .entry)) (now (buf .entry)) i e t ⌝ }
 {
     if width_of(e, t) == 0 {
         return silent(Write::Nothing);
@@ -109,7 +109,7 @@ fn change_at(
         return silent(Write::Pointer(unsigned_value(bases, e, t)));
     }
     if subtracts(e.ty) {
-        let next = Reloc::read(rels, Reloc::SIZE * (i + 1));
+        let next = Reloc::read(entries, Reloc::SIZE * (i + 1));
         let next_target = Resolved::read(targets, Resolved::SIZE * (i + 1));
         return difference(e, subtractor_value(t, next, next_target));
     }
@@ -153,20 +153,21 @@ fn tell(slots: &mut [u8], count: usize, told: Told) -> usize
 }
 
 // The second walk, after the first has found nothing to turn down: works each entry on what those before it left.
-fn work_all(buf: &mut [u8], bases: Bases, rels: &[u8], targets: &[u8], slots: &mut [u8]) -> usize
-    requires { ⌜ checkAll (length (now buf)) bases (now rels) (now targets) ≡ Check.Fit ⌝ }
-    requires { ⌜ (entries (now rels) ≡ targetCount (now targets)) × (entries (now rels) < 2 ^ 32) × (reportSize * entries (now rels) ≤ length (now slots)) ⌝ }
-    ensures count { λ r. ⌜ r ≡ length (fixAll bases (now (rels .entry)) (now (targets .entry)) (now (buf .entry)) .reports) ⌝ }
-    ensures section { λ _. ⌜ now (buf .exit) ≡ fixAll bases (now (rels .entry)) (now (targets .entry)) (now (buf .entry)) .section ⌝ }
-    ensures slots { λ _. ⌜ now (slots .exit) ≡ filled (fixAll bases (now (rels .entry)) (now (targets .entry)) (now (buf .entry))) (now (slots .entry)) ⌝ }
+fn work_all(buf: &mut [u8], bases: Bases, entries: &[u8], targets: &[u8], slots: &mut [u8]) -> usize
+    requires { ⌜ checkAll (length (now buf)) bases (now entries) (now targets) ≡ Check.Fit ⌝ }
+    requires { ⌜ (entryCount (now entries) ≡ targetCount (now targets)) × (entryCount (now entries) < 2 ^ 32)
+        × (reportSize * entryCount (now entries) ≤ length (now slots)) ⌝ }
+    ensures count { λ r. ⌜ r ≡ length (fixAll bases (now (entries .entry)) (now (targets .entry)) (now (buf .entry)) .reports) ⌝ }
+    ensures section { λ _. ⌜ now (buf .exit) ≡ fixAll bases (now (entries .entry)) (now (targets .entry)) (now (buf .entry)) .section ⌝ }
+    ensures slots { λ _. ⌜ now (slots .exit) ≡ filled (fixAll bases (now (entries .entry)) (now (targets .entry)) (now (buf .entry))) (now (slots .entry)) ⌝ }
 {
-    let n = rels.len() / Reloc::SIZE;
+    let n = entries.len() / Reloc::SIZE;
     let mut i = 0;
     let mut count = 0;
     while i < n {
-        let e = Reloc::read(rels, Reloc::SIZE * i);
+        let e = Reloc::read(entries, Reloc::SIZE * i);
         let t = Resolved::read(targets, Resolved::SIZE * i);
-        let c = change_at(buf, bases, rels, targets, i, e, t);
+        let c = change_at(buf, bases, entries, targets, i, e, t);
         let w = c.write;
         let told = c.told;
         store(buf, e.offset as usize, w);
@@ -181,20 +182,20 @@ pub fn apply_reloc_alloc(
     buf: &mut [u8],
     base: u64,
     tls_begin: u64,
-    rels: &[u8],
+    entries: &[u8],
     targets: &[u8],
     slots: &mut [u8],
 ) -> Answer
-    ensures answer { λ r. ⌜ r ≡ answerTo (now (buf .entry)) base «tls_begin» (now (rels .entry)) (now (targets .entry)) (now (slots .entry)) ⌝ }
-    ensures section { λ _. ⌜ now (buf .exit) ≡ sectionTo (now (buf .entry)) base «tls_begin» (now (rels .entry)) (now (targets .entry)) (now (slots .entry)) ⌝ }
-    ensures reports { λ _. ⌜ now (slots .exit) ≡ slotsTo (now (buf .entry)) base «tls_begin» (now (rels .entry)) (now (targets .entry)) (now (slots .entry)) ⌝ }
+    ensures answer { λ r. ⌜ r ≡ answerTo (now (buf .entry)) base «tls_begin» (now (entries .entry)) (now (targets .entry)) (now (slots .entry)) ⌝ }
+    ensures buf { λ _. ⌜ now (buf .exit) ≡ sectionTo (now (buf .entry)) base «tls_begin» (now (entries .entry)) (now (targets .entry)) (now (slots .entry)) ⌝ }
+    ensures told { λ _. ⌜ now (slots .exit) ≡ slotsTo (now (buf .entry)) base «tls_begin» (now (entries .entry)) (now (targets .entry)) (now (slots .entry)) ⌝ }
 {
     let bases = Bases { base, tls_begin };
-    match check_lists(rels.len(), targets.len(), slots.len()) {
+    match check_lists(entries.len(), targets.len(), slots.len()) {
         Check::Refused(r) => Answer::Refused(r),
-        Check::Fit => match check_all(buf.len(), bases, rels, targets) {
+        Check::Fit => match check_all(buf.len(), bases, entries, targets) {
             Check::Refused(r) => Answer::Refused(r),
-            Check::Fit => Answer::Filled(work_all(buf, bases, rels, targets, slots)),
+            Check::Fit => Answer::Filled(work_all(buf, bases, entries, targets, slots)),
         },
     }
 }

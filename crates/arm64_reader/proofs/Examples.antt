@@ -42,7 +42,7 @@ piece12 = refl
 
 -- the number that a call returns
 abbrev number : List ℕ → List ℕ → List ℕ → List ℕ → ℕ
-number contents rels sections slots = answerNumber (answerOf (readRelocs contents rels sections slots))
+number contents records sections slots = answerNumber (answerOf (readRelocs contents records sections slots))
 
 -- slots for one record, and a NOP
 abbrev slot : List ℕ
@@ -88,7 +88,7 @@ first-number = refl
 
 -- what the header says, and how many entries are filled
 abbrev reads : List ℕ → List ℕ → Meaning × ℕ
-reads contents rels = (meaningOf contents [] (recordsOf rels), filledOf (answerOf (readRelocs contents rels [] (replicate 48 0))))
+reads contents records = (meaningOf contents [] (recordsOf records), filledOf (answerOf (readRelocs contents records [] (replicate 48 0))))
 
 -- SUBTRACTOR alone; before BRANCH26; before UNSIGNED at another place; before UNSIGNED of another size; ADDEND with the fields of another type;
 -- before BRANCH26; before PAGE21 at another place
@@ -116,7 +116,7 @@ not-defined = refl
 
 -- what the header says, and the number that is returned
 abbrev refuses : List ℕ → List ℕ → Meaning × ℕ
-refuses contents rels = (meaningOf contents [] (recordsOf rels), number contents rels [] slot)
+refuses contents records = (meaningOf contents [] (recordsOf records), number contents records [] slot)
 
 -- tables that the header defines and that are refused, by 6 and by 5: a TLVP page offset on NOP, a pointer of 4 bytes alone
 pub defined-refused :

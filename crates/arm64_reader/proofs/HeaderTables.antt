@@ -347,9 +347,9 @@ module _ (contents sections : List ℕ) (rs : List MachRel) where
   tolerated-only y es e q = subst₂ (Agree (length contents) (length sections) nothing) e q (good contents sections rs none)
 
 -- the second of a call: with whole records, slots and sections enough it returns entries or one of these two numbers
-pub call-refused-only : (contents rels sections slots : List ℕ) (ms : List Relocation) (x : Refusal) → length rels % 8 ≡ 0 → length rels / 8 < 2 ^ 32
-    → length sections < 2 ^ 32 → 24 * (length rels / 8) ≤ length slots → meaningOf contents sections (recordsOf rels) ≡ relocations ms
-    → Inside (length contents) (length sections) ms → readRelocs contents rels sections slots ≡ refused x
+pub call-refused-only : (contents records sections slots : List ℕ) (ms : List Relocation) (x : Refusal) → length records % 8 ≡ 0 → length records / 8 < 2 ^ 32
+    → length sections < 2 ^ 32 → 24 * (length records / 8) ≤ length slots → meaningOf contents sections (recordsOf records) ≡ relocations ms
+    → Inside (length contents) (length sections) ms → readRelocs contents records sections slots ≡ refused x
     → (x ≡ Unfit) ⊎ ((x ≡ Unsupported) × (hasLonePointer32 ms ≡ true))
-call-refused-only contents rels sections slots ms x w n k l e i q =
-    refused-only contents sections (recordsOf rels) ms x e i (sym (enough contents rels sections slots w n k l) ∙ q)
+call-refused-only contents records sections slots ms x w n k l e i q =
+    refused-only contents sections (recordsOf records) ms x e i (sym (enough contents records sections slots w n k l) ∙ q)

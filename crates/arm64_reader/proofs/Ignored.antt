@@ -43,10 +43,10 @@ use Rattle.arm64_reader.proofs.Moves.{Alike, same-record, step-moved}
 use Rattle.arm64_reader.proofs.Tables.{PlainLast, endsIn, moved-none, read-append}
 
 -- slots count by their length
-pub slots-ignored : (contents rels sections slots others : List ℕ) → length slots ≡ length others
-    → readRelocs contents rels sections slots ≡ readRelocs contents rels sections others
+pub slots-ignored : (contents records sections slots others : List ℕ) → length slots ≡ length others
+    → readRelocs contents records sections slots ≡ readRelocs contents records sections others
 unfolding readRelocs
-slots-ignored contents rels sections slots others e = rw e
+slots-ignored contents records sections slots others e = rw e
 
 -- ---- contents and sections
 

@@ -16,52 +16,53 @@ use Rattle.macho.specs.declared.refusal.Check.{Check}
 use Rattle.macho.specs.declared.refusal.Check.the-variants as C
 use Rattle.arm64_reader.specs.Read.{readRecords, readTable, readRelocs}
 
-module _ (contents rels sections slots : List ℕ) where
+module _ (contents records sections slots : List ℕ) where
   -- 1: bytes that are no whole records
-  pub not-whole : (length rels % 8 ≡ 0 → ⊥) → readRelocs contents rels sections slots ≡ refused Lengths
+  pub not-whole : (length records % 8 ≡ 0 → ⊥) → readRelocs contents records sections slots ≡ refused Lengths
   unfolding readRelocs lengthsOf choose
   not-whole h = rw (ne-eqb _ _ h)
 
   -- 1: more than 2^32 - 1 records, or section addresses
-  pub many-records : length rels % 8 ≡ 0 → 2 ^ 32 ≤ length rels / 8 → readRelocs contents rels sections slots ≡ refused Lengths
+  pub many-records : length records % 8 ≡ 0 → 2 ^ 32 ≤ length records / 8 → readRelocs contents records sections slots ≡ refused Lengths
   unfolding readRelocs lengthsOf choose
-  many-records w h = rw (eq-eqb _ _ w, lt-ltb (2 ^ 32 - 1) (length rels / 8) (omega arith))
+  many-records w h = rw (eq-eqb _ _ w, lt-ltb (2 ^ 32 - 1) (length records / 8) (omega arith))
 
-  pub many-sections : length rels % 8 ≡ 0 → length rels / 8 < 2 ^ 32 → 2 ^ 32 ≤ length sections → readRelocs contents rels sections slots ≡ refused Lengths
+  pub many-sections : length records % 8 ≡ 0 → length records / 8 < 2 ^ 32 → 2 ^ 32 ≤ length sections
+      → readRelocs contents records sections slots ≡ refused Lengths
   unfolding readRelocs lengthsOf choose
   many-sections w n h =
-      rw (eq-eqb _ _ w, le-ltb (2 ^ 32 - 1) (length rels / 8) (omega arith), lt-ltb (2 ^ 32 - 1) (length sections) (omega arith))
+      rw (eq-eqb _ _ w, le-ltb (2 ^ 32 - 1) (length records / 8) (omega arith), lt-ltb (2 ^ 32 - 1) (length sections) (omega arith))
 
   -- 2: slots below 24 bytes for each record
-  pub few-slots : length rels % 8 ≡ 0 → length rels / 8 < 2 ^ 32 → length sections < 2 ^ 32 → length slots < 24 * (length rels / 8)
-      → readRelocs contents rels sections slots ≡ refused Slots
+  pub few-slots : length records % 8 ≡ 0 → length records / 8 < 2 ^ 32 → length sections < 2 ^ 32 → length slots < 24 * (length records / 8)
+      → readRelocs contents records sections slots ≡ refused Slots
   unfolding readRelocs lengthsOf choose
   few-slots w n m h =
       rw (
         eq-eqb _ _ w,
-        le-ltb (2 ^ 32 - 1) (length rels / 8) (omega arith),
+        le-ltb (2 ^ 32 - 1) (length records / 8) (omega arith),
         le-ltb (2 ^ 32 - 1) (length sections) (omega arith),
-        lt-ltb (length slots) (24 * (length rels / 8)) h,
+        lt-ltb (length slots) (24 * (length records / 8)) h,
       )
 
   -- else what the table reads to
-  pub enough : length rels % 8 ≡ 0 → length rels / 8 < 2 ^ 32 → length sections < 2 ^ 32 → 24 * (length rels / 8) ≤ length slots
-      → readRelocs contents rels sections slots ≡ readTable contents rels sections
+  pub enough : length records % 8 ≡ 0 → length records / 8 < 2 ^ 32 → length sections < 2 ^ 32 → 24 * (length records / 8) ≤ length slots
+      → readRelocs contents records sections slots ≡ readTable contents records sections
   unfolding readRelocs lengthsOf choose
   enough w n m h =
       rw (
         eq-eqb _ _ w,
-        le-ltb (2 ^ 32 - 1) (length rels / 8) (omega arith),
+        le-ltb (2 ^ 32 - 1) (length records / 8) (omega arith),
         le-ltb (2 ^ 32 - 1) (length sections) (omega arith),
-        le-ltb (length slots) (24 * (length rels / 8)) h,
+        le-ltb (length slots) (24 * (length records / 8)) h,
       )
 
   -- a call that fills gives what the table reads to
-  pub filled : {es : List Reloc} → readRelocs contents rels sections slots ≡ entries es → readTable contents rels sections ≡ entries es
+  pub filled : {es : List Reloc} → readRelocs contents records sections slots ≡ entries es → readTable contents records sections ≡ entries es
   unfolding readRelocs
-  filled e = go (lengthsOf (length rels) (length sections) (length slots)) e
+  filled e = go (lengthsOf (length records) (length sections) (length slots)) e
     where
-      go : (c : Check) {es : List Reloc} → checked c (readTable contents rels sections) ≡ entries es → readTable contents rels sections ≡ entries es
+      go : (c : Check) {es : List Reloc} → checked c (readTable contents records sections) ≡ entries es → readTable contents records sections ≡ entries es
       go C.Fit e = e
       go (C.Refused x) e = let z : _≡_ {A = ℕ} 0 1 = cc in absurd (omega arith)
 

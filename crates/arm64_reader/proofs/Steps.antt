@@ -186,34 +186,34 @@ module _ (contents sections : List ℕ) (before : Bool) (rs : List MachRel) wher
 
 -- ---- a table of bytes
 
-module _ (contents rels sections : List ℕ) where
+module _ (contents records sections : List ℕ) where
   abbrev pub tableStep : ℕ → Step
-  tableStep = stepAt contents sections false (recordsOf rels)
+  tableStep = stepAt contents sections false (recordsOf records)
 
-  pub table-is : readTable contents rels sections ≡ readAll tableStep (length rels / 8)
+  pub table-is : readTable contents records sections ≡ readAll tableStep (length records / 8)
   unfolding readRecords
-  table-is = ap (readAll tableStep) (length-records rels)
+  table-is = ap (readAll tableStep) (length-records records)
 
   pub table-onward : (i : ℕ) {s : Step} {e : Reloc} {next : ℕ} → s ≡ S.Read e next → s ≡ tableStep i → i < next
-  table-onward i p q = onward tableStep (step-onward contents sections false (recordsOf rels)) i p q
+  table-onward i p q = onward tableStep (step-onward contents sections false (recordsOf records)) i p q
 
   -- in a table that fills, each step from which a walk goes on reads
-  pub table-reads : (count i : ℕ) → count ≤ i → i < length rels / 8 → Fills (Rest tableStep (length rels / 8) count i) → Reads (tableStep i)
+  pub table-reads : (count i : ℕ) → count ≤ i → i < length records / 8 → Fills (Rest tableStep (length records / 8) count i) → Reads (tableStep i)
   table-reads count i c l f = go (tableStep i) refl
     where
       go : (s : Step) → s ≡ tableStep i → Reads s
-      go (S.Refused x) e = fill-refused tableStep (length rels / 8) count i c l refl e f
+      go (S.Refused x) e = fill-refused tableStep (length records / 8) count i c l refl e f
       go (S.Read r next) e = tt
 
 -- ---- the whole call, by the lengths that it is lent
 
-module _ (contents rels sections slots : List ℕ) where
-  pub lengths-refuse : {x : Refusal} → lengthsOf (length rels) (length sections) (length slots) ≡ C.Refused x
-      → readRelocs contents rels sections slots ≡ refused x
+module _ (contents records sections slots : List ℕ) where
+  pub lengths-refuse : {x : Refusal} → lengthsOf (length records) (length sections) (length slots) ≡ C.Refused x
+      → readRelocs contents records sections slots ≡ refused x
   unfolding readRelocs
   lengths-refuse e = rw e
 
-  pub lengths-fit : lengthsOf (length rels) (length sections) (length slots) ≡ C.Fit
-      → readRelocs contents rels sections slots ≡ readTable contents rels sections
+  pub lengths-fit : lengthsOf (length records) (length sections) (length slots) ≡ C.Fit
+      → readRelocs contents records sections slots ≡ readTable contents records sections
   unfolding readRelocs
   lengths-fit e = rw e

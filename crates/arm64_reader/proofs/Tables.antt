@@ -166,9 +166,9 @@ module _ (contents sections : List ℕ) (before : Bool) (xs ys : List MachRel) w
       ∙ ap (joined (readRecords contents sections before xs)) (mapped-same (readRecords contents sections (endsIn before xs) ys))
 
 -- the same of the bytes of two tables, of which the first has whole records
-pub table-append : (contents sections rels more : List ℕ) → length rels % 8 ≡ 0
-    → PlainLast (recordsOf rels) ⊎ Fills (readTable contents rels sections)
-    → readTable contents (rels ++ more) sections
-    ≡ joined (readTable contents rels sections) (readRecords contents sections (endsIn false (recordsOf rels)) (recordsOf more))
-table-append contents sections rels more w h =
-    ap (readRecords contents sections false) (records-append rels more w) ∙ read-append contents sections false (recordsOf rels) (recordsOf more) h
+pub table-append : (contents sections records more : List ℕ) → length records % 8 ≡ 0
+    → PlainLast (recordsOf records) ⊎ Fills (readTable contents records sections)
+    → readTable contents (records ++ more) sections
+    ≡ joined (readTable contents records sections) (readRecords contents sections (endsIn false (recordsOf records)) (recordsOf more))
+table-append contents sections records more w h =
+    ap (readRecords contents sections false) (records-append records more w) ∙ read-append contents sections false (recordsOf records) (recordsOf more) h

@@ -15,16 +15,16 @@ readRecords contents sections before rs = readAll (stepAt contents sections befo
 
 -- what the bytes of a table of records read to
 abbrev pub readTable : List ℕ → List ℕ → List ℕ → Reading
-readTable contents rels sections = readRecords contents sections false (recordsOf rels)
+readTable contents records sections = readRecords contents sections false (recordsOf records)
 
 -- what a call reads: numbers 1 and 2 by the lengths that it is lent, then what the table reads to
 unfoldable pub readRelocs : List ℕ → List ℕ → List ℕ → List ℕ → Reading
-readRelocs contents rels sections slots = checked (lengthsOf (length rels) (length sections) (length slots)) (readTable contents rels sections)
+readRelocs contents records sections slots = checked (lengthsOf (length records) (length sections) (length slots)) (readTable contents records sections)
 
 -- what it answers to what was lent
 abbrev pub answerTo : List ℕ → List ℕ → List ℕ → List ℕ → Answer
-answerTo contents rels sections slots = answerOf (readRelocs contents rels sections slots)
+answerTo contents records sections slots = answerOf (readRelocs contents records sections slots)
 
 -- the slots after it
 abbrev pub slotsTo : List ℕ → List ℕ → List ℕ → List ℕ → List ℕ
-slotsTo contents rels sections slots = slotsAfter (readRelocs contents rels sections slots) slots
+slotsTo contents records sections slots = slotsAfter (readRelocs contents records sections slots) slots

@@ -16,14 +16,14 @@ ghost use Rattle.arch.specs.Walk.{Fills, answerOf, slotsAfter};
 ghost use Rattle.arm64_reader.specs.Read.{readTable, answerTo, slotsTo};
 
 // The walk that checks: all records, with nothing written.
-fn check_walk(contents: &[u8], rels: &[u8], sections: &[u64]) -> Answer
-    ensures { λ r. ⌜ r ≡ answerOf (readTable (now (contents .entry)) (now (rels .entry)) (now (sections .entry))) ⌝ }
+fn check_walk(contents: &[u8], records: &[u8], sections: &[u64]) -> Answer
+    ensures { λ r. ⌜ r ≡ answerOf (readTable (now (contents .entry)) (now (records .entry)) (now (sections .entry))) ⌝ }
 {
-    let n = rels.len() / MachRel::SIZE;
+    let n = records.len() / MachRel::SIZE;
     let mut i = 0;
     let mut count = 0;
     while i < n {
-        match read_one(contents, rels, sections, i) {
+        match read_one(contents, records, sections, i) {
             Step::Refused(refusal) => {
                 return Answer::Refused(refusal);
             }
@@ -37,15 +37,15 @@ fn check_walk(contents: &[u8], rels: &[u8], sections: &[u64]) -> Answer
 }
 
 // The walk that fills, after the first has found that every record reads.
-fn fill_walk(contents: &[u8], rels: &[u8], sections: &[u64], slots: &mut [u8])
-    requires { ⌜ Fills (readTable (now contents) (now rels) (now sections)) × (relocSize * recordCount (now rels) ≤ length (now slots)) ⌝ }
-    ensures { λ _. ⌜ now (slots .exit) ≡ slotsAfter (readTable (now (contents .entry)) (now (rels .entry)) (now (sections .entry))) (now (slots .entry)) ⌝ }
+fn fill_walk(contents: &[u8], records: &[u8], sections: &[u64], slots: &mut [u8])
+    requires { ⌜ Fills (readTable (now contents) (now records) (now sections)) × (relocSize * recordCount (now records) ≤ length (now slots)) ⌝ }
+    ensures { λ _. ⌜ now (slots .exit) ≡ slotsAfter (readTable (now (contents .entry)) (now (records .entry)) (now (sections .entry))) (now (slots .entry)) ⌝ }
 {
-    let n = rels.len() / MachRel::SIZE;
+    let n = records.len() / MachRel::SIZE;
     let mut i = 0;
     let mut count = 0;
     while i < n {
-        match enter_one(contents, rels, sections, i) {
+        match enter_one(contents, records, sections, i) {
             Step::Refused(_) => {
                 return;
             }
@@ -59,16 +59,16 @@ fn fill_walk(contents: &[u8], rels: &[u8], sections: &[u64], slots: &mut [u8])
 }
 
 // Reads relocation records of a section into entries. `sections` has the address of each section. A refusal leaves the slots as they were.
-pub fn read_relocs(contents: &[u8], rels: &[u8], sections: &[u64], slots: &mut [u8]) -> Answer
-    ensures answer { λ r. ⌜ r ≡ answerTo (now (contents .entry)) (now (rels .entry)) (now (sections .entry)) (now (slots .entry)) ⌝ }
-    ensures slots { λ _. ⌜ now (slots .exit) ≡ slotsTo (now (contents .entry)) (now (rels .entry)) (now (sections .entry)) (now (slots .entry)) ⌝ }
+pub fn read_relocs(contents: &[u8], records: &[u8], sections: &[u64], slots: &mut [u8]) -> Answer
+    ensures answer { λ r. ⌜ r ≡ answerTo (now (contents .entry)) (now (records .entry)) (now (sections .entry)) (now (slots .entry)) ⌝ }
+    ensures slots { λ _. ⌜ now (slots .exit) ≡ slotsTo (now (contents .entry)) (now (records .entry)) (now (sections .entry)) (now (slots .entry)) ⌝ }
 {
-    match check_lengths(rels.len(), sections.len(), slots.len()) {
+    match check_lengths(records.len(), sections.len(), slots.len()) {
         Check::Refused(refusal) => Answer::Refused(refusal),
-        Check::Fit => match check_walk(contents, rels, sections) {
+        Check::Fit => match check_walk(contents, records, sections) {
             Answer::Refused(refusal) => Answer::Refused(refusal),
             Answer::Filled(count) => {
-                fill_walk(contents, rels, sections, slots);
+                fill_walk(contents, records, sections, slots);
                 Answer::Filled(count)
             }
         },

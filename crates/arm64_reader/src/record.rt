@@ -93,22 +93,22 @@ fn contents_from(contents: &[u8], offset: u32) -> &[u8]
 }
 
 // The number of an entry's own record, where the entry starts at record i: the next one where that is ADDEND.
-fn own_number(rels: &[u8], i: usize) -> usize
-    requires { ⌜ i < recordCount (now rels) ⌝ }
-    ensures { λ j. ⌜ j ≡ ownOf (recordsOf (now (rels .entry))) i ⌝ }
+fn own_number(records: &[u8], i: usize) -> usize
+    requires { ⌜ i < recordCount (now records) ⌝ }
+    ensures { λ j. ⌜ j ≡ ownOf (recordsOf (now (records .entry))) i ⌝ }
 {
-    if record_at(rels, i).ty() == ARM64_RELOC_ADDEND {
+    if record_at(records, i).ty() == ARM64_RELOC_ADDEND {
         return i + 1;
     }
     i
 }
 
 // The addend that an entry's ADDEND record gives it, else 0.
-fn given_addend(rels: &[u8], i: usize) -> u64
-    requires { ⌜ i < recordCount (now rels) ⌝ }
-    ensures { λ a. ⌜ a ≡ givenOf (recordsOf (now (rels .entry))) i ⌝ }
+fn given_addend(records: &[u8], i: usize) -> u64
+    requires { ⌜ i < recordCount (now records) ⌝ }
+    ensures { λ a. ⌜ a ≡ givenOf (recordsOf (now (records .entry))) i ⌝ }
 {
-    let r = record_at(rels, i);
+    let r = record_at(records, i);
     if r.ty() == ARM64_RELOC_ADDEND {
         return sign_extend(r.idx() as u64, 24);
     }
@@ -148,31 +148,31 @@ fn is_plain(r: MachRel) -> bool
 }
 
 // What stands at record i. An ADDEND record gives its offset and its addend to the record after it.
-pub fn read_one(contents: &[u8], rels: &[u8], sections: &[u64], i: usize) -> Step
-    requires { ⌜ i < recordCount (now rels) ⌝ }
-    ensures { λ s. ⌜ s ≡ stepAt (now (contents .entry)) (now (sections .entry)) false (recordsOf (now (rels .entry))) i ⌝ }
+pub fn read_one(contents: &[u8], records: &[u8], sections: &[u64], i: usize) -> Step
+    requires { ⌜ i < recordCount (now records) ⌝ }
+    ensures { λ s. ⌜ s ≡ stepAt (now (contents .entry)) (now (sections .entry)) false (recordsOf (now (records .entry))) i ⌝ }
 {
-    let first = record_at(rels, i);
+    let first = record_at(records, i);
     let offset = first.offset;
     if contents.len() < offset as usize {
         return Step::Refused(Refusal::Bounds);
     }
     if is_plain(first) {
-        let subtracted = is_subtracted(rels, i, ARM64_RELOC_SUBTRACTOR);
+        let subtracted = is_subtracted(records, i, ARM64_RELOC_SUBTRACTOR);
         return Step::Read(entry_of(first, subtracted, offset, first.idx(), 0), i + 1);
     }
-    let j = own_number(rels, i);
-    if j < rels.len() / MachRel::SIZE {
+    let j = own_number(records, i);
+    if j < records.len() / MachRel::SIZE {
         let loc = contents_from(contents, offset);
-        let own = record_at(rels, j);
-        let subtracted = is_subtracted(rels, j, ARM64_RELOC_SUBTRACTOR);
+        let own = record_at(records, j);
+        let subtracted = is_subtracted(records, j, ARM64_RELOC_SUBTRACTOR);
         return read_record(
             loc,
             sections,
             own,
             subtracted,
             offset,
-            given_addend(rels, i),
+            given_addend(records, i),
             j + 1,
         );
     }
@@ -180,23 +180,23 @@ pub fn read_one(contents: &[u8], rels: &[u8], sections: &[u64], i: usize) -> Ste
 }
 
 // The same of a record that is known to read, without the checks of its form and its word.
-pub fn enter_one(contents: &[u8], rels: &[u8], sections: &[u64], i: usize) -> Step
-    requires { ⌜ (i < recordCount (now rels)) × Reads (stepAt (now contents) (now sections) false (recordsOf (now rels)) i) ⌝ }
-    ensures { λ s. ⌜ s ≡ stepAt (now (contents .entry)) (now (sections .entry)) false (recordsOf (now (rels .entry))) i ⌝ }
+pub fn enter_one(contents: &[u8], records: &[u8], sections: &[u64], i: usize) -> Step
+    requires { ⌜ (i < recordCount (now records)) × Reads (stepAt (now contents) (now sections) false (recordsOf (now records)) i) ⌝ }
+    ensures { λ s. ⌜ s ≡ stepAt (now (contents .entry)) (now (sections .entry)) false (recordsOf (now (records .entry))) i ⌝ }
 {
-    let first = record_at(rels, i);
+    let first = record_at(records, i);
     if contents.len() < first.offset as usize {
         return Step::Refused(Refusal::Bounds);
     }
-    let j = own_number(rels, i);
-    if j < rels.len() / MachRel::SIZE {
+    let j = own_number(records, i);
+    if j < records.len() / MachRel::SIZE {
         return enter_record(
             contents_from(contents, first.offset),
             sections,
-            record_at(rels, j),
-            is_subtracted(rels, j, ARM64_RELOC_SUBTRACTOR),
+            record_at(records, j),
+            is_subtracted(records, j, ARM64_RELOC_SUBTRACTOR),
             first.offset,
-            given_addend(rels, i),
+            given_addend(records, i),
             j + 1,
         );
     }

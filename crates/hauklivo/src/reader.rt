@@ -9,17 +9,17 @@ ghost use Rattle.hauklivo.specs.Reader.{numberTo, countTo};
 #[no_mangle]
 pub extern "C" fn hauklivo_read_relocs(
     contents: &[u8],
-    rels: &[u8],
+    records: &[u8],
     sections: &[u64],
     slots: &mut [u8],
     count: &mut usize,
 ) -> u8
-    ensures number { λ r. ⌜ r ≡ numberTo (now (contents .entry)) (now (rels .entry)) (now (sections .entry)) (now (slots .entry)) ⌝ }
+    ensures number { λ r. ⌜ r ≡ numberTo (now (contents .entry)) (now (records .entry)) (now (sections .entry)) (now (slots .entry)) ⌝ }
     ensures count { λ _. ⌜ now (count .exit)
-        ≡ countTo (now (contents .entry)) (now (rels .entry)) (now (sections .entry)) (now (slots .entry)) (now (count .entry)) ⌝ }
-    ensures slots { λ _. ⌜ now (slots .exit) ≡ slotsTo (now (contents .entry)) (now (rels .entry)) (now (sections .entry)) (now (slots .entry)) ⌝ }
+        ≡ countTo (now (contents .entry)) (now (records .entry)) (now (sections .entry)) (now (slots .entry)) (now (count .entry)) ⌝ }
+    ensures slots { λ _. ⌜ now (slots .exit) ≡ slotsTo (now (contents .entry)) (now (records .entry)) (now (sections .entry)) (now (slots .entry)) ⌝ }
 {
-    match read_relocs(contents, rels, sections, slots) {
+    match read_relocs(contents, records, sections, slots) {
         Answer::Refused(refusal) => refusal.number(),
         Answer::Filled(n) => {
             *count = n;

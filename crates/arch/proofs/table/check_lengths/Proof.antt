@@ -25,14 +25,14 @@ returns-4 : tie.Need-returns-4
 unfolding lengthsOf choose
 returns-4 c =
     let a = c .before .before .before .before .args in
-    let less : a .slots < 24 * (a .rels / 8) = omega arith in
+    let less : a .slots < 24 * (a .records / 8) = omega arith in
     simp (eq-eqb _ _ (c .before .before .before .if1 .left), le-ltb _ _ (c .before .before .if2 .left), le-ltb _ _ (c .before .if3 .left), lt-ltb _ _ less)
 
 returns-5 : tie.Need-returns-5
 unfolding lengthsOf choose
 returns-5 c =
     let a = c .before .before .before .before .args in
-    let room : 24 * (a .rels / 8) ≤ a .slots = omega arith in
+    let room : 24 * (a .records / 8) ≤ a .slots = omega arith in
     simp (eq-eqb _ _ (c .before .before .before .if1 .left), le-ltb _ _ (c .before .before .if2 .left), le-ltb _ _ (c .before .if3 .left), le-ltb _ _ room)
 
 pub check-lengths-spec : {M : Type 1} → statement M

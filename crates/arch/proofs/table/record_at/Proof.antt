@@ -15,7 +15,7 @@ read-requires : tie.Need-read-requires
 read-requires c κs = search needs
 
 returns : tie.Need-returns
-returns c = c .read .ensures ∙ sym (record-is (now (c .before .before .args .rels)) (c .before .before .args .i) (c .before .before .pre))
+returns c = c .read .ensures ∙ sym (record-is (now (c .before .before .args .records)) (c .before .before .args .i) (c .before .before .pre))
 
 pub record-at-spec : {M : Type 1} → statement M
 record-at-spec = tie.close (tie.spec mul-read read-requires returns)

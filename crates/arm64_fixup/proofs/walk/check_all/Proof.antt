@@ -6,7 +6,7 @@ use mathlib.Core.Bool.{false}
 use Prim.Native.Nat.{ℕ, _-_, _≤_, zero-le}
 use native.Mathlib.Omega.{arith}
 use borrow.Author.Needs.{needs}
-use Rattle.arm64_fixup.specs.Walk.{entries, consumed, checkTo}
+use Rattle.arm64_fixup.specs.Walk.{entryCount, consumed, checkTo}
 use Rattle.macho.specs.declared.refusal.Check.the-variants.{Fit}
 use Rattle.arm64_fixup.proofs.walk.check_all.Statement.{statement}
 use Rattle.arm64_fixup.proofs.walk.check_all.Tie as tie
@@ -18,10 +18,10 @@ use Rattle.macho.proofs.reloc.Reloc.read.Reads as reloc-Reloc-read-reads
 use Rattle.macho.proofs.resolved.Resolved.read.Reads as resolved-Resolved-read-reads
 
 abbrev Inv-loop : tie.InvT-loop
-Inv-loop len bases rels targets n i₀ i = (i ≤ entries rels) × (consumed rels i ≡ false) × (checkTo len bases rels targets i ≡ Fit)
+Inv-loop len bases entries targets n i₀ i = (i ≤ entryCount entries) × (consumed entries i ≡ false) × (checkTo len bases entries targets i ≡ Fit)
 
 abbrev μ-loop : tie.MeasureT-loop
-μ-loop len bases rels targets n i₀ i = entries rels - i
+μ-loop len bases entries targets n i₀ i = entryCount entries - i
 
 loop-holds : tie.Need-loop-holds Inv-loop μ-loop
 unfolding consumed checkTo
@@ -83,7 +83,7 @@ returns-2 : tie.Need-returns-2 Inv-loop μ-loop
 returns-2 c =
     let p = c .before .loop in
     let a = c .before .before .before .before .args in
-    ended (λ (k : ℕ). Fit ≡ checkTo (a .len) (a .bases) (now (a .rels)) (now (a .targets)) k) (p .inv .0) (c .loop-test .left) (sym (p .inv .2))
+    ended (λ (k : ℕ). Fit ≡ checkTo (a .len) (a .bases) (now (a .entries)) (now (a .targets)) k) (p .inv .0) (c .loop-test .left) (sym (p .inv .2))
 
 pub check-all-spec : {M : Type 1} → statement M
 check-all-spec =

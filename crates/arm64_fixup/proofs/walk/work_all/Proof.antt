@@ -13,7 +13,7 @@ use lib.ListN.{length}
 use lib.Seq.{sets}
 use Rattle.macho.specs.Record.{listBytes}
 use Rattle.macho.specs.Report.{reportBytes}
-use Rattle.arm64_fixup.specs.Walk.{entries, consumed, fixTo}
+use Rattle.arm64_fixup.specs.Walk.{entryCount, consumed, fixTo}
 use Rattle.arm64_fixup.proofs.walk.work_all.Statement.{statement}
 use Rattle.arm64_fixup.proofs.walk.work_all.Tie as tie
 use Rattle.arm64_fixup.proofs.walk.work_all.Reads as reads
@@ -26,17 +26,17 @@ use Rattle.macho.proofs.reloc.Reloc.read.Reads as reloc-Reloc-read-reads
 use Rattle.macho.proofs.resolved.Resolved.read.Reads as resolved-Resolved-read-reads
 
 abbrev Inv-loop : tie.InvT-loop
-Inv-loop buf₀ bases rels targets slots₀ n i₀ count₀ buf slots i count =
-    (i ≤ entries rels)
-    × (consumed rels i ≡ false)
+Inv-loop buf₀ bases entries targets slots₀ n i₀ count₀ buf slots i count =
+    (i ≤ entryCount entries)
+    × (consumed entries i ≡ false)
     × (count ≤ i)
-    × (count ≡ length (fixTo bases rels targets buf₀ i .reports))
-    × (buf ≡ fixTo bases rels targets buf₀ i .section)
-    × (slots ≡ sets slots₀ 0 (listBytes reportBytes (fixTo bases rels targets buf₀ i .reports)))
+    × (count ≡ length (fixTo bases entries targets buf₀ i .reports))
+    × (buf ≡ fixTo bases entries targets buf₀ i .section)
+    × (slots ≡ sets slots₀ 0 (listBytes reportBytes (fixTo bases entries targets buf₀ i .reports)))
     × (length slots ≡ length slots₀)
 
 abbrev μ-loop : tie.MeasureT-loop
-μ-loop buf₀ bases rels targets slots₀ n i₀ count₀ buf slots i count = entries rels - i
+μ-loop buf₀ bases entries targets slots₀ n i₀ count₀ buf slots i count = entryCount entries - i
 
 loop-holds : tie.Need-loop-holds Inv-loop μ-loop
 unfolding consumed fixTo listBytes

@@ -15,11 +15,11 @@ use Rattle.arm64_reader.proofs.read.check_walk.Lts as lts
 use Rattle.arm64_reader.proofs.record.read_one.Reads as read-one-reads
 
 abbrev Inv-loop : tie.InvT-loop
-Inv-loop contents rels sections n i₀ count₀ i count =
-    (count ≤ i) × (counted count (Rest (tableStep contents rels sections) (length rels / 8) count i) ≡ answerOf (readTable contents rels sections))
+Inv-loop contents records sections n i₀ count₀ i count =
+    (count ≤ i) × (counted count (Rest (tableStep contents records sections) (length records / 8) count i) ≡ answerOf (readTable contents records sections))
 
 abbrev μ-loop : tie.MeasureT-loop
-μ-loop contents rels sections n i₀ count₀ i count = length rels / 8 - i
+μ-loop contents records sections n i₀ count₀ i count = length records / 8 - i
 
 loop-holds : tie.Need-loop-holds Inv-loop μ-loop
 loop-holds c = (search needs, check-start _ _ ∙ ap answerOf (sym (table-is _ _ _)))

@@ -17,20 +17,20 @@ use Rattle.arm64_reader.proofs.record.enter_one.Reads as enter-one-read
 use Rattle.macho.proofs.reloc.Reloc.write.Reads as write-reads
 
 abbrev Inv-loop : tie.InvT-loop
-Inv-loop contents rels sections slots₀ n i₀ count₀ slots i count =
+Inv-loop contents records sections slots₀ n i₀ count₀ slots i count =
     (count ≤ i)
-    × Fills (Rest (tableStep contents rels sections) (length rels / 8) count i)
-    × (stored count (Rest (tableStep contents rels sections) (length rels / 8) count i) slots ≡ slotsAfter (readTable contents rels sections) slots₀)
+    × Fills (Rest (tableStep contents records sections) (length records / 8) count i)
+    × (stored count (Rest (tableStep contents records sections) (length records / 8) count i) slots ≡ slotsAfter (readTable contents records sections) slots₀)
     × (length slots ≡ length slots₀)
 
 abbrev μ-loop : tie.MeasureT-loop
-μ-loop contents rels sections slots₀ n i₀ count₀ slots i count = length rels / 8 - i
+μ-loop contents records sections slots₀ n i₀ count₀ slots i count = length records / 8 - i
 
 loop-holds : tie.Need-loop-holds Inv-loop μ-loop
 loop-holds c =
     let a = c .before .before .before .before in
     let s = now (a .args .slots) in
-    let t = table-is (now (a .args .contents)) (now (a .args .rels)) (now (a .args .sections)) in (
+    let t = table-is (now (a .args .contents)) (now (a .args .records)) (now (a .args .sections)) in (
       search needs,
       fill-fills _ _ (subst Fills t (a .pre .0)),
       fill-start _ _ s (a .pre .1) ∙ ap (λ (x : Reading). slotsAfter x s) (sym t),

@@ -40,7 +40,7 @@ fill-walk-requires c κs =
     let k = c .before .before .before .before in
     let f = sym (k .before .before .before .check-lengths .ensures) ∙ k .before .enum-told .given .1 in
     let a = k .before .before .before .before .before .before .before .before .args in (
-      fills-of (readTable (now (a .contents)) (now (a .rels)) (now (a .sections))) _ (sym (c .before .before .count .given .1) ∙ k .check-walk .ensures),
+      fills-of (readTable (now (a .contents)) (now (a .records)) (now (a .sections))) _ (sym (c .before .before .count .given .1) ∙ k .check-walk .ensures),
       fit-room _ _ _ f,
     )
 
@@ -48,7 +48,7 @@ returns : tie.Need-returns
 returns c =
     let a = c .before .before .before .before .before .before .before .before .args in
     let f = sym (c .before .before .before .check-lengths .ensures) ∙ c .before .refusal .given .1 in
-    let e = lengths-refuse (now (a .contents)) (now (a .rels)) (now (a .sections)) (now (a .slots)) f in
+    let e = lengths-refuse (now (a .contents)) (now (a .records)) (now (a .sections)) (now (a .slots)) f in
     (ap answerOf (sym e), ap (λ (r : Reading). slotsAfter r (now (a .slots))) (sym e))
 
 returns-2 : tie.Need-returns-2
@@ -56,10 +56,10 @@ returns-2 c =
     let k = c .before .before .before in
     let f = sym (k .before .before .before .check-lengths .ensures) ∙ k .before .enum-told .given .1 in
     let a = k .before .before .before .before .before .before .before .before .args in
-    let e = lengths-fit (now (a .contents)) (now (a .rels)) (now (a .sections)) (now (a .slots)) f in
+    let e = lengths-fit (now (a .contents)) (now (a .records)) (now (a .sections)) (now (a .slots)) f in
     let d = sym (c .before .refusal2 .given .1) ∙ k .check-walk .ensures in (
       d ∙ ap answerOf (sym e),
-      kept-of (readTable (now (a .contents)) (now (a .rels)) (now (a .sections))) _ _ d ∙ ap (λ (r : Reading). slotsAfter r (now (a .slots))) (sym e),
+      kept-of (readTable (now (a .contents)) (now (a .records)) (now (a .sections))) _ _ d ∙ ap (λ (r : Reading). slotsAfter r (now (a .slots))) (sym e),
     )
 
 same-length : tie.Need-same-length
@@ -71,7 +71,7 @@ returns-3 c =
     let k = m .before .before in
     let f = sym (k .before .before .before .check-lengths .ensures) ∙ k .before .enum-told .given .1 in
     let a = k .before .before .before .before .before .before .before .before .args in
-    let e = lengths-fit (now (a .contents)) (now (a .rels)) (now (a .sections)) (now (a .slots)) f in (
+    let e = lengths-fit (now (a .contents)) (now (a .records)) (now (a .sections)) (now (a .slots)) f in (
       sym (m .count .given .1) ∙ k .check-walk .ensures ∙ ap answerOf (sym e),
       c .before .before .fill-walk .ensures ∙ ap (λ (r : Reading). slotsAfter r (now (a .slots))) (sym e),
     )

@@ -32,7 +32,7 @@ returns : tie.Need-returns
 returns c =
     let f = c .before .before .record-at .ensures in
     let a = c .before .before .before .before .before .before .args in
-    let rs = recordsOf (now (a .rels)) in
+    let rs = recordsOf (now (a .records)) in
     let h : length (now (a .contents)) < recordAt rs (a .i) .offset =
     subst (λ (m : MachRel). length (now (a .contents)) < m .offset) f (c .if1 .taken) in
     sym (past-is (now (a .contents)) (now (a .sections)) false rs (a .i) h)
@@ -64,11 +64,11 @@ returns-2 c =
     let f = k .before .before .before .record-at .ensures in
     let b = k .before .before .before .before .before .before .before in
     let a = b .args in
-    let rs = recordsOf (now (a .rels)) in
+    let rs = recordsOf (now (a .records)) in
     let h : recordAt rs (a .i) .offset ≤ length (now (a .contents)) =
     subst (λ (m : MachRel). m .offset ≤ length (now (a .contents))) f (k .before .if1 .left) in
     let l : ownOf rs (a .i) < length rs =
-    omega (arith, length-records (now (a .rels)), k .own-number .ensures, c .before .before .before .before .before .if2 .taken) in
+    omega (arith, length-records (now (a .records)), k .own-number .ensures, c .before .before .before .before .before .if2 .taken) in
     simp (
       c .enter-record .ensures,
       c .before .given-addend .ensures,
@@ -85,13 +85,13 @@ returns-3 c =
     let k = c .before in
     let f = k .before .before .before .record-at .ensures in
     let a = k .before .before .before .before .before .before .before .args in
-    let rs = recordsOf (now (a .rels)) in
+    let rs = recordsOf (now (a .records)) in
     let h : recordAt rs (a .i) .offset ≤ length (now (a .contents)) =
     subst (λ (m : MachRel). m .offset ≤ length (now (a .contents))) f (k .before .if1 .left) in
     let n : a .i < length rs =
-    omega (arith, length-records (now (a .rels))) in
+    omega (arith, length-records (now (a .records))) in
     let l : length rs ≤ ownOf rs (a .i) =
-    omega (arith, length-records (now (a .rels)), k .own-number .ensures, c .if2 .left) in
+    omega (arith, length-records (now (a .records)), k .own-number .ensures, c .if2 .left) in
     sym (none-is (now (a .contents)) (now (a .sections)) false rs (a .i) h n l)
 
 pub enter-one-spec : {M : Type 1} → statement M

@@ -66,7 +66,7 @@ returns-2 c =
     let k = c .before .before .before .before .before in
     let f = k .before .record-at .ensures in
     let a = k .before .before .before .before .before .args in
-    let rs = recordsOf (now (a .rels)) in
+    let rs = recordsOf (now (a .records)) in
     let h : recordAt rs (a .i) .offset ≤ length (now (a .contents)) =
     subst (λ (m : MachRel). m .offset ≤ length (now (a .contents))) f (k .if1 .left) in
     let p : Plain (recordAt rs (a .i)) =
@@ -105,11 +105,11 @@ returns-3 c =
     let k = c .before .before .before .before .before .before in
     let f = k .before .before .before .before .record-at .ensures in
     let a = k .before .before .before .before .before .before .before .before .args in
-    let rs = recordsOf (now (a .rels)) in
+    let rs = recordsOf (now (a .records)) in
     let h : recordAt rs (a .i) .offset ≤ length (now (a .contents)) =
     subst (λ (m : MachRel). m .offset ≤ length (now (a .contents))) f (k .before .before .before .if1 .left) in
     let l : ownOf rs (a .i) < length rs =
-    omega (arith, length-records (now (a .rels)), k .own-number .ensures, c .before .before .before .before .before .if3 .taken) in
+    omega (arith, length-records (now (a .records)), k .own-number .ensures, c .before .before .before .before .before .if3 .taken) in
     simp (
       c .read-record .ensures,
       c .before .given-addend .ensures,
@@ -126,13 +126,13 @@ returns-4 c =
     let k = c .before in
     let f = k .before .before .before .before .record-at .ensures in
     let a = k .before .before .before .before .before .before .before .before .args in
-    let rs = recordsOf (now (a .rels)) in
+    let rs = recordsOf (now (a .records)) in
     let h : recordAt rs (a .i) .offset ≤ length (now (a .contents)) =
     subst (λ (m : MachRel). m .offset ≤ length (now (a .contents))) f (k .before .before .before .if1 .left) in
     let n : a .i < length rs =
-    omega (arith, length-records (now (a .rels))) in
+    omega (arith, length-records (now (a .records))) in
     let l : length rs ≤ ownOf rs (a .i) =
-    omega (arith, length-records (now (a .rels)), k .own-number .ensures, c .if3 .left) in
+    omega (arith, length-records (now (a .records)), k .own-number .ensures, c .if3 .left) in
     sym (none-is (now (a .contents)) (now (a .sections)) false rs (a .i) h n l)
 
 pub read-one-spec : {M : Type 1} → statement M
