@@ -43,11 +43,11 @@ hintAt s at =
 
 -- the number of hints of a list
 abbrev pub hintCount : List ℕ → ℕ
-hintCount hints = length hints / 64
+hintCount hints = length hints / hintSize
 
 -- hint k of a list
 abbrev pub hintOf : List ℕ → ℕ → HintRecord
-hintOf hints k = hintAt hints (64 * k)
+hintOf hints k = hintAt hints (hintSize * k)
 
 -- a place's fields in order
 abbrev pub insnFields : HintInsn → List Field
