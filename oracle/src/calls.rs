@@ -52,7 +52,7 @@ pub fn read_relocs(contents: &[u8], records: &[u8], sections: &[u64]) -> Result<
 /// What a fix-up leaves beside the section's bytes.
 #[derive(Clone, Debug, PartialEq, Eq)]
 pub struct FixedUp {
-    /// Reports of document 01, 24 bytes each.
+    /// Reports (RULES 2.20), 24 bytes each.
     pub reports: Vec<u8>,
     /// Entries for which the Rust says that the target has no address: no kind of report.
     pub without_address: Vec<u32>,

@@ -58,7 +58,7 @@ pub mod objc_stubs {
     }
 }
 
-/// Stands in for lazy_helpers.rs: all load helpers of document 01 come from here.
+/// Stands in for lazy_helpers.rs: all load helpers (RULES 5.16) come from here.
 pub mod lazy_helpers {
     use crate::arch::Target;
     use crate::context::Context;

@@ -1,4 +1,4 @@
-//! Stands in for input_files.rs: the object file, and a record's section as document 01 gives it.
+//! Stands in for input_files.rs: the object file, and a record's section as RULES 4.10 gives it.
 
 use std::cell::Cell;
 use std::path::{Path, PathBuf};

@@ -1,4 +1,4 @@
-//! The lent records of document 01, as bytes and as what the Rust works on.
+//! The lent records of RULES 2, as bytes and as what the Rust works on.
 
 use crate::input_sections::Reloc;
 use crate::macho::MachRel;
@@ -70,7 +70,7 @@ pub fn targets(list: &[u8]) -> Vec<Symbol> {
 }
 
 /// A report's bytes from the Rust's message, which stands after the place's name: None for the
-/// message of target_has_address, which document 01 has no kind for.
+/// message of target_has_address, which RULES 2.21 has no kind for.
 pub fn report_bytes(entry: u32, message: &str) -> Option<[u8; REPORT]> {
     let text = message.splitn(3, ": ").nth(2).expect("file: name: text");
     let hex = |after: &str| {

@@ -1,5 +1,5 @@
 //! The oracle: the linker's own arm64 files, compiled unchanged, behind calls on the lent records
-//! of document 01. The modules marked "supplied" come from the source folder; all others are
+//! of RULES 2. The modules marked "supplied" come from the source folder; all others are
 //! shims for what is not supplied, or the oracle's calls. README.md has the list.
 
 // The names of the registry's crates, all of which registry.rs stands in for.

@@ -1,4 +1,4 @@
-//! Stands in for macho.rs: the records of the file format, as document 01 lays them out.
+//! Stands in for macho.rs: the records of the file format, as RULES 2.10 lays them out.
 
 pub use crate::macho_consts::*;
 

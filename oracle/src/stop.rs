@@ -46,7 +46,7 @@ impl Stop {
         }
     }
 
-    /// Document 01's number for a stop of the reader.
+    /// The number of RULES 3.1 for a stop of the reader.
     pub fn reader_number(&self) -> Option<u8> {
         match self {
             Self::Slice(_) => Some(3),
@@ -58,7 +58,7 @@ impl Stop {
         }
     }
 
-    /// Document 01's number for a stop of the fix-up.
+    /// The number of RULES 3.1 for a stop of the fix-up.
     pub fn fixup_number(&self) -> Option<u8> {
         match self {
             Self::Slice(_) => Some(3),
@@ -70,7 +70,7 @@ impl Stop {
         }
     }
 
-    /// Document 01's number for a stop of a hint run; an overflow is no stop there.
+    /// The number of RULES 3.1 for a stop of a hint run; an overflow is no stop there.
     pub fn hints_number(&self) -> Option<u8> {
         match self {
             Self::Slice(_) => Some(3),

@@ -1,4 +1,4 @@
-//! Stands in for symbol.rs: a symbol's facts are those of a resolved target of document 01.
+//! Stands in for symbol.rs: a symbol's facts are those of a resolved target (RULES 2.17, 2.18).
 
 use std::fmt;
 

@@ -23,7 +23,7 @@ mod table;
 
 pub use run::main;
 
-/// A stop of the Rust: document 01's number for it, if it has one, and the Rust's words.
+/// A stop of the Rust: the number of RULES 3.1 for it, if it has one, and the Rust's words.
 pub struct Stop {
     pub number: Option<u8>,
     pub text: String,

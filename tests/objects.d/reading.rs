@@ -53,7 +53,7 @@ fn section(section: &relink::Section) -> llvm::Section {
     }
 }
 
-/// The entries that records come to, by document 01.
+/// The entries that records come to, by RULES 4.2 to 4.12.
 fn expected(rows: &[Row], contents: &[u8], addresses: &[u64]) -> Vec<Reloc> {
     let mut entries = Vec::new();
     let mut i = 0;

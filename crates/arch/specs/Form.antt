@@ -1,4 +1,4 @@
--- Forms of a relocation record, and sets of them (Apple's relocation_info; macho/arch/mod.rs, `reloc_form` and `has_reloc_form`).
+-- Forms of a relocation record, and sets of them (Apple's relocation_info; macho/arch/mod.rs, `reloc_form` and `has_reloc_form`; RULES 2.11, 4.6).
 use Prim.Native.Nat.{ℕ, _+_, _*_, _^_}
 use mathlib.Core.Bool.{Bool, true, false, _&&_, _||_}
 use mathlib.Core.List.{List, [], _∷_}

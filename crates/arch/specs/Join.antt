@@ -1,4 +1,4 @@
--- What two tables, one after the other, read to.
+-- What two tables, one after the other, read to (RULES 4.15).
 use Prim.Native.Nat.{ℕ, _+_}
 use mathlib.Core.List.{List, _++_, map}
 use Rattle.macho.specs.declared.reloc.Reloc.{Reloc}

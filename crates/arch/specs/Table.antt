@@ -1,4 +1,4 @@
--- A table of relocation records (document 01, "macho/macho.rs" and numbers 1 and 2 of "Turned-down input").
+-- A table of relocation records (RULES 2.10, 4.12) and the numbers of its lengths (RULES 3.9, 3.10).
 use Prim.Native.Nat.{ℕ, zero, suc, _+_, _-_, _*_, _/_, _%_, _^_}
 use mathlib.Core.Bool.{Bool}
 use mathlib.Core.List.{List, [], _∷_}

@@ -1,4 +1,4 @@
--- What a relocation record refers to (document 01, "macho/macho.rs"; Apple's reloc.h, r_symbolnum).
+-- What a relocation record refers to (RULES 4.10; Apple's reloc.h, r_symbolnum).
 use Prim.Native.Nat.{ℕ, zero, suc, _+_}
 use mathlib.Core.List.{List}
 use lib.ListN.{length, getD}

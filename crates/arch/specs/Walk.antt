@@ -1,4 +1,4 @@
--- A table read by steps: what the check walk and the fill walk of every machine's reader come to (document 01, "Records lent by the linker").
+-- A table read by steps: what the check walk and the fill walk of every machine's reader come to (RULES 3.2, 4.2, 2.25).
 use Prim.Native.Nat.{ℕ, zero, suc, _*_}
 use mathlib.Core.Bool.{Bool, true, false}
 use mathlib.Core.List.{List, [], _∷_, _++_}

@@ -1,4 +1,4 @@
--- Document 01's examples through the call: bench pieces 9 to 11, the table "Turned-down input" for numbers 1 to 3, 5 and 8 to 11, and the order
+-- Examples through the call: 9 to 11 (RULES 11.9 to 11.11), those of the numbers 1 to 3, 5 and 8 to 11 (RULES 3.1), and the order
 -- of these. Each is computed.
 use mathlib.Core.Path.{_≡_, refl}
 use mathlib.Core.List.{List, [], _∷_, _++_}
@@ -90,7 +90,7 @@ pub order : (number [] 0 (bytes 25 0) [] [] ≡ 1)
 unfolding relocBytes resolvedBytes bytesOf bytes outcomeOf checkLists checkTo checkAt checkOf consumed relocAt resolvedAt le wellFormed widthOf choose
 order = (refl, refl, refl, refl, refl, refl, refl, refl, refl, refl, refl)
 
--- two PAGEOFF12 on the word of piece 9: to 0x1234, which is reported and writes nothing, and to 0x1238
+-- two PAGEOFF12 on the word of example 9: to 0x1234, which is reported and writes nothing, and to 0x1238
 abbrev pub twoEntries : List ℕ
 twoEntries = entry ARM64-RELOC-PAGEOFF12 0 0 ++ entry ARM64-RELOC-PAGEOFF12 0 0
 

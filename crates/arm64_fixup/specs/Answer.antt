@@ -1,4 +1,4 @@
--- The whole call: a refusal that leaves everything, or the fixed section with its reports (document 01, "Turned-down input", "Records lent by the linker").
+-- The whole call: a refusal that leaves everything, or the fixed section with its reports (RULES 3.2, 3.5, 3.9, 3.10, 2.25).
 use Prim.Native.Nat.{ℕ, _*_, _/_, _%_, _^_}
 use mathlib.Core.Bool.{Bool, _||_, not}
 use mathlib.Core.List.{List, _++_}

@@ -1,4 +1,4 @@
--- The bytes that an entry reads or writes, its footprint (place and width), and those that it writes in a run.
+-- The bytes that an entry reads or writes, its footprint (place and width), and those that it writes in a run (RULES 5.24, 5.25).
 use Prim.Native.Nat.{ℕ, _+_, _≤_, _<_}
 use mathlib.Core.List.{List, List·Memᴰ}
 use mathlib.Core.Path.{_≡_}

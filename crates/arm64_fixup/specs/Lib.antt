@@ -1,4 +1,4 @@
--- Fix-up of a section, and stub and thunk entries (document 01, "Fix-up and hint rules", "Turned-down input").
+-- Fix-up of a section (RULES 5), and stub and thunk entries (RULES 6).
 pub mod Walk
 pub mod Answer
 pub mod Footprint

@@ -1,4 +1,4 @@
--- One stub entry and one thunk entry (document 01, "Order of the port"; arch/arm64.rs, `write_stubs` and `write_thunk`).
+-- One stub entry and one thunk entry (RULES 6.2 to 6.5; arch/arm64.rs, `write_stubs` and `write_thunk`).
 use Prim.Native.Nat.{ℕ}
 use mathlib.Core.List.{List}
 use lib.Dec.{ltb}
@@ -26,7 +26,7 @@ stubAnswer s addr ptr = choose (ltb (length s) 12) (S.Refused Bounds) (choose (a
 unfoldable pub thunkCheck : List ℕ → Check
 thunkCheck s = choose (ltb (length s) 12) (C.Refused Bounds) C.Fit
 
--- document 01's number of a stub's answer, 0 for none
+-- the number (RULES 3.1) of a stub's answer, 0 for none
 abbrev pub stubNumber : StubAnswer → ℕ
 stubNumber S.Reaches = 0
 stubNumber S.OutOfReach = 0

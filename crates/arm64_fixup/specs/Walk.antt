@@ -1,4 +1,4 @@
--- The entries one after another: which number turns the list down, and what the list does (document 01, "Fix-up and hint rules", "Turned-down input").
+-- The entries one after another: which number turns the list down, and what the list does (RULES 3.5, 5.4, 5.5).
 use Prim.Native.Nat.{ℕ, zero, suc, _+_, _*_, _/_}
 use mathlib.Core.Bool.{Bool, false, _&&_, not}
 use mathlib.Core.List.{List, [], _∷_, _++_}

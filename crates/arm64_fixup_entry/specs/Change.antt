@@ -1,4 +1,4 @@
--- What one entry does to the section and reports (document 01, "Fix-up and hint rules"; arch/arm64.rs, `apply_reloc_alloc`).
+-- What one entry does to the section and reports (RULES 5.9 to 5.23; arch/arm64.rs, `apply_reloc_alloc`).
 use Prim.Native.Nat.{ℕ, _%_, _^_}
 use mathlib.Core.Bool.{Bool, _&&_, _||_}
 use lib.Dec.{eqb}

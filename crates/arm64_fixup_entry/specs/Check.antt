@@ -1,4 +1,4 @@
--- Which number an entry of a fix-up is turned down with (document 01, "Turned-down input").
+-- Which number an entry of a fix-up is turned down with (RULES 5.5 to 5.8).
 use Prim.Native.Nat.{ℕ, _+_, _-_, _^_}
 use mathlib.Core.Bool.{Bool, _&&_, _||_, not}
 use lib.Dec.{eqb, ltb, leb}
@@ -56,7 +56,7 @@ lacksSymbol e t = isSection (e .target) && needsSymbol (e .ty) t
 abbrev pub short : ℕ → Reloc → Resolved → Bool
 short len e t = ltb (len - e .offset) (widthOf e t)
 
--- the first number of one entry, in the order of document 01: 3 (offset), 11, 9, 5, 8, 10, 3
+-- the first number of one entry, in the order of RULES 5.6: 3 (offset), 11, 9, 5, 8, 10, 3
 unfoldable pub checkOf : ℕ → Bases → Reloc → Resolved → Bool → Check
 checkOf len b e t last =
     choose (outside len e) (Refused Bounds)

@@ -1,4 +1,4 @@
--- One entry of a fix-up (document 01, "Fix-up and hint rules", "Turned-down input").
+-- One entry of a fix-up (RULES 5).
 pub mod Target
 pub mod Check
 pub mod Change

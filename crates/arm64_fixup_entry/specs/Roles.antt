@@ -1,4 +1,4 @@
--- Which entries put a target's page, and which its page offset, into the word at their place (document 01, "Fix-up and hint rules").
+-- Which entries put a target's page, and which its page offset, into the word at their place (RULES 5.26).
 use mathlib.Core.Path.{_≡_}
 use mathlib.Core.Bool.{true, false}
 use mathlib.Core.Logic.{_⊎_}

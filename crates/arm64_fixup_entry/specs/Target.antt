@@ -1,4 +1,4 @@
--- What an entry and its resolved target say together (document 01, "Records lent by the linker", "Fix-up and hint rules").
+-- What an entry and its resolved target say together (RULES 5.2, 5.3, 5.8, 5.17).
 use Prim.Native.Nat.{ℕ, _+_}
 use mathlib.Core.Bool.{Bool, _&&_, _||_, not}
 use lib.Dec.{eqb}

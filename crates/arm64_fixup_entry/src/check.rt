@@ -1,4 +1,4 @@
-// Which number an entry is turned down with (document 01, "Turned-down input").
+// Which number an entry is turned down with (RULES 5.6).
 use crate::target::Bases;
 use crate::target::width_of;
 use macho::consts::ARM64_RELOC_ADDEND;

@@ -1,4 +1,4 @@
--- The rules ADRP_ADD_LDR and ADRP_ADD_STR (arch/arm64.rs, `adrp_add_ldst`, `loh_adrp_add_ldr` and `loh_adrp_add_str`).
+-- The rules ADRP_ADD_LDR and ADRP_ADD_STR (arch/arm64.rs, `adrp_add_ldst`, `loh_adrp_add_ldr` and `loh_adrp_add_str`; RULES 8.18, 8.20).
 use Prim.Native.Nat.{ℕ, _%_}
 use mathlib.Core.Bool.{Bool, _&&_}
 use lib.Dec.{eqb}

@@ -1,4 +1,4 @@
--- The rules ADRP_ADRP, ADRP_LDR and ADRP_ADD (arch/arm64.rs, `loh_adrp_adrp`, `loh_adrp_ldr` and `loh_adrp_add`).
+-- The rules ADRP_ADRP, ADRP_LDR and ADRP_ADD (arch/arm64.rs, `loh_adrp_adrp`, `loh_adrp_ldr` and `loh_adrp_add`; RULES 8.16, 8.17, 8.22).
 use Prim.Native.Nat.{ℕ}
 use mathlib.Core.Bool.{Bool, _&&_}
 use lib.Dec.{eqb}

@@ -1,4 +1,4 @@
--- Which number a hint run is turned down with (document 01, "Turned-down input"): 1, then by list position 3 (part, then words) and 12.
+-- Which number a hint run is turned down with (RULES 3.6, 3.9): 1, then by list position 3 (part, then words) and 12.
 use Prim.Native.Nat.{ℕ, zero, suc, _+_, _/_, _%_, _^_}
 use mathlib.Core.Bool.{Bool, false, _&&_, _||_, not}
 use mathlib.Core.List.{List, [], _∷_}

@@ -1,5 +1,5 @@
 -- The rules ADRP_LDR_GOT, ADRP_LDR_GOT_LDR and ADRP_LDR_GOT_STR (arch/arm64.rs, `got_load`, `got_literal`, `loh_adrp_ldr_got`,
--- `loh_adrp_ldr_got_ldr` and `loh_adrp_ldr_got_str`).
+-- `loh_adrp_ldr_got_ldr` and `loh_adrp_ldr_got_str`; RULES 8.19, 8.21, 8.23 to 8.25).
 use Prim.Native.Nat.{ℕ, _+_, _%_}
 use mathlib.Core.Bool.{Bool, _&&_, not}
 use lib.Dec.{eqb, ltb}

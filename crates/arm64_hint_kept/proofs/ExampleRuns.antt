@@ -1,5 +1,5 @@
 -- Runs of several hints: one with one of each count, two hints in one part, and one whose order within an object shows; and a hint whose places
--- fall. Each fact is computed, or demand 3.
+-- fall. Each fact is computed, or follows from the claims (RULES 9.27 to 9.29).
 use mathlib.Core.Path.{_≡_, refl, ap, _∙_, subst}
 use mathlib.Core.List.{List, [], _∷_}
 use Prim.Native.Nat.{ℕ}
@@ -14,15 +14,15 @@ use Rattle.arm64_hint_work.specs.declared.tally.Tally.{Tally}
 use Rattle.arm64_hint_run.specs.Run.{worked, runOf, imageOf}
 use Rattle.arm64_hint_run.specs.declared.run.RunAnswer.the-variants.{Done}
 use Rattle.arm64_hint_run.proofs.Examples.{words as code, place}
-use Rattle.arm64_hint_kept.specs.Demand3.{Kept, PartsApart, Alone, Fair, Same}
+use Rattle.arm64_hint_kept.specs.HintsKept.{Kept, PartsApart, Alone, Fair, Same}
 use Rattle.arm64_hint_kept.proofs.Computing.{records, runs, machine}
 use Rattle.arm64_hint_kept.proofs.Tests.{fair-when, alone-by, parts-by, once-by, kept-by}
-use Rattle.arm64_hint_kept.proofs.Demand3.{demand-3}
+use Rattle.arm64_hint_kept.proofs.HintsKept.{hints-kept}
 use Rattle.arm64_hint_kept.proofs.Examples.{none-at, hint, lent, plain, counts}
 
 -- ---- one of each
 
--- positions 0 to 3: bench piece 6, of object 2; then of object 1 one of no kind, one out of reach, and one whose sum passes 2^64 - 1
+-- positions 0 to 3: example 6 (RULES 11.6), of object 2; then of object 1 one of no kind, one out of reach, and one whose sum passes 2^64 - 1
 abbrev four : List HintRecord
 four =
     hint 2 2 0 8 (place 0 0 0x1000) (place 4 1 0x1004) none-at
@@ -65,10 +65,10 @@ apart : PartsApart (lent four)
 unfolding runs
 apart = parts-by (lent four) refl
 
--- so it leaves the run's image and tally, by demand 3
+-- so it leaves the run's image and tally, by the first claim (RULES 9.27)
 pub other-list : worked old (lent four) plain other ≡ record { image = new; tally = counts 1 1 1 1 }
 other-list =
-    demand-3 old (lent four) plain (counts 1 1 1 1) one-of-each other once .order apart kept
+    hints-kept old (lent four) plain (counts 1 1 1 1) one-of-each other once .order apart kept
     ∙ ap (λ (image : List ℕ). record { image = image; tally = counts 1 1 1 1 }) left
 
 -- and the words of position 0, which no other hint shares, run in its last image as in the first
@@ -84,7 +84,7 @@ pub other-ends : Same (hintOf (lent four) 0) old new
 unfolding runs
 other-ends =
     subst (Same (hintOf (lent four) 0) old) (ap (λ (w : Work Tally). w .image) other-list)
-    (demand-3 old (lent four) plain (counts 1 1 1 1) one-of-each other once .ends 0 (lit< tt) refl alone-first fair-first)
+    (hints-kept old (lent four) plain (counts 1 1 1 1) one-of-each other once .ends 0 (lit< tt) refl alone-first fair-first)
 
 -- ---- two hints in one part, whose words share no byte
 
@@ -114,7 +114,7 @@ turned-round = refl
 pub both-end : Same (hintOf (lent beside) 0) words rewords × Same (hintOf (lent beside) 1) words rewords
 unfolding runs machine
 both-end =
-    let d = demand-3 words (lent beside) plain (counts 2 0 0 0) both-done (1 ∷ 0 ∷ []) (once-by 2 (1 ∷ 0 ∷ []) refl refl) in (
+    let d = hints-kept words (lent beside) plain (counts 2 0 0 0) both-done (1 ∷ 0 ∷ []) (once-by 2 (1 ∷ 0 ∷ []) refl refl) in (
       subst (Same (hintOf (lent beside) 0) words) turned-round
           (d .ends 0 (lit< tt) refl (alone-by (lent beside) 0 refl) (fair-when (hintOf (lent beside) 0) words refl)),
       subst (Same (hintOf (lent beside) 1) words) turned-round
@@ -139,7 +139,7 @@ pub falling-ends : Same (hintOf (lent falling) 0) (code (0xf9400401 ∷ 0x900000
 unfolding runs machine
 falling-ends =
     let image = code (0xf9400401 ∷ 0x90000000 ∷ []) in
-    let d = demand-3 image (lent falling) plain (counts 1 0 0 0) fall-done (0 ∷ []) (once-by 1 (0 ∷ []) refl refl) in
+    let d = hints-kept image (lent falling) plain (counts 1 0 0 0) fall-done (0 ∷ []) (once-by 1 (0 ∷ []) refl refl) in
     subst (Same (hintOf (lent falling) 0) image) fall-leaves
     (d .ends 0 (lit< tt) refl (alone-by (lent falling) 0 refl) (fair-when (hintOf (lent falling) 0) image refl))
 
@@ -172,8 +172,8 @@ pub each-turn : Same (hintOf (lent two) 1) first (code (0x90000000 ∷ 0xd503201
     × Same (hintOf (lent two) 0) first (code (0x90000000 ∷ 0xd503201f ∷ 0xf9400401 ∷ []))
 unfolding runs machine
 each-turn =
-    let own = demand-3 first (lent two) plain (counts 1 0 1 0) (late-run .0) (1 ∷ 0 ∷ []) (once-by 2 (1 ∷ 0 ∷ []) refl refl) in
-    let round = demand-3 first (lent two) plain (counts 1 0 1 0) (late-run .0) (0 ∷ 1 ∷ []) (once-by 2 (0 ∷ 1 ∷ []) refl refl) in (
+    let own = hints-kept first (lent two) plain (counts 1 0 1 0) (late-run .0) (1 ∷ 0 ∷ []) (once-by 2 (1 ∷ 0 ∷ []) refl refl) in
+    let round = hints-kept first (lent two) plain (counts 1 0 1 0) (late-run .0) (0 ∷ 1 ∷ []) (once-by 2 (0 ∷ 1 ∷ []) refl refl) in (
       own .turn [] 1 (0 ∷ []) refl refl (fair-when (hintOf (lent two) 1) first refl),
       own .turn (1 ∷ []) 0 [] refl refl (fair-when (hintOf (lent two) 0) (code (0x90000000 ∷ 0xd503201f ∷ 0x58000001 ∷ [])) refl),
       round .turn [] 0 (1 ∷ []) refl refl (fair-when (hintOf (lent two) 0) first refl),

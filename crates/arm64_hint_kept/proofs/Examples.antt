@@ -30,8 +30,8 @@ use Rattle.arm64_hint_run.specs.Run.{worked, runOf, imageOf}
 use Rattle.arm64_hint_run.specs.declared.run.RunAnswer.the-variants.{Done}
 use Rattle.arm64_hint_run.proofs.Answers.{run-is}
 use Rattle.arm64_hint_run.proofs.Examples.{words as code, place}
-use Rattle.arm64_hint_kept.specs.Demand3.{Same, Premises}
-use Rattle.arm64_hint_kept.proofs.Demand3.{demand-3, own-list}
+use Rattle.arm64_hint_kept.specs.HintsKept.{Same, Premises}
+use Rattle.arm64_hint_kept.proofs.HintsKept.{hints-kept, own-list}
 use Rattle.arm64_hint_kept.proofs.Computing.{records, runs, machine}
 use Rattle.arm64_hint_kept.proofs.Tests.{disjoint-by, tests, fair-when}
 
@@ -96,14 +96,14 @@ not-skipped entries h ws r =
     (λ t e. let z : _≡_ {A = ℕ} 0 1 = cc in absurd (omega arith))
     (λ t e. t)
 
--- so the new words run as the old ones: demand 3 of the run's own list
+-- so the new words run as the old ones: RULES 9.29 of the run's own list
 pub shows-same : {entries : List ℕ} {kind p : ℕ} {ws : List ℕ} {r : Rewrite} {new : List ℕ} → Shows entries kind p ws r new
     → Same (hintOf (lent (single kind p (length ws))) 0) (code ws) (code new)
 unfolding records
 shows-same {entries} {kind} {p} {ws} {r} {new} s =
     let hints = lent (single kind p (length ws)) in
     let h = hintOf hints 0 in
-    let d = demand-3 (code ws) hints entries (counts 1 0 0 0) (s .done) (orderOf hints) (own-list hints .0) in
+    let d = hints-kept (code ws) hints entries (counts 1 0 0 0) (s .done) (orderOf hints) (own-list hints .0) in
     let i : worked (code ws) hints entries (orderOf hints) .image ≡ code new =
     ap (λ (w : Work Tally). w .image) (run-is (code ws) hints entries (counts 1 0 0 0) (s .done)) ∙ s .leaves in
     subst (Same h (code ws)) i
@@ -114,7 +114,7 @@ pub record Rewritten : Type 0 where
   -- adrp x0; adrp x0, of one page. The same with number 31
   drop : Shows pages 1 0x100000000 (0x90000000 ∷ 0x90000000 ∷ []) Drop (0x90000000 ∷ 0xd503201f ∷ [])
   drop-31 : Shows pages 1 0x1000 (0x9000001f ∷ 0x9000001f ∷ []) Drop (0x9000001f ∷ 0xd503201f ∷ [])
-  -- adrp x0; ldr x1, [x0, #8], bench piece 6. The same with ldr w1, ldrsw x1, ldr d1, ldr q1 and ldr xzr
+  -- adrp x0; ldr x1, [x0, #8], example 6 (RULES 11.6). The same with ldr w1, ldrsw x1, ldr d1, ldr q1 and ldr xzr
   ldr-x : Shows plain 2 0x1000 (0x90000000 ∷ 0xf9400401 ∷ []) Literal (0xd503201f ∷ 0x58000021 ∷ [])
   ldr-w : Shows plain 2 0x1000 (0x90000000 ∷ 0xb9400401 ∷ []) Literal (0xd503201f ∷ 0x18000001 ∷ [])
   ldr-sw : Shows plain 2 0x1000 (0x90000000 ∷ 0xb9800401 ∷ []) Literal (0xd503201f ∷ 0x98000001 ∷ [])
@@ -141,7 +141,7 @@ pub record Rewritten : Type 0 where
   got-ldr-fold : Shows got 4 0x1000 (0x90008000 ∷ 0x91004000 ∷ 0x3dc00800 ∷ []) Fold (0x90008000 ∷ 0xd503201f ∷ 0x3dc00c00 ∷ [])
   -- adrp x1; add x2, x1, #4; str x5, [x2]
   add-str-adr : Shows plain 5 0x100000000 (0x90000241 ∷ 0x91001022 ∷ 0xf9000045 ∷ []) Adr (0x10240022 ∷ 0xd503201f ∷ 0xf9000045 ∷ [])
-  -- adrp x0; add x0, x0, #16; str x1, [x0], bench piece 8
+  -- adrp x0; add x0, x0, #16; str x1, [x0], example 8 (RULES 11.8)
   add-str-fold : Shows plain 5 0x1000 (0x90001000 ∷ 0x91004000 ∷ 0xf9000001 ∷ []) Fold (0x90001000 ∷ 0xd503201f ∷ 0xf9000801 ∷ [])
   -- adrp x0; ldr x1, [x0]; str xzr, [x1, #0x7bf8]
   got-str-slot : Shows got 6 0x3c530a3734f415e4 (0xb0000000 ∷ 0xf9400001 ∷ 0xf93dfc3f ∷ []) Slot (0xd503201f ∷ 0x580050c1 ∷ 0xf93dfc3f ∷ [])
@@ -149,7 +149,7 @@ pub record Rewritten : Type 0 where
   got-str-adr : Shows got 6 0x1000 (0xb0000080 ∷ 0x91004000 ∷ 0xfd000802 ∷ []) Adr (0x10088080 ∷ 0xd503201f ∷ 0xfd000802 ∷ [])
   -- adrp x1; add x2, x1, #0; str b2, [x2]: vector register 2 is not the register 2 that ADD made
   got-str-fold : Shows got 6 0x1000 (0xb0530841 ∷ 0x91000022 ∷ 0x3d000042 ∷ []) Fold (0xb0530841 ∷ 0xd503201f ∷ 0x3d000022 ∷ [])
-  -- adrp x0; add x0, x0, #3, bench piece 7. The same from four pages down
+  -- adrp x0; add x0, x0, #3, example 7 (RULES 11.7). The same from four pages down
   add-adr : Shows plain 7 0x1000 (0x90000000 ∷ 0x91000c00 ∷ []) Adr (0x70000000 ∷ 0xd503201f ∷ [])
   add-adr-below : Shows plain 7 0x100000000 (0x90ffffe0 ∷ 0x91000c00 ∷ []) Adr (0x70fe0000 ∷ 0xd503201f ∷ [])
   -- adrp x1; ldr xzr, [x1, #8]
@@ -188,7 +188,7 @@ rewritten = record {
   got-adr = record { fair = refl; by = refl; done = refl; leaves = refl };
 }
 
--- ---- the premises of the demand, all of them
+-- ---- the premises, all of them (RULES 9.12 to 9.20)
 
 -- each register holds 0x10f0 plus its number, the stack pointer 0x2000, each byte 0
 abbrev pub start : State
@@ -198,7 +198,7 @@ start = record { x = λ r. 0x10f0 + r; sp = 0x2000; v = λ r. 0; memory = λ a. 
 abbrev pub idle : Other
 idle w p x sp v memory = record { x = x; sp = sp; v = v; memory = memory; log = [] }
 
--- bench piece 6 from that state: it loads 8 bytes from 0x1008 on, past its own words
+-- example 6 from that state: it loads 8 bytes from 0x1008 on, past its own words
 pub meets-all : Premises (hintOf (lent (single 2 0x1000 2)) 0) (code (0x90000000 ∷ 0xf9400401 ∷ [])) idle start
 unfolding runs machine linksVector
 meets-all = record {
@@ -216,7 +216,7 @@ meets-all = record {
   };
 }
 
--- bench piece 8: three words, of which the last stores 8 bytes at 0x201010
+-- example 8: three words, of which the last stores 8 bytes at 0x201010
 pub meets-all-three : Premises (hintOf (lent (single 5 0x1000 3)) 0) (code (0x90001000 ∷ 0x91004000 ∷ 0xf9000001 ∷ [])) idle start
 unfolding runs machine linksVector
 meets-all-three = record {

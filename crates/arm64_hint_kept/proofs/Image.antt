@@ -18,7 +18,7 @@ use Rattle.arm64_hint_terms.specs.declared.answer.NewWord.the-variants.{Keep, S
 use Rattle.arm64_hint_laws.proofs.Written.{Fits}
 use Rattle.arm64_machine.specs.Premises.{Each}
 use Rattle.arm64_hint_words.specs.Place.{newOf}
-use Rattle.arm64_hint_kept.specs.Demand3.{Disjoint}
+use Rattle.arm64_hint_kept.specs.HintsKept.{Disjoint}
 use Rattle.arm64_hint_kept.proofs.Decisions.{wordAfter}
 
 -- the words after new ones are stored, place by place

@@ -1,8 +1,8 @@
--- Demand 3: each decision of a hint rule keeps what a program does, and so does every list of a run's hint steps.
+-- What a run of hints keeps (RULES 9): each decision of a hint rule keeps what a program does, and so does every list of a run's hint steps.
 pub mod Decisions
 pub mod Image
 pub mod Step
-pub mod Demand3
+pub mod HintsKept
 pub mod Tests
 pub mod Computing
 pub mod Examples

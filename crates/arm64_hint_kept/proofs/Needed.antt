@@ -14,7 +14,7 @@ use Rattle.arm64_hint_work.specs.Step.{placesOf}
 use Rattle.arm64_hint_run.specs.Run.{worked, runOf, imageOf}
 use Rattle.arm64_hint_run.specs.declared.run.RunAnswer.the-variants.{Done}
 use Rattle.arm64_hint_run.proofs.Examples.{words as code, place}
-use Rattle.arm64_hint_kept.specs.Demand3.{Disjoint, Alone, Kept, PartsApart, Same}
+use Rattle.arm64_hint_kept.specs.HintsKept.{Disjoint, Alone, Kept, PartsApart, Same}
 use Rattle.arm64_hint_kept.proofs.Computing.{runs, machine}
 use Rattle.arm64_hint_kept.proofs.Tests.{tests, once-by, kept-by}
 use Rattle.arm64_hint_kept.proofs.Examples.{none-at, hint, lent, plain, got, counts, all-true, start, idle}

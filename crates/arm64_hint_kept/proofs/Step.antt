@@ -27,7 +27,7 @@ use Rattle.arm64_hint_places.specs.Hint.{isSkipped, insnsIn, addrsOf, insnsOf, 
 use Rattle.arm64_hint_places.proofs.Places.{count-is, count-two, insns-three, insns-two}
 use Rattle.arm64_hint_rules.specs.Rule.{ruled, outcomeOf, newsIn, newsOf}
 use Rattle.arm64_hint_work.specs.Step.{placesOf}
-use Rattle.arm64_hint_kept.specs.Demand3.{codes, Disjoint, Fair, Same}
+use Rattle.arm64_hint_kept.specs.HintsKept.{codes, Disjoint, Fair, Same}
 use Rattle.arm64_hint_kept.proofs.Decisions.{placedOf, Addressed, after, decided}
 use Rattle.arm64_hint_kept.proofs.Image.{wordsAfter, reads-back}
 

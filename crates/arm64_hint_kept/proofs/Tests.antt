@@ -1,4 +1,4 @@
--- The premises of demand 3 as tests: on closed hints and images they are computed.
+-- The premises that are needed (RULES 9.12 to 9.17) as tests: on closed hints and images they are computed.
 use mathlib.Core.Path.{_≡_, refl, sym, ap, ap₂, _∙_}
 use mathlib.Core.Logic.{inl, inr}
 use mathlib.Core.Bool.{Bool, true, false, not, _&&_, _||_, true≢false}
@@ -24,7 +24,7 @@ use Rattle.arm64_machine.specs.Premises.{links31, adds31, storesMade}
 use Rattle.arm64_machine.proofs.FairTest.{each, next, later, fair-by}
 use Rattle.arm64_hint_places.specs.Hint.{isSkipped}
 use Rattle.arm64_hint_work.specs.Step.{placesOf}
-use Rattle.arm64_hint_kept.specs.Demand3.{codes, Disjoint, Kept, PartsApart, Alone, Fair}
+use Rattle.arm64_hint_kept.specs.HintsKept.{codes, Disjoint, Kept, PartsApart, Alone, Fair}
 
 -- ---- words that share no byte
 

@@ -1,2 +1,2 @@
--- The statement of demand 3.
-pub mod Demand3
+-- The statement of RULES 9.
+pub mod HintsKept

@@ -1,1 +1,1 @@
-// Demand 3: definitions and theorems only, in specs/ and proofs/.
+// What a run of hints keeps (RULES 9): definitions and theorems only, in specs/ and proofs/.

@@ -1,5 +1,5 @@
 -- Examples of what is decided, each computed. For every kind each of its rewrites and, but for ADRP_ADRP and ADRP_ADD, nine; the orders of tests and
--- sums that document 01 asks for; what entries let through. With `Written` they say that the table of rewrites there is exact.
+-- sums that RULES 8.13 to 8.25 ask for; what entries let through. With `Written` they say that the table of rewrites there is exact.
 use mathlib.Core.Path.{_≡_, refl}
 use mathlib.Core.List.{List, [], _∷_}
 use Prim.Native.Nat.{ℕ, _+_}
@@ -107,7 +107,7 @@ givenOf (e ∷ es) = e .gives ∷ givenOf es
 abbrev pub rewrites : List Row
 rewrites =
     row MCLOH-AdrpAdrp pages (at 0x100000000 0x90000000 0x90000000 0) (rewritten Drop Keep (Set nopWord) Keep)
-    -- bench piece 6
+    -- example 6 (RULES 11.6)
     ∷ row MCLOH-AdrpLdr pair (at 0x1000 0x90000000 0xf9400401 0) (rewritten Literal (Set nopWord) (Set 0x58000021) Keep)
     ∷ row MCLOH-AdrpLdr pair (at 0x100000000 0x90000001 0xbd661820 0) (rewritten Literal (Set nopWord) (Set 0x1c0130a0) Keep)
     ∷ row MCLOH-AdrpLdr pair (at 0x1000 0x90000000 0xb9400801 0) (rewritten Literal (Set nopWord) (Set 0x18000021) Keep)
@@ -126,14 +126,14 @@ rewrites =
     ∷ row MCLOH-AdrpLdrGotLdr gotPair (at 0x1000 0x90008000 0x91004000 0x3dc00800) (rewritten Fold Keep (Set nopWord) (Set 0x3dc00c00))
     ∷ row MCLOH-AdrpLdrGotLdr gotPair (at 0xfffffffffffff000 0x90000000 0xf9400001 0xf9480022) Nine
     ∷ row MCLOH-AdrpAddStr pair (at 0x100000000 0x90000241 0x91001022 0xf9000045) (rewritten Adr (Set 0x10240022) (Set nopWord) (Set 0xf9000045))
-    -- bench piece 8
+    -- example 8 (RULES 11.8)
     ∷ row MCLOH-AdrpAddStr pair (at 0x1000 0x90001000 0x91004000 0xf9000001) (rewritten Fold Keep (Set nopWord) (Set 0xf9000801))
     ∷ row MCLOH-AdrpAddStr pair (at 0xfffffffffffff000 0x90000000 0x913ffc01 0x39000422) Nine
     ∷ row MCLOH-AdrpLdrGotStr gotPair (at 0x3c530a3734f415e4 0xb0000000 0xf9400001 0xf93dfc3f) (rewritten Slot (Set nopWord) (Set 0x580050c1) Keep)
     ∷ row MCLOH-AdrpLdrGotStr gotPair (at 0x1000 0xb0000080 0x91004000 0xfd000802) (rewritten Adr (Set 0x10088080) (Set nopWord) Keep)
     ∷ row MCLOH-AdrpLdrGotStr gotPair (at 0x1000 0xb0530841 0x91000022 0x3d000042) (rewritten Fold Keep (Set nopWord) (Set 0x3d000022))
     ∷ row MCLOH-AdrpLdrGotStr gotPair (at 0xfffffffffffff000 0x90000000 0xf9400001 0xf9080022) Nine
-    -- bench piece 7
+    -- example 7 (RULES 11.7)
     ∷ row MCLOH-AdrpAdd pair (at 0x1000 0x90000000 0x91000c00 0) (rewritten Adr (Set 0x70000000) (Set nopWord) Keep)
     ∷ row MCLOH-AdrpAdd pair (at 0x1000 0x90008000 0x91000000 0) Declined
     ∷ row MCLOH-AdrpLdrGot gotPair (at 0x2a448a819049084c 0xd0000721 0xf940043f 0) (rewritten Slot (Set nopWord) (Set 0x5872bddf) Keep)

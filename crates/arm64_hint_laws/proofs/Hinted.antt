@@ -1,4 +1,4 @@
--- Demand 2, "LLVM's hint kinds define each hint": macho's word counts are those of LLVM's kinds, a number that is no kind declines, and a hint is
+-- LLVM's kinds define each hint (RULES 1.5, 8.2 to 8.4): macho's word counts are LLVM's, a number that is no kind declines, and a hint is
 -- only rewritten where its words and its entries are what its kind says, or one of the named exceptions stands there. By cases on the kind, on what
 -- the words decode to, and on the entries' test; the decoders' answers are the manual's forms by arm64_insn's `Decodes`.
 use mathlib.Core.Path.{_≡_, refl, sym, ap, subst, _∙_}

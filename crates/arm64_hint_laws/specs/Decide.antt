@@ -1,4 +1,4 @@
--- The rule of each kind (arch/arm64.rs, `apply_hints`: the choice over the kind).
+-- The rule of each kind (arch/arm64.rs, `apply_hints`: the choice over the kind; RULES 8.2, 8.15).
 use Prim.Native.Nat.{ℕ}
 use mathlib.Core.Bool.{true, false}
 use lib.Dec.{eqb}

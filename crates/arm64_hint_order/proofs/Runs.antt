@@ -1,4 +1,4 @@
--- Runs of hint steps by a list, each local to its footprint: demand 3 on lists, first for any steps, then for those that read and write the words
+-- Runs of hint steps by a list, each local to its footprint: RULES 9.27 and 9.29 on lists, first for any steps, then for those that read and write the words
 -- at their places. Carried by `same-run` and by bytes that no other step writes.
 use mathlib.Core.Path.{_≡_, refl, ap, _∙_}
 use mathlib.Core.Bool.{Bool, true}

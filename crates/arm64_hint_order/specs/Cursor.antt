@@ -1,4 +1,4 @@
--- The order of work as a cursor over the lent hint records (document 01, "Records lent by the linker" and "Fix-up and hint rules").
+-- The order of work as a cursor over the lent hint records (RULES 2.22, 8.31).
 use mathlib.Core.Path.{_≡_}
 use mathlib.Core.Bool.{Bool, true}
 use mathlib.Core.List.{List, [], _∷_, _++_}

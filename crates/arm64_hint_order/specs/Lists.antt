@@ -1,4 +1,4 @@
--- Lists of hint positions, and the order of work of a run (document 01, "Fix-up and hint rules": objects by rising number, in each the two passes
+-- Lists of hint positions, and the order of work of a run (RULES 8.27: objects by rising number, in each the two passes
 -- by list position). `obj` gives a hint's object number, `late` whether it is an ADRP_ADRP hint, n is the number of hints.
 use mathlib.Core.Path.{_≡_}
 use mathlib.Core.Bool.{Bool, true, false, _&&_, Bool·beq}

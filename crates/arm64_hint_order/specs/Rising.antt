@@ -1,4 +1,4 @@
--- The order of work as an order of hints: strictly rising in object number, then whether it is an ADRP_ADRP hint, then list position.
+-- The order of work as an order of hints: strictly rising in object number, then whether it is an ADRP_ADRP hint, then list position (RULES 8.28).
 use mathlib.Core.Path.{_≡_}
 use mathlib.Core.Bool.{Bool, true, false}
 use mathlib.Core.List.{List, [], _∷_}

@@ -1,4 +1,4 @@
--- Runs of hint steps by a list (document 01, "The runs of demand 3"): their answers, lists that keep each object's order, hints that share no byte.
+-- Runs of hint steps by a list (RULES 9.22 to 9.26): their answers, lists that keep each object's order, hints that share no byte.
 -- `write` gives the image after hint k, `out` its answer, `add` the tally with one answer more, `foot` the bytes that count as hint k's.
 use mathlib.Core.Path.{_≡_}
 use mathlib.Core.Logic.{_≢_}

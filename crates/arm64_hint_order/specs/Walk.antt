@@ -1,4 +1,4 @@
--- What the parts of a cursor's walk find: the contracts of the functions behind `first` and `next`.
+-- What the parts of a cursor's walk find: the contracts of the functions behind `first` and `next` (RULES 8.31).
 use mathlib.Core.Path.{_≡_}
 use mathlib.Core.Bool.{Bool, true, _&&_}
 use mathlib.Core.List.{List, [], _∷_}

@@ -1,4 +1,4 @@
--- A lent hint: its places, the words that stand there and the entries that they name (document 01, "Records lent by the linker";
+-- A lent hint: its places, the words that stand there and the entries that they name (RULES 2.22, 2.23, 8.3, 8.5 to 8.10;
 -- arch/arm64.rs, `Hint`).
 use Prim.Native.Nat.{ℕ}
 use mathlib.Core.Path.{_≡_}

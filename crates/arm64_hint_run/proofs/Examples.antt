@@ -1,5 +1,5 @@
--- Runs that are computed, on image bytes, hint records and entry records: bench pieces 6 to 8, and the numbers 1, 3 and 12 of document 01's table
--- "Turned-down input" with their order. Runs of several hints are computed in arm64_hint_kept (`ExampleRuns`).
+-- Runs that are computed, on image bytes, hint records and entry records: examples 6 to 8 (RULES 11.6 to 11.8), and those of the numbers 1, 3 and 12
+-- (RULES 3.1) with their order. Runs of several hints are computed in arm64_hint_kept (`ExampleRuns`).
 use mathlib.Core.Path.{_≡_, refl}
 use mathlib.Core.List.{List, [], _∷_, _++_}
 use Prim.Native.Nat.{ℕ, _+_, _*_}
@@ -65,7 +65,7 @@ counts a b c d = Done (record { rewritten = a; skipped = b; declined = c; «turn
 abbrev pub Runs : List ℕ → List ℕ → List ℕ → RunAnswer → List ℕ → Type 0
 Runs entries hints old answer new = (runOf (words old) hints entries ≡ answer) × (imageOf (words old) hints entries ≡ words new)
 
--- ---- bench pieces 6 to 8
+-- ---- examples 6 to 8
 
 abbrev pub Rewrites : ℕ → List ℕ → List ℕ → Type 0
 Rewrites kind old new = Runs pair (plain kind (length old) 0 0 0x1000) old (counts 1 0 0 0) new

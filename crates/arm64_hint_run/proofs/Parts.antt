@@ -1,4 +1,4 @@
--- The words of a hint that is not turned down lie in its part of the image, as demand 3 on lists supposes it. Carried by the check.
+-- The words of a hint that is not turned down lie in its part of the image, as RULES 9.27 supposes it. Carried by the check.
 use mathlib.Core.Path.{_≡_, refl, sym, ap, _∙_}
 use mathlib.Core.Bool.{Bool, true, false, true≢false}
 use mathlib.Core.List.{List, map}

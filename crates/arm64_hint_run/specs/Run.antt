@@ -1,4 +1,4 @@
--- The hint run (document 01, "Fix-up and hint rules" and "The runs of demand 3"; arch/arm64.rs, `apply_hints`): its answer, and the image that it leaves.
+-- The hint run (RULES 8.26 to 8.32, 9.22; arch/arm64.rs, `apply_hints`): its answer, and the image that it leaves.
 use Prim.Native.Nat.{ℕ}
 use mathlib.Core.List.{List}
 use lib.ListN.{length}
@@ -45,7 +45,7 @@ runOf image hints entries = answerBy (checkAll (length image) hints (length entr
 unfoldable pub imageOf : List ℕ → List ℕ → List ℕ → List ℕ
 imageOf image hints entries = imageBy (checkAll (length image) hints (length entries)) image (worked image hints entries (orderOf hints) .image)
 
--- document 01's number of an answer, 0 for none
+-- the number (RULES 3.1) of an answer, 0 for none
 abbrev pub numberOf : RunAnswer → ℕ
 numberOf (A.Done t) = 0
 numberOf (A.Refused x) = Refusal.numberOf x

@@ -1,4 +1,4 @@
--- What the rules share: sums that may pass 2^64 - 1, and loads with a literal form in reach (arch/arm64.rs, the rules of hints).
+-- What the rules share: sums that may pass 2^64 - 1, and loads with a literal form in reach (arch/arm64.rs, the rules of hints; RULES 8.13, 7.23).
 use Prim.Native.Nat.{ℕ, _+_, _%_, _^_}
 use mathlib.Core.Bool.{Bool, _&&_}
 use lib.Dec.{eqb, ltb}

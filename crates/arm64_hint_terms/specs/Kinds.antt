@@ -1,4 +1,4 @@
--- LLVM's linker optimization hint kinds (llvm/MC/MCLinkerOptimizationHint.h, `MCLOHType`). Numbers and names are macho's; each kind has a row of
+-- LLVM's linker optimization hint kinds (llvm/MC/MCLinkerOptimizationHint.h, `MCLOHType`; RULES 8.2). Numbers and names are macho's; each kind has a row of
 -- words, as "Adrp _v@Page -> Add _v@PageOff -> Ldr" for AdrpAddLdr.
 use Prim.Native.Nat.{ℕ}
 use mathlib.Core.Path.{_≡_}
@@ -80,7 +80,7 @@ pub record IsAccess (w : ℕ) (stores : Bool) : Type 0 where
   pub is : decode w ≡ form (LDST size v opc rt rn imm12)
   pub row : isStore (rowOf size v opc) ≡ stores
 
--- an unallocated word that the rules take as a load (document 01, `parse_ldst`)
+-- an unallocated word that the rules take as a load (RULES 7.19)
 abbrev pub IsTaken : ℕ → Type 0
 IsTaken w = (allocated w ≡ false) × (takenAsLoad (sizeIn w) (vIn w) (opcIn w) ≡ true)
 
@@ -94,7 +94,7 @@ IsWord Ldr-GotPageOff w = IsAccess w false
 IsWord Ldr w = IsAccess w false
 IsWord Str w = IsAccess w true
 
--- w is what may stand there instead (document 01, "Hints"): the ADD that a GOT slot's load was relaxed to, a store for a last load, and for a load
+-- w is what may stand there instead (RULES 8.4): the ADD that a GOT slot's load was relaxed to, a store for a last load, and for a load
 -- that is not a GOT slot's an unallocated word that is taken as one
 abbrev pub IsInstead : Word → ℕ → Type 0
 IsInstead Adrp-Page w = ⊥

@@ -1,4 +1,4 @@
--- What each rewrite writes at each place (arch/arm64.rs, the calls of `set`); a kept place is not written.
+-- What each rewrite writes at each place (arch/arm64.rs, the calls of `set`; RULES 8.12); a kept place is not written.
 use Prim.Native.Nat.{ℕ}
 use Rattle.arm64_insn.specs.Adrp.{adrWord}
 use Rattle.arm64_insn.specs.Fix.{nopWord}

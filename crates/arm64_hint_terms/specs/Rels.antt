@@ -1,4 +1,4 @@
--- What the entries of a hint's places say (arch/arm64.rs, `is_page_rel`, `is_pageoff_rel` and `has_page_pair`).
+-- What the entries of a hint's places say (arch/arm64.rs, `is_page_rel`, `is_pageoff_rel` and `has_page_pair`; RULES 8.7 to 8.9).
 use Prim.Native.Nat.{ℕ, _*_}
 use mathlib.Core.Bool.{Bool, true, false, _&&_, _||_, not}
 use mathlib.Core.List.{List}

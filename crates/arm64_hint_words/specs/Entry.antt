@@ -1,4 +1,4 @@
--- The entries that a hint's places name in a list of entries (arch/arm64.rs, `Hint::has_page_pair`; document 01, "Records lent by the linker").
+-- The entries that a hint's places name in a list of entries (arch/arm64.rs, `Hint::has_page_pair`; RULES 2.23, 8.7, 8.9).
 use Prim.Native.Nat.{ℕ, _+_, _*_, _≤_}
 use mathlib.Core.Path.{_≡_}
 use mathlib.Core.List.{List, map}

@@ -1,5 +1,5 @@
--- The words of a hint in the bytes of its section (arch/arm64.rs, `Hint::get`, `Hint::set` and `Hint::addr`).
--- A place past the word count is not looked at (document 01, "Turned-down input"): it reads as 0, and nothing is stored there.
+-- The words of a hint in the bytes of its section (arch/arm64.rs, `Hint::get`, `Hint::set` and `Hint::addr`; RULES 8.6, 8.10, 8.11).
+-- A place past the word count is not looked at (RULES 3.17): it reads as 0, and nothing is stored there.
 use Prim.Native.Nat.{ℕ, _+_, _≤_, _<_}
 use mathlib.Core.List.{List, map}
 use mathlib.Core.Option.{Option, none, some}

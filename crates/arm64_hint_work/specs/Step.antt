@@ -1,4 +1,4 @@
--- The step of one hint: where its words stand in the image, what comes of it, and how it is counted (document 01, "Fix-up and hint rules";
+-- The step of one hint: where its words stand in the image, what comes of it, and how it is counted (RULES 8.5 to 8.11, 8.32;
 -- arch/arm64.rs, `apply_hints`).
 use Prim.Native.Nat.{ℕ, _+_}
 use mathlib.Core.List.{List, map}

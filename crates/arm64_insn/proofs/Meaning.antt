@@ -1,4 +1,4 @@
--- Demand 2, "what the fields then mean": in reach, the immediates that the words have lead to the targets meant. By the laws of
+-- What the fields then mean (RULES 7.11 to 7.15): in reach, the immediates that the words have lead to the targets meant. By the laws of
 -- sign-extended displacements (ManualTargets); `Encodes` says which words have these immediates.
 use mathlib.Core.Path.{_≡_, refl, sym, ap, _∙_}
 use mathlib.Core.Bool.{true}

@@ -1,4 +1,4 @@
--- Document 01, "Bench pieces": pieces 1 to 5 and 9 to 11, and the limits of `within_1mb`. All are computed.
+-- Examples 1 to 5 and 9 to 11 (RULES 11), and the limits of `within_1mb` (RULES 7.15). All are computed.
 use mathlib.Core.Path.{_≡_, refl}
 use mathlib.Core.Bool.{true, false}
 use Prim.Native.Nat.{ℕ}

@@ -1,4 +1,4 @@
--- ADD (immediate) of 64 bits, unshifted, taken apart (Arm manual, C6.2, ADD (immediate); arch/arm64.rs, `parse_add`).
+-- ADD (immediate) of 64 bits, unshifted, taken apart (Arm manual, C6.2, ADD (immediate); arch/arm64.rs, `parse_add`; RULES 7.17).
 use Prim.Native.Nat.{ℕ}
 use Rattle.util.specs.Choice.{choose}
 use Rattle.util.specs.Diagram.{matches}

@@ -1,4 +1,4 @@
--- ADRP taken apart, and ADR made (Arm manual, C6.2, ADR and ADRP; arch/arm64.rs, `is_adrp`, `adrp_page` and `adr`).
+-- ADRP taken apart, and ADR made (Arm manual, C6.2, ADR and ADRP; arch/arm64.rs, `is_adrp`, `adrp_page` and `adr`; RULES 7.16, 7.22).
 use Prim.Native.Nat.{ℕ}
 use Rattle.util.specs.Choice.{choose}
 use Rattle.util.specs.Bits.{field}

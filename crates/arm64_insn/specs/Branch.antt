@@ -1,4 +1,4 @@
--- B and BL (Arm manual, C6.2, B and BL; arch/arm64.rs, BRANCH26 and the helper of GOT_LOAD_PAGE21).
+-- B and BL (Arm manual, C6.2, B and BL; arch/arm64.rs, BRANCH26 and the helper of GOT_LOAD_PAGE21; RULES 5.13, 7.30, 7.31).
 use Prim.Native.Nat.{ℕ, _+_, _*_, _^_}
 use mathlib.Core.Bool.{Bool}
 use Rattle.util.specs.Choice.{choose}

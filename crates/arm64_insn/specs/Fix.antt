@@ -1,4 +1,4 @@
--- Words with another page or page offset (arch/arm64.rs, `write_adrp`, `write_add_ldst` and the relaxed GOT load).
+-- Words with another page or page offset (arch/arm64.rs, `write_adrp`, `write_add_ldst` and the relaxed GOT load; RULES 7.26 to 7.29).
 use Prim.Native.Nat.{ℕ, _+_, _*_, _/_, _%_, _^_}
 use mathlib.Core.List.{List, [], _∷_}
 use lib.Dec.{eqb}

@@ -1,4 +1,4 @@
--- A decoded load or store as a literal load, and through another base (arch/arm64.rs, `has_literal_form`, `to_literal` and `with_base`).
+-- A decoded load or store as a literal load, and through another base (arch/arm64.rs, `has_literal_form`, `to_literal` and `with_base`; RULES 7.23 to 7.25).
 use Prim.Native.Nat.{ℕ, _+_, _*_, _/_, _^_, _<_}
 use mathlib.Core.Bool.{Bool, _&&_, not}
 use lib.Dec.{eqb, leb}

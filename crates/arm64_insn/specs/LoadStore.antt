@@ -1,4 +1,4 @@
--- Load or store register (unsigned immediate), taken apart by the manual's table, with what document 01 ("parse_ldst") takes as loads besides.
+-- Load or store register (unsigned immediate), taken apart by the manual's table (RULES 7.18), with what RULES 7.19 takes as loads besides.
 use Prim.Native.Nat.{ℕ, _+_, _*_, _^_}
 use mathlib.Core.Bool.{Bool, true, false, _&&_, _||_}
 use lib.Dec.{eqb, leb}
@@ -71,7 +71,7 @@ loadStoreFrom w v rt rn imm12 row =
       «is_ldrsw» = isLdrsw row;
     }
 
--- the unallocated words that document 01 takes as loads of 2^size bytes
+-- the unallocated words that RULES 7.19 takes as loads of 2^size bytes
 abbrev pub takenWord : ℕ → Bool
 takenWord w = matches loadStore w && takenAsLoad (sizeIn w) (vIn w) (opcIn w)
 

@@ -1,4 +1,4 @@
--- The tables "Load/store register (unsigned immediate)" and "Load register (literal)" (Arm Architecture Reference Manual, C4.1, Loads and Stores).
+-- The tables "Load/store register (unsigned immediate)" and "Load register (literal)" (Arm Architecture Reference Manual, C4.1, Loads and Stores; RULES 7.5 to 7.7).
 use Prim.Native.Nat.{ℕ, _+_, _*_, _%_, _^_}
 use mathlib.Core.Bool.{Bool, true, false}
 use mathlib.Core.List.{List, [], _∷_}

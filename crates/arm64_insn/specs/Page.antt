@@ -1,4 +1,4 @@
--- Pages of 4,096 bytes (Arm Architecture Reference Manual, C6.2, ADRP; arch/arm64.rs, `page` and `adrp_page`).
+-- Pages of 4,096 bytes (Arm Architecture Reference Manual, C6.2, ADRP; arch/arm64.rs, `page` and `adrp_page`; RULES 7.10, 7.11).
 use Prim.Native.Nat.{ℕ, _*_, _/_, _^_}
 use Rattle.util.specs.Bits.{extend}
 use Rattle.util.specs.Wrap.{sum}

@@ -1,4 +1,4 @@
--- What ADRP, ADR and literal loads reach (arch/arm64.rs, `page_offset`, `adrp_reaches` and `within_1mb`).
+-- What ADRP, ADR and literal loads reach (arch/arm64.rs, `page_offset`, `adrp_reaches` and `within_1mb`; RULES 7.13 to 7.15).
 use Prim.Native.Nat.{ℕ, _+_, _-_, _*_, _/_, _%_, _^_}
 use mathlib.Core.Bool.{Bool}
 use Rattle.util.specs.Bits.{field}

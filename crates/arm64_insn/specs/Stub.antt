@@ -1,4 +1,4 @@
--- The words of a stub and of a thunk (arch/arm64.rs, `write_stubs` and `write_thunk`).
+-- The words of a stub and of a thunk (arch/arm64.rs, `write_stubs` and `write_thunk`; RULES 6.2, 6.3).
 use Prim.Native.Nat.{ℕ}
 use Rattle.util.specs.Bits.{field}
 use Rattle.arm64_insn.specs.Manual.{ADRP, ADD, LDST, BR, encode}

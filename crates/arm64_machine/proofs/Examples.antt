@@ -98,7 +98,7 @@ examples = record {
   others = (refl, (refl, (refl, (refl, (refl, (refl, (refl, (refl, tt))))))));
 }
 
--- bench pieces 6 to 8: their words are fair, and run as what becomes of them
+-- examples 6 to 8 (RULES 11.6 to 11.8): their words are fair, and run as what becomes of them
 pub fair-6 : Fair (placed 0x90000000 0x1000 ∷ placed 0xf9400401 0x1004 ∷ [])
 unfolding Manual.allocated links31 adds31 storesMade action decode choose rowOf
 fair-6 = fair-by refl refl refl refl refl
@@ -124,7 +124,7 @@ pub piece-8 : SameRun (placed 0x90001000 0x1000 ∷ placed 0x91004000 0x1004 ∷
 unfolding action decode choose rowOf pageOf adrpPage accessAddress addValue
 piece-8 = folded (chain fair-8 refl refl refl) refl refl refl
 
--- piece 6 with the literal load 4 bytes off
+-- example 6 with the literal load 4 bytes off
 pub off-by-4 : SameRun (placed 0x90000000 0x1000 ∷ placed 0xf9400401 0x1004 ∷ []) (placed 0xd503201f 0x1000 ∷ placed 0x58000041 0x1004 ∷ []) → ⊥
 unfolding action decode choose rowOf literalRowOf pageOf adrpPage literalTarget accessAddress
 off-by-4 = literal-elsewhere 0x90000000 0xf9400401 0xd503201f 0x58000041 refl refl refl refl (lit< tt) (λ e. omega arith)

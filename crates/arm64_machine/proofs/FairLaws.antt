@@ -18,7 +18,7 @@ use Rattle.arm64_machine.proofs.Actions.{ranged}
 use Rattle.arm64_machine.proofs.Rewrites as Rewrites
 use Rattle.arm64_machine.proofs.Rewrites.{Chain}
 
--- the demand's premises give those that are needed
+-- all premises (RULES 9.12 to 9.20) give those that are needed
 pub fair : {ws : List Placed} {o : Other} {s : State} → Premises ws o s → Fair ws
 fair p =
     record { allocated = p .allocated; aligned = p .aligned; no-31-link = p .no-31-link; no-31-added = p .no-31-added; no-store = p .no-store }

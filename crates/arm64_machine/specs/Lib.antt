@@ -1,4 +1,4 @@
--- The machine of demand 3, when two lists of words run alike, and the premises of the demand.
+-- The machine (RULES 9.1 to 9.8), when two lists of words run alike (RULES 9.11), and the premises (RULES 9.12 to 9.20).
 pub mod Machine
 pub mod SameRun
 pub mod Premises

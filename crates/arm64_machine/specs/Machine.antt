@@ -1,4 +1,4 @@
--- The machine of document 01, "The runs of demand 3": what it holds, what a word does, and what a list of words does.
+-- The machine of RULES 9.1 to 9.8: what it holds, what a word does, and what a list of words does.
 -- A register, the stack pointer or a byte of memory may hold any number; the machine takes as many of its low bits as it needs, at most
 -- 64 of a general register or the stack pointer, 128 of a vector register, 8 of a byte. Addresses are taken modulo 2^64.
 use Prim.Native.Nat.{ℕ, zero, suc, _+_, _*_, _/_, _%_, _^_}
@@ -42,7 +42,7 @@ pub record Placed : Type 0 where
 abbrev pub placed : ℕ → ℕ → Placed
 placed w p = record { word = w; address = p }
 
--- what a word does: the forms that document 01 names, a load or store with its row of the manual's tables, and any other word
+-- what a word does: the forms that RULES 9.5 and 9.6 name, a load or store with its row of the manual's tables, and any other word
 pub data Action : Type 0 where
   adr : (rd imm21 : ℕ) → Action
   adrp : (rd imm21 : ℕ) → Action

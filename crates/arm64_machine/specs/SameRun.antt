@@ -1,4 +1,4 @@
--- When new words run as the old ones did (document 01, "The runs of demand 3"; demand 3, its first sentence).
+-- When new words run as the old ones did (RULES 1.9, 9.9 to 9.11).
 use Prim.Native.Nat.{ℕ, _<_}
 use mathlib.Core.Path.{_≡_}
 use mathlib.Core.Bool.{Bool, true, false, not, _&&_, _||_}

@@ -1,1 +1,1 @@
-// No code: the machine of demand 3 as definitions (specs/), and the laws of its runs (proofs/).
+// No code: the machine of RULES 9 as definitions (specs/), and the laws of its runs (proofs/).

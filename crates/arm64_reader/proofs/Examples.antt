@@ -1,4 +1,4 @@
--- Document 01's bench piece 12, and the examples of numbers 1 to 7 in its table "Turned-down input": each is computed.
+-- Example 12 (RULES 11.12), and the examples of numbers 1 to 7 (RULES 3.1): each is computed.
 use mathlib.Core.Path.{_≡_, refl}
 use mathlib.Core.List.{List, [], _∷_, _++_}
 use Prim.Native.Nat.{ℕ, _-_, _^_}

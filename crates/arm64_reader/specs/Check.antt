@@ -1,4 +1,4 @@
--- The checks of one relocation record (arch/arm64.rs, `check_reloc`; numbers 3, 5 and 6 of document 01, "Turned-down input").
+-- The checks of one relocation record (arch/arm64.rs, `check_reloc`; RULES 4.6 to 4.8: numbers 3, 5 and 6).
 use Prim.Native.Nat.{ℕ}
 use mathlib.Core.Bool.{Bool, not, _&&_, _||_}
 use mathlib.Core.List.{List}

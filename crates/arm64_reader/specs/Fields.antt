@@ -1,4 +1,4 @@
--- What the entries of a table hold, as functions of its records (document 01, "Odd spots", `read_relocs`).
+-- What the entries of a table hold, as functions of its records (RULES 4.2 to 4.14).
 use Prim.Native.Nat.{ℕ, suc, _+_, _-_}
 use mathlib.Core.Bool.{Bool, true, false}
 use mathlib.Core.List.{List, [], _∷_}

@@ -1,5 +1,5 @@
 -- What a table of arm64 relocation records means by Apple's headers alone: `struct relocation_info` of mach-o/reloc.h and `enum reloc_type_arm64` of
--- mach-o/arm64/reloc.h, whose comments are quoted.
+-- mach-o/arm64/reloc.h, whose comments are quoted (RULES 4.16 to 4.22).
 use Prim.Native.Nat.{ℕ, _+_, _-_, _^_, _<_, _≤_}
 use mathlib.Core.Bool.{Bool, true, false, _&&_, _||_}
 use mathlib.Core.List.{List, [], _∷_}

@@ -1,4 +1,4 @@
--- Relocation records into entries (arch/arm64.rs, `read_relocs`; document 01, "Records lent by the linker" and "Turned-down input").
+-- Relocation records into entries (arch/arm64.rs, `read_relocs`; RULES 3.4, 4.2).
 use mathlib.Core.Bool.{Bool, false}
 use mathlib.Core.List.{List}
 use Prim.Native.Nat.{ℕ}

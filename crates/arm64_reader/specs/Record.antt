@@ -1,4 +1,4 @@
--- What stands at one relocation record (arch/arm64.rs, a turn of `read_relocs`; document 01, "Odd spots" and the order of numbers in reading).
+-- What stands at one relocation record (arch/arm64.rs, a turn of `read_relocs`; RULES 4.3 to 4.12, 3.4).
 use Prim.Native.Nat.{ℕ, _+_}
 use mathlib.Core.Path.{_≡_}
 use mathlib.Core.Bool.{Bool}

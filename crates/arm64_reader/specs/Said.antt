@@ -1,4 +1,4 @@
--- What a list of entries says (document 01, "Records lent by the linker", and SUBTRACTOR in "Fix-up and hint rules").
+-- What a list of entries says (RULES 2.16, 4.21).
 use Prim.Native.Nat.{ℕ, _+_, _-_}
 use mathlib.Core.List.{List, [], _∷_}
 use lib.Dec.{eqb}

@@ -1,4 +1,4 @@
--- Which relocation records the linker applies (arch/arm64.rs, `is_supported`).
+-- Which relocation records the linker applies (arch/arm64.rs, `is_supported`; RULES 4.6).
 use Prim.Native.Nat.{ℕ}
 use mathlib.Core.Bool.{Bool}
 use mathlib.Core.List.{List, [], _∷_}

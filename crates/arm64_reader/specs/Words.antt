@@ -1,4 +1,4 @@
--- The words that a page offset may stand on, as forms of the Arm manual (C6.2; document 01, number 6 in reading).
+-- The words that a page offset may stand on, as forms of the Arm manual (C6.2; RULES 4.8).
 use Prim.Native.Nat.{ℕ}
 use mathlib.Core.Bool.{Bool, false}
 use lib.Dec.{eqb}

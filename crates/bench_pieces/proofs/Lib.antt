@@ -1,2 +1,2 @@
--- The twelve bench pieces.
+-- The twelve examples (RULES 11).
 pub mod Table

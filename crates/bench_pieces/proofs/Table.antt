@@ -1,4 +1,4 @@
--- Document 01, "Bench pieces": the twelve as one table. 6 to 8 go through the hint run, 9 to 11 through the fix-up, 12 through the reader; each row
+-- The twelve examples (RULES 11) as one table. 6 to 8 go through the hint run, 9 to 11 through the fix-up, 12 through the reader; each row
 -- is computed in its own crate.
 use mathlib.Core.Path.{_≡_}
 use mathlib.Core.List.{List, [], _∷_, _++_}

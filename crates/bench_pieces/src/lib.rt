@@ -1,1 +1,1 @@
-// Document 01's twelve bench pieces together: theorems only, no code.
+// The twelve examples (RULES 11) together: theorems only, no code.

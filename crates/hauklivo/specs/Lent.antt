@@ -1,4 +1,4 @@
--- What a call leaves in a number that it is lent (document 01, "Turned-down input": a refusal changes nothing lent).
+-- What a call leaves in a number that it is lent (RULES 3.2: a refusal changes nothing lent).
 use Prim.Native.Nat.{ℕ}
 use lib.Dec.{eqb}
 use Rattle.util.specs.Choice.{choose}

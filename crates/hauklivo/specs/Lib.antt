@@ -1,4 +1,4 @@
--- The calls that a linker makes (document 01, "Records lent by the linker", "Turned-down input").
+-- The calls that a linker makes (RULES 2.28, 3.1).
 pub mod Lent
 pub mod Reader
 pub mod Fixup

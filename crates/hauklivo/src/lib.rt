@@ -1,4 +1,4 @@
-// The calls that a linker makes, over numbers and slices: 0 or the number of document 01, "Turned-down input". A refused call changes nothing lent.
+// The calls that a linker makes, over numbers and slices: 0 or a number of RULES 3.1. A refused call changes nothing lent.
 pub mod fixup;
 pub mod hints;
 pub mod lister;

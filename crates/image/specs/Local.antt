@@ -1,4 +1,4 @@
--- Steps on an image of bytes that read and write only the bytes of a footprint.
+-- Steps on an image of bytes that read and write only the bytes of a footprint (RULES 8.30).
 use mathlib.Core.Path.{_≡_}
 use mathlib.Core.Bool.{Bool, true, false}
 use mathlib.Core.List.{List}

@@ -1,4 +1,4 @@
-// The word lister of document 01 at work: standard input is listed on standard output.
+// The word lister (RULES 10) at work: standard input is listed on standard output.
 ghost use Prim.Native.Nat.{_≤_};
 ghost use lib.ListN.{length, take};
 ghost use Rattle.lister_text.specs.Text.{textOf};

@@ -1,4 +1,4 @@
--- The class of a word (document 01, "Bench pieces", the word lister).
+-- The class of a word (RULES 10.2).
 use Prim.Native.Nat.{ℕ}
 use Rattle.util.specs.Choice.{choose}
 use Rattle.arm64_insn.specs.Adrp.{adrpOf}

@@ -1,4 +1,4 @@
--- A listing of words in lent bytes: document 01's word lister as a call, with its numbers.
+-- A listing of words in lent bytes: the word lister as a call, with its numbers (RULES 10.6).
 use Prim.Native.Nat.{ℕ, _*_, _/_, _%_}
 use mathlib.Core.List.{List}
 use lib.Dec.{ltb, eqb}

@@ -1,4 +1,4 @@
--- The text that the lister prints (document 01, "Bench pieces", the word lister), as ASCII codes.
+-- The text that the lister prints (RULES 10.1 to 10.4), as ASCII codes.
 use Prim.Native.Nat.{ℕ, zero, suc, _+_, _*_, _/_, _%_, _^_}
 use mathlib.Core.List.{List, [], _∷_, _++_}
 use lib.Dec.{ltb, eqb}

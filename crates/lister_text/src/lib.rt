@@ -1,4 +1,4 @@
-// The word lister of document 01: each 4-byte word of an input with its offset, its class as the hint decoders see it, and the bytes moved.
+// The word lister (RULES 10): each 4-byte word of an input with its offset, its class as the hint decoders see it, and the bytes moved.
 pub mod class;
 
 use class::Class;

@@ -1,4 +1,4 @@
--- A hint, 64 bytes (document 01, "Records lent by the linker"), lists of hints, and the word counts of the kinds.
+-- A hint, 64 bytes (RULES 2.22, 2.23), lists of hints, and the word counts of the kinds (RULES 8.2).
 use Prim.Native.Nat.{ℕ, _+_, _*_, _/_}
 use mathlib.Core.List.{List, [], _∷_, _++_}
 use lib.Dec.{eqb}

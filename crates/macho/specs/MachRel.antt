@@ -1,4 +1,4 @@
--- A relocation record of an object file: Apple's `struct relocation_info` (mach-o/reloc.h).
+-- A relocation record of an object file: Apple's `struct relocation_info` (mach-o/reloc.h; RULES 2.10 to 2.12).
 use Prim.Native.Nat.{ℕ, _+_, _*_, _^_}
 use mathlib.Core.List.{List, [], _∷_}
 use Rattle.util.specs.Word.{le}

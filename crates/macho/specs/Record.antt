@@ -1,4 +1,4 @@
--- A record: its fields one after another, each a number of so many bytes, the lowest byte first (document 01, "Records lent by the linker").
+-- A record: its fields one after another, each a number of so many bytes, the lowest byte first (RULES 2.2, 2.8).
 use mathlib.Core.Path.{_≡_}
 use Prim.Native.Nat.{ℕ, _+_, _*_, _^_, _<_}
 use mathlib.Core.List.{List, [], _∷_, _++_}

@@ -1,4 +1,4 @@
--- The numbers of document 01, "Turned-down input", and what a call says with them.
+-- The numbers of RULES 3.1, and what a call says with them.
 use Prim.Native.Nat.{ℕ}
 use Rattle.macho.specs.declared.refusal.Refusal.{Refusal}
 use Rattle.macho.specs.declared.refusal.Refusal.the-variants.{Lengths, Slots, Bounds, LoneAddend, Unsupported, Unfit}

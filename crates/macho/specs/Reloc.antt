@@ -1,4 +1,4 @@
--- An entry, 24 bytes (document 01, "Records lent by the linker").
+-- An entry, 24 bytes (RULES 2.15, 2.16).
 use Prim.Native.Nat.{ℕ, _+_, _^_}
 use mathlib.Core.Bool.{Bool}
 use mathlib.Core.List.{List, [], _∷_}

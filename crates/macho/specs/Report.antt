@@ -1,4 +1,4 @@
--- A report, 24 bytes (document 01, "Records lent by the linker").
+-- A report, 24 bytes (RULES 2.20, 2.21).
 use Prim.Native.Nat.{ℕ, _+_}
 use mathlib.Core.List.{List, [], _∷_}
 use Rattle.util.specs.Word.{le}

@@ -1,4 +1,4 @@
--- A resolved target, 48 bytes (document 01, "Records lent by the linker").
+-- A resolved target, 48 bytes (RULES 2.17 to 2.19).
 use Prim.Native.Nat.{ℕ, _+_, _^_}
 use mathlib.Core.Bool.{Bool, _&&_, not}
 use mathlib.Core.List.{List, [], _∷_}

@@ -1,5 +1,5 @@
 -- The numbers of relocation types and of linker optimization hint kinds: Apple's mach-o/arm64/reloc.h (ARM64-RELOC) and
--- mach-o/x86_64/reloc.h (X86-64-RELOC), LLVM's MCLinkerOptimizationHint.h (MCLOH).
+-- mach-o/x86_64/reloc.h (X86-64-RELOC), LLVM's MCLinkerOptimizationHint.h (MCLOH; RULES 2.13, 2.14, 8.2).
 use Prim.Native.Nat.{ℕ}
 
 -- a pointer

@@ -1,4 +1,4 @@
-// A linker optimization hint with the places of its words (document 01, "Records lent by the linker").
+// A linker optimization hint with the places of its words (RULES 2.22, 2.23).
 use crate::byte::read8;
 use crate::consts;
 use util::read32;

@@ -1,4 +1,4 @@
-// Why a call turns its input down, and what it answers (document 01, "Turned-down input").
+// Why a call turns its input down, and what it answers (RULES 3.1).
 ghost use mathlib.Core.Path.{_≡_};
 ghost use Rattle.macho.specs.Refusal.{numberOf, checkNumber};
 
@@ -31,7 +31,7 @@ pub enum Answer {
 }
 
 impl Refusal {
-    // The number that document 01 gives it.
+    // Its number in RULES 3.1.
     pub fn number(self) -> u8
         ensures { λ r. ⌜ r ≡ numberOf self ⌝ }
     {

@@ -1,4 +1,4 @@
-// An entry: a relocation with its addend and its target (Reloc of input_sections.rs; document 01, "Records lent by the linker").
+// An entry: a relocation with its addend and its target (Reloc of input_sections.rs; RULES 2.15, 2.16).
 use crate::byte::read8;
 use crate::byte::write_head;
 use util::read32;

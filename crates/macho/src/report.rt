@@ -1,4 +1,4 @@
-// A report of the fix-up (document 01, "Records lent by the linker").
+// A report of the fix-up (RULES 2.20, 2.21).
 use crate::byte::read8;
 use crate::byte::write_head;
 use util::read32;

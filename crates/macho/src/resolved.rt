@@ -1,4 +1,4 @@
-// A resolved target: what the linker knows of an entry's target (document 01, "Records lent by the linker").
+// A resolved target: what the linker knows of an entry's target (RULES 2.17 to 2.19).
 use util::read32;
 use util::read64;
 ghost use mathlib.Core.Path.{_≡_};

@@ -1,4 +1,4 @@
--- Fields of a number's bits (macho/util/mod.rs, `bits` and `sign_extend`).
+-- Fields of a number's bits (macho/util/mod.rs, `bits` and `sign_extend`; RULES 2.3, 2.4).
 use Prim.Native.Nat.{ℕ, _+_, _-_, _/_, _%_, _^_}
 use lib.Dec.{ltb}
 use Rattle.util.specs.Choice.{choose}

@@ -1,4 +1,4 @@
--- A part of a list, and the list with another part in its place.
+-- A part of a list, and the list with another part in its place (RULES 8.5).
 use Prim.Native.Nat.{ℕ}
 use mathlib.Core.List.{List, _++_}
 use lib.ListN.{take, drop}

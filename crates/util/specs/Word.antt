@@ -1,4 +1,4 @@
--- Little-endian words of n bytes in a list of bytes (macho/util/mod.rs, `read32` to `write64`).
+-- Little-endian words of n bytes in a list of bytes (macho/util/mod.rs, `read32` to `write64`; RULES 2.2).
 use Prim.Native.Nat.{ℕ, zero, suc, _+_, _*_, _/_, _%_, _^_}
 use mathlib.Core.List.{List, [], _∷_, _++_}
 use lib.ListN.{getD, set}

@@ -1,4 +1,4 @@
--- Sums and differences modulo 2^64, and what they are as signed numbers.
+-- Sums and differences modulo 2^64, and what they are as signed numbers (RULES 2.5, 2.6).
 use Prim.Native.Nat.{ℕ, _+_, _-_, _%_, _^_}
 use mathlib.Core.Bool.{Bool, _&&_}
 use lib.Dec.{ltb}

@@ -9,7 +9,7 @@
 //!   thunk ADDRESS TARGET                    thunk BYTES
 //!   word WORD                               adrp | add | load N | store N | other
 //!
-//! Where the Rust stops: stop, document 01's number, and the Rust's words.
+//! Where the Rust stops: stop, the number of RULES 3.1, and the Rust's words.
 
 use std::io::{self, BufRead, Write};
 

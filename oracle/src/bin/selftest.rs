@@ -1,4 +1,4 @@
-//! The oracle's self-test: the twelve bench pieces of document 01, its examples of turned-down
+//! The oracle's self-test: the twelve examples (RULES 11), the examples of turned-down
 //! input, one of each stop, each kind of report, and the oracle's own hint walk against the
 //! Rust's on generated runs.
 

@@ -1,4 +1,4 @@
--- Demand 3 (document 00; document 01, "The runs of demand 3"): what is claimed of a hint's step, and of every list of a run's hint steps.
+-- What a run of hints keeps (RULES 1.9 to 1.14, 9.12 to 9.30): what is claimed of a hint's step, and of every list of a run's hint steps.
 -- The run, its image and tally, and the words of a hint are those that the contracts of arm64_hint_run cite; the machine is arm64_machine's.
 use mathlib.Core.Path.{_≡_}
 use mathlib.Core.Bool.{Bool, false, _&&_, not}
@@ -68,7 +68,7 @@ abbrev pub Same : HintRecord → List ℕ → List ℕ → Type 0
 Same h image later = SameRun (codes h image) (codes h later)
 
 -- what is claimed of a list l of the hint steps of a run that counts t
-pub record Demand3 (image hints entries l : List ℕ) (t : Tally) : Type 0 where
+pub record HintsKept (image hints entries l : List ℕ) (t : Tally) : Type 0 where
   -- different objects' parts apart and each object's own order kept: image and tally are the run's
   pub order : PartsApart hints → Kept hints l → worked image hints entries l ≡ record { image = imageOf image hints entries; tally = t }
   -- each hint at its turn, on the image that the steps before it left: its words run after its step as before it
@@ -79,9 +79,9 @@ pub record Demand3 (image hints entries l : List ℕ) (t : Tally) : Type 0 where
   pub ends : (k : ℕ) → k < hintCount hints → isSkipped (hintOf hints k) ≡ false → Alone hints k
       → Fair (hintOf hints k) image → Same (hintOf hints k) image (worked image hints entries l .image)
 
--- ---- the demand word by word
+-- ---- the claim with every premise (RULES 1.9 to 1.13)
 
--- every premise of the demand on a sequence and its run from state s, also those that Fair leaves out (arm64_machine, Premises: the five of
+-- every premise (RULES 9.12 to 9.20) on a sequence and its run from state s, also those that Fair leaves out (arm64_machine, Premises: the five of
 -- Fair, empty-at-first, none-data, no-sum-passes and no-vector-link)
 pub record Premises (h : HintRecord) (image : List ℕ) (o : Other) (s : State) : Type 0 where
   pub disjoint : Disjoint (placesOf h)

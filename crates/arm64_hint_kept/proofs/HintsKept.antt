@@ -1,4 +1,4 @@
--- Demand 3: the theorems. Carried by the law of a hint's step and by the order's laws of lists of steps.
+-- What a run of hints keeps (RULES 9.27 to 9.30): the theorems. Carried by the law of a hint's step and by the order's laws of lists of steps.
 use mathlib.Core.Path.{_≡_, refl, sym, ap, _∙_, subst}
 use mathlib.Core.Bool.{true, false}
 use mathlib.Core.List.{List, [], _∷_, _++_}
@@ -29,7 +29,7 @@ use Rattle.arm64_hint_run.specs.declared.run.RunAnswer.{RunAnswer}
 use Rattle.arm64_hint_run.specs.declared.run.RunAnswer.the-variants as A
 use Rattle.arm64_hint_run.proofs.Parts.{places-inside, in-part}
 use Rattle.arm64_hint_run.proofs.Answers.{done-fine, run-is}
-use Rattle.arm64_hint_kept.specs.Demand3.{codes, partBytes, wordBytes, Kept, PartsApart, Alone, Fair, Same, Demand3, Premises, Literally}
+use Rattle.arm64_hint_kept.specs.HintsKept.{codes, partBytes, wordBytes, Kept, PartsApart, Alone, Fair, Same, HintsKept, Premises, Literally}
 use Rattle.arm64_hint_kept.proofs.Step.{codes-same, addresses, step-same}
 
 -- the run's own list has each hint once, and keeps each object's own order
@@ -98,22 +98,22 @@ module _ (image hints entries : List ℕ) (t : Tally) (e : runOf image hints ent
             ap (wordsAt (placesOf (hintOf hints k))) (Runs.image-of (stepsOf hints entries) (hintCount hints) l (start image))
             ∙ Runs.ends (stepsOf hints entries) (hintCount hints) k h alone l once image
 
--- DEMAND 3, of every list of a run's hint steps with each hint once
-pub demand-3 : (image hints entries : List ℕ) (t : Tally) → runOf image hints entries ≡ A.Done t
-    → (l : List ℕ) → Once (hintCount hints) l → Demand3 image hints entries l t
-demand-3 image hints entries t e l once =
+-- RULES 9.27 to 9.29, of every list of a run's hint steps with each hint once
+pub hints-kept : (image hints entries : List ℕ) (t : Tally) → runOf image hints entries ≡ A.Done t
+    → (l : List ℕ) → Once (hintCount hints) l → HintsKept image hints entries l t
+hints-kept image hints entries t e l once =
     record {
       order = ordered image hints entries t e l once;
       turn = turned image hints entries t e l once;
       ends = ended image hints entries t e l once;
     }
 
--- the premises of the demand give those that are needed
+-- all premises (RULES 9.12 to 9.20) give those that are needed
 pub literal : (h : HintRecord) (image : List ℕ) (o : Other) (s : State) → Premises h image o s → Fair h image
 literal h image o s p = record { disjoint = p .disjoint; words = FairLaws.fair (p .words) }
 
--- the demand word by word
-pub literally : (image hints entries : List ℕ) (l : List ℕ) (t : Tally) → Demand3 image hints entries l t → Literally image hints entries l t
+-- the claim with every premise (RULES 1.9 to 1.13)
+pub literally : (image hints entries : List ℕ) (l : List ℕ) (t : Tally) → HintsKept image hints entries l t → Literally image hints entries l t
 literally image hints entries l t d =
     record {
       order = d .order;
@@ -121,8 +121,8 @@ literally image hints entries l t d =
       ends = λ apart k h s o z data′ p. d .ends k h s (apart k h) (literal _ _ o z p) .agree o z;
     }
 
--- DEMAND 3 of the compiled run: `answer` is what arm64_hint_run' `run` returns and `left` the image that it leaves, each with the promise that it makes.
--- Where it is done, its own list ends with what it left, is one of those spoken of, and of each of them the demand holds word by word
+-- The claim of the compiled run (RULES 9.30): `answer` is what arm64_hint_run's `run` returns and `left` the image that it leaves, each with its promise.
+-- Where it is done, its own list ends with what it left, is one of those spoken of, and of each of them the claim holds with every premise
 pub of-the-run : (image hints entries left : List ℕ) (answer : RunAnswer) → answer ≡ runOf image hints entries → left ≡ imageOf image hints entries
     → (t : Tally) → answer ≡ A.Done t
     → (worked image hints entries (orderOf hints) ≡ record { image = left; tally = t })
@@ -135,5 +135,5 @@ of-the-run image hints entries left answer says leaves t done =
       run-is image hints entries t e ∙ ap (λ (image : List ℕ). record { image = image; tally = t }) (sym leaves),
       own .0,
       own .1,
-      λ l once. literally image hints entries l t (demand-3 image hints entries t e l once),
+      λ l once. literally image hints entries l t (hints-kept image hints entries t e l once),
     )
