@@ -1,14 +1,20 @@
 /*
  * Hauklivo: the calls that a Mach-O linker makes for arm64.
  *
- * Each call returns 0, or the number of a refusal (enum hauklivo_number). A refused call changes
- * nothing that it was lent: no byte, no slot, no count, no tally.
+ * For every input whose pieces don't overlap, a call touches nothing but what it is lent, and returns
+ * 0 or the number of a refusal (enum hauklivo_number). A refused call changes nothing that it was
+ * lent: no byte, no slot, no count, no tally.
+ *
+ * Pieces that don't overlap: what a call may write (a section, an image, slots, bytes, a count, a
+ * tally) may not share a byte with anything else that is lent to the same call. Nothing is promised of
+ * pieces that do: a fix-up whose section contains its own entries checks them, changes them, and then
+ * works them as they are now, which faults or writes elsewhere.
  *
  * Lists are lent as bytes: a pointer and a length in bytes. Each list holds records of one fixed
- * size with no header, in the layouts of the structs below, little-endian. No pointer may be null,
- * not even one of an empty list. What a call may write (a section, slots, a count, a tally) may not
- * overlap anything else that is lent to it. Lists of records need no alignment; `sections` needs
- * that of uint64_t, a tally that of uint32_t, a count that of size_t.
+ * size with no header, in the layouts of the structs below, little-endian. `sections` alone is lent as
+ * numbers, and `sections_count` counts them. No pointer may be null, not even one of an empty list.
+ * Lists of records need no alignment; `sections` needs that of uint64_t, a tally that of uint32_t, a
+ * count that of size_t.
  */
 #ifndef HAUKLIVO_H
 #define HAUKLIVO_H
@@ -33,7 +39,8 @@ enum hauklivo_number {
     /* The slots have fewer than 24 bytes for each input record; of a listing, more than 16,384
      * bytes of words, or fewer than 27 bytes of room for each word. */
     HAUKLIVO_SLOTS = 2,
-    /* A place is past the bytes that it reads or writes, or a hint's part is past the image. */
+    /* A place is past the bytes that it reads or writes, a hint's word is past its part, or a hint's
+     * part is past the image. */
     HAUKLIVO_BOUNDS = 3,
     /* An ADDEND record is the last record. */
     HAUKLIVO_LONE_ADDEND = 4,
@@ -253,15 +260,17 @@ HAUKLIVO_ASSERT(sizeof(struct hauklivo_tally) == 16, "a tally has 16 bytes");
  *
  *   contents  the section's bytes
  *   records   struct hauklivo_record
- *   sections  the address of each section of the object; `sections_len` counts addresses
+ *   sections  the address of each section of the object; `sections_count` counts addresses, where
+ *             every other length counts bytes
  *   slots     at least 24 bytes for each record; gets struct hauklivo_entry
- *   count     gets how many entries were filled; slots after them keep their bytes
+ *   count     gets how many entries were filled; slots after them keep their bytes. It is not read,
+ *             and written only where 0 comes back: so every `count` and `reaches` below
  *
  * Numbers, in this order: 1, 2, then record by record 3 (its offset), 4, 5, 3 (the word that it must
  * fit), 6, 3 (a stored addend), 7.
  */
 uint8_t hauklivo_read_relocs(const uint8_t *contents, size_t contents_len, const void *records,
-                             size_t records_len, const uint64_t *sections, size_t sections_len,
+                             size_t records_len, const uint64_t *sections, size_t sections_count,
                              void *slots, size_t slots_len, size_t *count);
 
 /*
@@ -305,7 +314,9 @@ uint8_t hauklivo_write_thunk(uint8_t *bytes, size_t bytes_len, uint64_t address,
  *   image    the bytes of every section that a hint's part is in
  *   hints    struct hauklivo_hint
  *   entries  struct hauklivo_entry
- *   tally    gets the four counts; what it held before does not matter
+ *   tally    gets the four counts where 0 comes back. Its 16 bytes are read, and where the call
+ *            refuses the same are written back; nothing else depends on them. So it may be
+ *            uninitialised when lent, and is then still so after a refusal
  *
  * Numbers, in this order: 1, then hint by hint, but for those that are skipped, 3 (its part, then its
  * words), 12.

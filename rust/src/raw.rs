@@ -1,27 +1,31 @@
 //! The functions of libhauklivo.a as they stand: a slice is lent as a pointer and a length. Each
 //! returns 0 or a [`Refusal`](crate::Refusal)'s number.
 //!
-//! A pointer must be one that a slice of the length may have, and what is written may not overlap
-//! anything else that is lent.
+//! A pointer must be one that a slice of the length may have. What a call may write may not share a
+//! byte with anything else that is lent to it, or nothing is promised: a section that contains its own
+//! entries is written outside its bounds, or the call faults.
+//!
+//! A `count` and `reaches` are not read, and written only where 0 comes back: each may be
+//! uninitialised.
 
 use crate::Tally;
 
 unsafe extern "C" {
-    /// See [`read_relocs`](crate::read_relocs); `count` is written only where 0 comes back.
+    /// See [`read_relocs`](crate::read_relocs). `sections_count` counts addresses, where every other
+    /// length counts bytes.
     pub fn hauklivo_read_relocs(
         contents: *const u8,
         contents_len: usize,
         records: *const u8,
         records_len: usize,
         sections: *const u64,
-        sections_len: usize,
+        sections_count: usize,
         slots: *mut u8,
         slots_len: usize,
         count: *mut usize,
     ) -> u8;
 
-    /// See [`apply_reloc_alloc`](crate::apply_reloc_alloc); `count` is written only where 0 comes
-    /// back.
+    /// See [`apply_reloc_alloc`](crate::apply_reloc_alloc).
     pub fn hauklivo_apply_reloc_alloc(
         section: *mut u8,
         section_len: usize,
@@ -36,13 +40,15 @@ unsafe extern "C" {
         count: *mut usize,
     ) -> u8;
 
-    /// See [`write_stub`](crate::write_stub); `reaches` gets 1 or 0, only where 0 comes back.
+    /// See [`write_stub`](crate::write_stub); `reaches` gets 1 or 0.
     pub fn hauklivo_write_stub(bytes: *mut u8, bytes_len: usize, address: u64, pointer: u64, reaches: *mut u8) -> u8;
 
     /// See [`write_thunk`](crate::write_thunk).
     pub fn hauklivo_write_thunk(bytes: *mut u8, bytes_len: usize, address: u64, target: u64) -> u8;
 
-    /// See [`apply_hints`](crate::apply_hints); `tally` is written only where 0 comes back.
+    /// See [`apply_hints`](crate::apply_hints). The 16 bytes of `tally` are read, and where the call
+    /// refuses the same are written back; nothing else depends on them. So it may be uninitialised
+    /// when lent, and is then still so after a refusal.
     pub fn hauklivo_apply_hints(
         image: *mut u8,
         image_len: usize,
@@ -53,6 +59,6 @@ unsafe extern "C" {
         tally: *mut Tally,
     ) -> u8;
 
-    /// See [`list`](crate::list()); `count` is written only where 0 comes back.
+    /// See [`list`](crate::list()).
     pub fn hauklivo_list(words: *const u8, words_len: usize, out: *mut u8, out_len: usize, count: *mut usize) -> u8;
 }

@@ -22,7 +22,8 @@ pub enum Refusal {
     /// The slots have fewer than 24 bytes for each input record; of a listing, more than 16,384
     /// bytes of words, or fewer than 27 bytes of room for each word.
     Slots = 2,
-    /// A place is past the bytes that it reads or writes, or a hint's part is past the image.
+    /// A place is past the bytes that it reads or writes, a hint's word is past its part, or a hint's
+    /// part is past the image.
     Bounds = 3,
     /// An ADDEND record is the last record.
     LoneAddend = 4,
@@ -71,7 +72,7 @@ impl Refusal {
         match self {
             Self::Lengths => "a list is not whole records, too long, or disagrees with another",
             Self::Slots => "there is too little room for the answer, or too much to list",
-            Self::Bounds => "a place is past its bytes, or a part is past the image",
+            Self::Bounds => "a place is past its bytes, a word past its part, or a part past the image",
             Self::LoneAddend => "an ADDEND record is the last record",
             Self::Unsupported => "a relocation's type or form is not supported",
             Self::Unfit => "a word is unfit for its relocation",

@@ -1,5 +1,7 @@
 //! Every call, with each refusal that it can give and the lent bytes unchanged after it.
 
+use std::mem::MaybeUninit;
+
 use hauklivo::{
     Hint, MachRel, Place, Record, Refusal, Reloc, Report, ReportKind, Resolved, Tally, Target, flag, kind, ty,
 };
@@ -268,6 +270,10 @@ fn hints_refuse() {
     assert_eq!(one(absent), Refusal::NoEntry);
     // Bounds go first, and a skipped hint is not looked at.
     assert_eq!(one(Hint { length: 7, ..absent }), Refusal::Bounds);
+    assert_eq!(
+        Refusal::Bounds.to_string(),
+        "3: a place is past its bytes, a word past its part, or a part past the image"
+    );
     let skipped = Hint { words: 3, start: 1, ..absent };
     let tally = Tally { rewritten: 1, skipped: 1, ..Tally::default() };
     let done = work_bytes(&image, Hint::bytes(&[good, skipped]), &pair);
@@ -330,6 +336,13 @@ fn refused_calls_leave_numbers() {
         assert_eq!(tally, old);
         assert_eq!(raw::hauklivo_apply_hints(b, 0, s, 0, s, 0, &mut tally), 0);
         assert_eq!(tally, Tally::default());
+        // What is lent for the answer may be uninitialised, a tally even after a refusal.
+        let (mut fresh, mut number) = (MaybeUninit::<Tally>::uninit(), MaybeUninit::uninit());
+        assert_eq!(raw::hauklivo_apply_hints(b, 0, [0; 7].as_ptr(), 7, s, 0, fresh.as_mut_ptr()), 1);
+        assert_eq!(raw::hauklivo_apply_hints(b, 0, s, 0, s, 0, fresh.as_mut_ptr()), 0);
+        assert_eq!(fresh.assume_init(), Tally::default());
+        assert_eq!(raw::hauklivo_list(s, 0, p, 24, number.as_mut_ptr()), 0);
+        assert_eq!(number.assume_init(), 0);
     }
     assert_eq!(slots, [FILL; 24]);
 }

@@ -75,10 +75,19 @@ static void reader(void)
                                sizeof slots, &count) == HAUKLIVO_DONE);
     CHECK(count == 1 && slots[0].target == HAUKLIVO_SECTION_TARGET && slots[0].addend == 0x10);
 
-    /* Empty lists succeed. */
-    count = UNTOUCHED;
-    CHECK(hauklivo_read_relocs(contents, 0, pair, 0, sections, 0, slots, 0, &count) == HAUKLIVO_DONE);
-    CHECK(count == 0);
+    /* The sections are counted by addresses: 2 are two sections, not two bytes. */
+    const uint64_t two[2] = {0x4000, 0x4004};
+    const struct hauklivo_record second[1] = {{0, 0x06000002}};
+    CHECK(hauklivo_read_relocs(contents, sizeof contents, second, sizeof second, two, 2, slots, sizeof slots,
+                               &count) == HAUKLIVO_DONE);
+    CHECK(count == 1 && slots[0].target == HAUKLIVO_SECTION_TARGET + 1 && slots[0].addend == 0xc);
+    CHECK(hauklivo_read_relocs(contents, sizeof contents, second, sizeof second, two, 1, slots, sizeof slots,
+                               &count) == HAUKLIVO_NO_SECTION);
+
+    /* Empty lists succeed, and a count may be uninitialised. */
+    size_t fresh;
+    CHECK(hauklivo_read_relocs(contents, 0, pair, 0, sections, 0, slots, 0, &fresh) == HAUKLIVO_DONE);
+    CHECK(fresh == 0);
 
     put_word(contents, 12, 0xd503201f);
     refused_reading(HAUKLIVO_LENGTHS, contents, 16, pair, 7, sizeof slots);
@@ -245,9 +254,11 @@ static void hints(void)
     CHECK(word_at(image, 0) == 0x90000001 && word_at(image, 4) == 0xbd29d025);
     CHECK(tally.rewritten == 0 && tally.skipped == 0 && tally.declined == 0 && tally.turned_down == 1);
 
-    /* Empty lists succeed. */
-    CHECK(hauklivo_apply_hints(image, 0, list, 0, entries, 0, &tally) == HAUKLIVO_DONE);
-    CHECK(tally.rewritten == 0 && tally.skipped == 0 && tally.declined == 0 && tally.turned_down == 0);
+    /* Empty lists succeed, and a tally may be uninitialised, also one that a refused call was lent. */
+    struct hauklivo_tally fresh;
+    CHECK(hauklivo_apply_hints(image, 0, list, 7, entries, 0, &fresh) == HAUKLIVO_LENGTHS);
+    CHECK(hauklivo_apply_hints(image, 0, list, 0, entries, 0, &fresh) == HAUKLIVO_DONE);
+    CHECK(fresh.rewritten == 0 && fresh.skipped == 0 && fresh.declined == 0 && fresh.turned_down == 0);
 
     struct hauklivo_hint far = list[0], wide = list[0], third = list[0];
     far.start = 1;
