@@ -29,6 +29,16 @@ extern "C" {
 #define HAUKLIVO_ASSERT _Static_assert
 #endif
 
+/* The version of these calls. It rises by one where a call, a record or a number changes. */
+#define HAUKLIVO_VERSION 1
+
+/* The version of the library that is linked: HAUKLIVO_VERSION, unless it and this header are of
+ * different versions. */
+uint32_t hauklivo_version(void);
+
+/* The same. Only a library of this version has the name: a program that calls it links with no other. */
+uint32_t hauklivo_version_1(void);
+
 /* What a call returns. */
 enum hauklivo_number {
     /* The call did its work. */

@@ -1,8 +1,8 @@
 //! The calls of libhauklivo.a, as safe functions.
 
 use crate::raw::{
-    hauklivo_apply_hints, hauklivo_apply_reloc_alloc, hauklivo_list, hauklivo_read_relocs, hauklivo_write_stub,
-    hauklivo_write_thunk,
+    hauklivo_apply_hints, hauklivo_apply_reloc_alloc, hauklivo_list, hauklivo_read_relocs, hauklivo_version,
+    hauklivo_write_stub, hauklivo_write_thunk,
 };
 use crate::{Refusal, Tally};
 
@@ -12,6 +12,15 @@ fn settled<T>(number: u8, answer: T) -> Result<T, Refusal> {
         0 => Ok(answer),
         n => Err(Refusal::try_from(n).expect("a number of the library")),
     }
+}
+
+/// The version of the library that is linked.
+///
+/// ```
+/// assert_eq!(hauklivo::version(), hauklivo::VERSION);
+/// ```
+pub fn version() -> u32 {
+    hauklivo_version()
 }
 
 /// Reads the relocation records of a section into entries, and says how many it filled; slots

@@ -52,7 +52,9 @@ mod calls;
 pub mod raw;
 pub mod records;
 mod refusal;
+mod version;
 
-pub use calls::{LINE, apply_hints, apply_reloc_alloc, list, read_relocs, write_stub, write_thunk};
+pub use calls::{LINE, apply_hints, apply_reloc_alloc, list, read_relocs, version, write_stub, write_thunk};
 pub use records::{Hint, MachRel, Place, Record, Reloc, Report, ReportKind, Resolved, Tally, Target, flag, kind, ty};
 pub use refusal::Refusal;
+pub use version::VERSION;

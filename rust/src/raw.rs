@@ -11,6 +11,12 @@
 use crate::Tally;
 
 unsafe extern "C" {
+    /// See [`version`](crate::version).
+    pub safe fn hauklivo_version() -> u32;
+
+    /// The same, by a name that only a library of this version has.
+    pub safe fn hauklivo_version_1() -> u32;
+
     /// See [`read_relocs`](crate::read_relocs). `sections_count` counts addresses, where every other
     /// length counts bytes.
     pub fn hauklivo_read_relocs(

@@ -297,8 +297,15 @@ static void lister(void)
     CHECK(count == 0);
 }
 
+static void version(void)
+{
+    CHECK(hauklivo_version() == HAUKLIVO_VERSION);
+    CHECK(hauklivo_version_1() == HAUKLIVO_VERSION);
+}
+
 int main(void)
 {
+    version();
     reader();
     fixup();
     stub_and_thunk();

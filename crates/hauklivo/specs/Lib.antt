@@ -4,3 +4,4 @@ pub mod Reader
 pub mod Fixup
 pub mod Stub
 pub mod Lister
+pub mod Version

@@ -4,3 +4,4 @@ pub mod hints;
 pub mod lister;
 pub mod reader;
 pub mod stub;
+pub mod version;
