@@ -227,7 +227,7 @@ enum hauklivo_hint_kind {
 struct hauklivo_place {
     /* Offset of the word in the hint's part of the image. */
     uint32_t offset;
-    /* Number of the word's entry, counted from 0, or HAUKLIVO_WITHOUT_ENTRY. */
+    /* Number of the word's entry, counted from 0, or HAUKLIVO_WITHOUT_ENTRY: 0 names the first. */
     uint32_t entry;
     /* The word's own address. */
     uint64_t address;

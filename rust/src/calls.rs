@@ -8,9 +8,9 @@ use crate::{Refusal, Tally};
 
 /// `answer` where the number is 0, else the refusal.
 fn settled<T>(number: u8, answer: T) -> Result<T, Refusal> {
-    match number {
-        0 => Ok(answer),
-        n => Err(Refusal::try_from(n).expect("a number of the library")),
+    match Refusal::of(number) {
+        None => Ok(answer),
+        Some(refusal) => Err(refusal),
     }
 }
 
@@ -254,4 +254,18 @@ pub fn list(words: &[u8], out: &mut [u8]) -> Result<usize, Refusal> {
     // SAFETY: as in read_relocs.
     let number = unsafe { hauklivo_list(words.as_ptr(), words.len(), out.as_mut_ptr(), out.len(), &mut count) };
     settled(number, count)
+}
+
+#[cfg(test)]
+mod tests {
+    use super::settled;
+    use crate::Refusal;
+
+    /// A number that has no name is an error as any other.
+    #[test]
+    fn numbers_are_errors() {
+        assert_eq!(settled(0, 7), Ok(7));
+        assert_eq!(settled(12, 7), Err(Refusal::NoEntry));
+        assert_eq!(settled(200, 7), Err(Refusal::Unknown(200)));
+    }
 }

@@ -336,9 +336,17 @@ pub mod kind {
     pub const ADRP_LDR_GOT: u8 = 8;
 }
 
-/// Where one word of a hint stands.
+/// Where one word of a hint stands. The default has no entry.
+///
+/// ```
+/// use hauklivo::{Hint, Place};
+///
+/// let place = Place { offset: 8, address: 0x1008, ..Place::default() };
+/// assert_eq!(place.entry, Place::WITHOUT_ENTRY);
+/// assert_eq!(Hint::default().places, [Place::default(); 3]);
+/// ```
 #[repr(C)]
-#[derive(Clone, Copy, Debug, Default, PartialEq, Eq, Hash)]
+#[derive(Clone, Copy, Debug, PartialEq, Eq, Hash)]
 pub struct Place {
     /// Offset of the word in the hint's part of the image.
     pub offset: u32,
@@ -351,6 +359,12 @@ pub struct Place {
 impl Place {
     /// The entry number of a word that has none.
     pub const WITHOUT_ENTRY: u32 = u32::MAX;
+}
+
+impl Default for Place {
+    fn default() -> Self {
+        Self { offset: 0, entry: Self::WITHOUT_ENTRY, address: 0 }
+    }
 }
 
 /// A hint. One of another kind than those of [`kind`], or with another word count than its kind has,

@@ -3,7 +3,8 @@
 use std::error::Error;
 use std::fmt;
 
-/// Why a call turned its input down. It changed nothing that it was lent.
+/// Why a call turned its input down. It changed nothing that it was lent. Later versions may have
+/// further numbers, so that a `match` needs an arm for any other.
 ///
 /// ```
 /// use hauklivo::Refusal;
@@ -14,41 +15,44 @@ use std::fmt;
 /// assert_eq!(Refusal::Unfit.to_string(), "6: a word is unfit for its relocation");
 /// ```
 #[derive(Clone, Copy, Debug, PartialEq, Eq, Hash, PartialOrd, Ord)]
-#[repr(u8)]
+#[non_exhaustive]
 pub enum Refusal {
-    /// A list's length is not whole records, a list has more than 2^32 - 1 records, or targets are
+    /// 1: a list's length is not whole records, a list has more than 2^32 - 1 records, or targets are
     /// not one for each entry.
-    Lengths = 1,
-    /// The slots have fewer than 24 bytes for each input record; of a listing, more than 16,384
+    Lengths,
+    /// 2: the slots have fewer than 24 bytes for each input record; of a listing, more than 16,384
     /// bytes of words, or fewer than 27 bytes of room for each word.
-    Slots = 2,
-    /// A place is past the bytes that it reads or writes, a hint's word is past its part, or a hint's
+    Slots,
+    /// 3: a place is past the bytes that it reads or writes, a hint's word is past its part, or a hint's
     /// part is past the image.
-    Bounds = 3,
-    /// An ADDEND record is the last record.
-    LoneAddend = 4,
-    /// A type, or a record's form, is not supported.
-    Unsupported = 5,
-    /// A word is unfit for its record.
-    Unfit = 6,
-    /// A record names a section that is not there.
-    NoSection = 7,
-    /// A SUBTRACTOR entry is the last entry.
-    LoneSubtractor = 8,
-    /// Base plus offset passes 2^64 - 1.
-    Overflow = 9,
-    /// A section stands where a symbol is needed.
-    NeedsSymbol = 10,
-    /// A target has a flag of bit 9 or above, is both probe and is-enabled, or its last four bytes
+    Bounds,
+    /// 4: an ADDEND record is the last record.
+    LoneAddend,
+    /// 5: a type, or a record's form, is not supported.
+    Unsupported,
+    /// 6: a word is unfit for its record.
+    Unfit,
+    /// 7: a record names a section that is not there.
+    NoSection,
+    /// 8: a SUBTRACTOR entry is the last entry.
+    LoneSubtractor,
+    /// 9: base plus offset passes 2^64 - 1.
+    Overflow,
+    /// 10: a section stands where a symbol is needed.
+    NeedsSymbol,
+    /// 11: a target has a flag of bit 9 or above, is both probe and is-enabled, or its last four bytes
     /// are not zero.
-    Flags = 11,
-    /// A hint names an entry that is not there.
-    NoEntry = 12,
+    Flags,
+    /// 12: a hint names an entry that is not there.
+    NoEntry,
+    /// A number that this crate has no name for.
+    #[non_exhaustive]
+    Unknown(u8),
 }
 
 impl Refusal {
-    /// All of them, by rising number.
-    pub const ALL: [Self; 12] = [
+    /// All that have a name, by rising number, from 1.
+    pub const ALL: &[Self] = &[
         Self::Lengths,
         Self::Slots,
         Self::Bounds,
@@ -63,9 +67,31 @@ impl Refusal {
         Self::NoEntry,
     ];
 
-    /// Its number, 1 to 12.
+    /// Its number.
     pub fn number(self) -> u8 {
-        self as u8
+        match self {
+            Self::Lengths => 1,
+            Self::Slots => 2,
+            Self::Bounds => 3,
+            Self::LoneAddend => 4,
+            Self::Unsupported => 5,
+            Self::Unfit => 6,
+            Self::NoSection => 7,
+            Self::LoneSubtractor => 8,
+            Self::Overflow => 9,
+            Self::NeedsSymbol => 10,
+            Self::Flags => 11,
+            Self::NoEntry => 12,
+            Self::Unknown(number) => number,
+        }
+    }
+
+    /// What a call that returns `number` says; None for 0.
+    pub(crate) fn of(number: u8) -> Option<Self> {
+        match number {
+            0 => None,
+            _ => Some(Self::try_from(number).unwrap_or(Self::Unknown(number))),
+        }
     }
 
     fn meaning(self) -> &'static str {
@@ -82,6 +108,7 @@ impl Refusal {
             Self::NeedsSymbol => "a section stands where a symbol is needed",
             Self::Flags => "a target's flags or last bytes are not in order",
             Self::NoEntry => "a hint names an entry that is not there",
+            Self::Unknown(_) => "a number that the crate hauklivo has no name for",
         }
     }
 }
@@ -89,9 +116,9 @@ impl Refusal {
 impl TryFrom<u8> for Refusal {
     type Error = u8;
 
-    /// The refusal of a number; any other number comes back.
+    /// The refusal of a number; a number without one comes back.
     fn try_from(number: u8) -> Result<Self, u8> {
-        Self::ALL.into_iter().find(|r| r.number() == number).ok_or(number)
+        Self::ALL.iter().copied().find(|r| r.number() == number).ok_or(number)
     }
 }
 
@@ -102,3 +129,22 @@ impl fmt::Display for Refusal {
 }
 
 impl Error for Refusal {}
+
+#[cfg(test)]
+mod tests {
+    use super::Refusal;
+
+    #[test]
+    fn every_number() {
+        assert_eq!(Refusal::of(0), None);
+        for number in 1..=u8::MAX {
+            let refusal = Refusal::of(number).unwrap();
+            assert_eq!(refusal.number(), number);
+            assert_eq!(Refusal::ALL.contains(&refusal), number <= 12);
+            assert_eq!(Refusal::try_from(number), if number <= 12 { Ok(refusal) } else { Err(number) });
+        }
+        let later = Refusal::of(13).unwrap();
+        assert_eq!(later.to_string(), "13: a number that the crate hauklivo has no name for");
+        assert!(Refusal::ALL.is_sorted() && Refusal::NoEntry < later);
+    }
+}

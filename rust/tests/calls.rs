@@ -274,6 +274,9 @@ fn hints_refuse() {
         Refusal::Bounds.to_string(),
         "3: a place is past its bytes, a word past its part, or a part past the image"
     );
+    // A place that nothing is said of names no entry.
+    let unsaid = Hint { places: [Place::default(); 3], ..good };
+    assert_eq!(work_bytes(&image, &unsaid.to_bytes(), &[]).map(|(_, tally)| tally.declined), Ok(1));
     let skipped = Hint { words: 3, start: 1, ..absent };
     let tally = Tally { rewritten: 1, skipped: 1, ..Tally::default() };
     let done = work_bytes(&image, Hint::bytes(&[good, skipped]), &pair);
@@ -372,9 +375,5 @@ fn records_convert() {
     assert_eq!((h.places[0].address, h.places[2].address), (0x1f1e1d1c1b1a1918, 0x3f3e3d3c3b3a3938));
     for target in [Target::Symbol(7), Target::Section(7)] {
         assert_eq!(Reloc { target: target.pack(), ..Reloc::default() }.target(), target);
-    }
-    for (i, refusal) in Refusal::ALL.into_iter().enumerate() {
-        assert_eq!(refusal.number() as usize, i + 1);
-        assert_eq!(Refusal::try_from(refusal.number()), Ok(refusal));
     }
 }
