@@ -4,13 +4,14 @@
 //! library `libhauklivo.a`, which is proved to do what the project's definitions say, to touch
 //! nothing outside what it is lent, and to return.
 //!
-//! Lists are lent as bytes, in records of one fixed size ([`records`]). [`Record::bytes`] and
-//! [`Record::bytes_mut`] see a slice of records as such bytes without copying.
+//! Lists are lent in records of one fixed size ([`records`]): as slices of them to the functions of
+//! [`typed`], or as bytes to those here. [`Record::bytes`] and [`Record::bytes_mut`] see a slice of
+//! records, also of a linker's own type, as such bytes without copying.
 //!
 //! A [`Refusal`] is an error with a number. A refused call has changed nothing that it was lent.
 //!
 //! ```
-//! use hauklivo::{MachRel, Record, Reloc, Report, Resolved, Target, flag, ty};
+//! use hauklivo::{MachRel, Reloc, Report, Resolved, Target, flag, ty, typed};
 //!
 //! // A call of symbol 5, at offset 4 of a section of two words.
 //! let mut section = [0xd503201f_u32, 0x94000000].map(u32::to_le_bytes).concat();
@@ -18,22 +19,13 @@
 //!
 //! // Records into entries.
 //! let mut entries = [Reloc::default(); 1];
-//! let n = hauklivo::read_relocs(&section, MachRel::bytes(&records), &[], Reloc::bytes_mut(&mut entries))?;
-//! assert_eq!(n, 1);
+//! assert_eq!(typed::read_relocs(&section, &records, &[], &mut entries)?, 1);
 //! assert_eq!(entries[0].target(), Target::Symbol(5));
 //!
 //! // The linker says where symbol 5 is; the section itself goes to 0x1000.
 //! let targets = [Resolved { address: 0x2000, branch: 0x2000, flags: flag::HAS_ADDRESS, ..Resolved::default() }];
 //! let mut reports = [Report::default(); 1];
-//! let n = hauklivo::apply_reloc_alloc(
-//!     &mut section,
-//!     0x1000,
-//!     0,
-//!     Reloc::bytes(&entries),
-//!     Resolved::bytes(&targets),
-//!     Report::bytes_mut(&mut reports),
-//! )?;
-//! assert_eq!(n, 0);
+//! assert_eq!(typed::apply_reloc_alloc(&mut section, 0x1000, 0, &entries, &targets, &mut reports)?, 0);
 //! assert_eq!(section[4..], 0x940003ff_u32.to_le_bytes()); // bl 0x2000
 //! # Ok::<(), hauklivo::Refusal>(())
 //! ```
@@ -52,6 +44,7 @@ mod calls;
 pub mod raw;
 pub mod records;
 mod refusal;
+pub mod typed;
 mod version;
 
 pub use calls::{LINE, apply_hints, apply_reloc_alloc, list, read_relocs, version, write_stub, write_thunk};

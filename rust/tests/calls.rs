@@ -3,7 +3,7 @@
 use std::mem::MaybeUninit;
 
 use hauklivo::{
-    Hint, MachRel, Place, Record, Refusal, Reloc, Report, ReportKind, Resolved, Tally, Target, flag, kind, ty,
+    Hint, MachRel, Place, Record, Refusal, Reloc, Report, ReportKind, Resolved, Tally, Target, flag, kind, ty, typed,
 };
 
 const FILL: u8 = 0xa5;
@@ -281,6 +281,47 @@ fn hints_refuse() {
     let tally = Tally { rewritten: 1, skipped: 1, ..Tally::default() };
     let done = work_bytes(&image, Hint::bytes(&[good, skipped]), &pair);
     assert_eq!(done, Ok((bytes(&[0x70000000, NOP]), tally)));
+}
+
+/// The functions over records answer as those over bytes, and leave what those leave.
+#[test]
+fn typed_calls() {
+    let contents = bytes(&[0x94000000, NOP, 0x4010, 0]);
+    let records = [record(0, 0x2d000005), record(8, 0x06000001)];
+    let (fill, filler) = (Reloc::from([FILL; 24]), Report::from([FILL; 24]));
+    let mut entries = [fill; 3];
+    assert_eq!(typed::read_relocs(&contents, &records, &[0x4000], &mut entries[..1]), Err(Refusal::Slots));
+    assert_eq!(typed::read_relocs(&contents, &records, &[], &mut entries), Err(Refusal::NoSection));
+    assert_eq!(entries, [fill; 3]);
+    assert_eq!(typed::read_relocs(&contents, &records, &[0x4000], &mut entries), Ok(2));
+    let mut as_bytes = [FILL; 72];
+    assert_eq!(hauklivo::read_relocs(&contents, MachRel::bytes(&records), &[0x4000], &mut as_bytes), Ok(2));
+    assert_eq!(Reloc::bytes(&entries), as_bytes);
+
+    let targets = [Resolved { branch: 0x1_0000_2000, ..at(0) }, at(0x2000)];
+    let (mut section, mut reports) = (contents.clone(), [filler; 3]);
+    let mut fix = |targets: &[Resolved], room: usize| {
+        let slots = &mut reports[..room];
+        let done = typed::apply_reloc_alloc(&mut section, 0x1000, 0, &entries[..2], targets, slots);
+        (done, section.clone(), reports)
+    };
+    assert_eq!(fix(&targets[..1], 3), (Err(Refusal::Lengths), contents.clone(), [filler; 3]));
+    assert_eq!(fix(&targets, 1), (Err(Refusal::Slots), contents.clone(), [filler; 3]));
+    let (done, after, reports) = fix(&targets, 3);
+    assert_eq!(done, Ok(1));
+    assert_eq!((reports[0].entry, reports[0].kind()), (0, Some(ReportKind::BranchReach)));
+    assert_eq!(reports[1..], [filler; 2]);
+    assert_eq!(after[8..], bytes(&[0x2010, 0]));
+    let (entries, targets) = (Reloc::bytes(&entries[..2]), Resolved::bytes(&targets));
+    assert_eq!(fix_bytes(&contents, 0x1000, entries, targets, 48), Ok((after, reports[..1].to_vec())));
+
+    let hints = [hint(kind::ADRP_ADD, 2, 0, 0, 0x1000)];
+    let mut image = bytes(&[0x90000000, 0x91000c00]);
+    assert_eq!(typed::apply_hints(&mut image, &hints, &halves()[..1]), Err(Refusal::NoEntry));
+    assert_eq!(image, bytes(&[0x90000000, 0x91000c00]));
+    let tally = Tally { rewritten: 1, ..Tally::default() };
+    assert_eq!(typed::apply_hints(&mut image, &hints, &halves()), Ok(tally));
+    assert_eq!(image, bytes(&[0x70000000, NOP]));
 }
 
 /// The text of words in `room` bytes. What is not to be written must keep its bytes.

@@ -25,11 +25,11 @@ pub fn differences(object: &Object, file: &Path) -> Vec<String> {
     for section in object.sections.iter().filter(|s| !s.records.is_empty()) {
         let rows = lists.next().unwrap_or_default();
         let expected = expected(&rows, section.contents, &addresses);
-        let port = (PORT.read_relocs)(section.contents, &section.records, &addresses);
+        let port = PORT.entries(section.contents, &section.records, &addresses);
         if port.as_ref() != Ok(&expected) {
             found.push(format!("the entries of {} are not those of llvm-readobj", section.name));
         }
-        if port != (RUST.read_relocs)(section.contents, &section.records, &addresses) {
+        if port != RUST.entries(section.contents, &section.records, &addresses) {
             found.push(format!("the entries of {} are not the Rust's", section.name));
         }
         let names = rows.iter().filter(|r| r.is_symbol).all(|r| object.symbols[r.index as usize].name == r.name);

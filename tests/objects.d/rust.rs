@@ -25,9 +25,16 @@ fn refusal(stop: &Stop, number: Option<u8>) -> Refusal {
     refusal.unwrap_or_else(|| panic!("a stop without a number: {stop:?}"))
 }
 
-fn read_relocs(contents: &[u8], records: &[MachRel], sections: &[u64]) -> Result<Vec<Reloc>, Refusal> {
+/// Puts records into the first slots; how many.
+fn fill<R: Record>(slots: &mut [R], bytes: &[u8]) -> usize {
+    let list = R::list(bytes).expect("whole records");
+    slots[..list.len()].copy_from_slice(&list);
+    list.len()
+}
+
+fn read_relocs(contents: &[u8], records: &[MachRel], sections: &[u64], slots: &mut [Reloc]) -> Result<usize, Refusal> {
     match oracle::read_relocs(contents, MachRel::bytes(records), sections) {
-        Ok(entries) => Ok(Reloc::list(&entries).expect("whole entries")),
+        Ok(entries) => Ok(fill(slots, &entries)),
         Err(stop) => Err(refusal(&stop, stop.reader_number())),
     }
 }
@@ -38,10 +45,11 @@ fn apply_reloc_alloc(
     tls_begin: u64,
     entries: &[Reloc],
     targets: &[Resolved],
-) -> Result<Vec<Report>, Refusal> {
+    slots: &mut [Report],
+) -> Result<usize, Refusal> {
     let (entries, targets) = (Reloc::bytes(entries), Resolved::bytes(targets));
     match oracle::apply_reloc_alloc(section, base, tls_begin, entries, targets) {
-        Ok(fixed) => Ok(Report::list(&fixed.reports).expect("whole reports")),
+        Ok(fixed) => Ok(fill(slots, &fixed.reports)),
         Err(stop) => Err(refusal(&stop, stop.fixup_number())),
     }
 }

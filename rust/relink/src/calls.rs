@@ -1,18 +1,20 @@
 //! The calls that the work is done by.
 
-use hauklivo::{Hint, MachRel, Record, Refusal, Reloc, Report, Resolved, Tally};
+use hauklivo::{Hint, MachRel, Refusal, Reloc, Report, Resolved, Tally, typed};
 
-/// Records of a section's contents, with the addresses of all sections, into entries.
-pub type ReadRelocs = fn(contents: &[u8], records: &[MachRel], sections: &[u64]) -> Result<Vec<Reloc>, Refusal>;
+/// Records of a section's contents, with the addresses of all sections, into entries; how many.
+pub type ReadRelocs =
+    fn(contents: &[u8], records: &[MachRel], sections: &[u64], slots: &mut [Reloc]) -> Result<usize, Refusal>;
 
-/// Fixes up a section of a base address, with the start of thread-local storage.
+/// Fixes up a section of a base address, with the start of thread-local storage; how many reports.
 pub type ApplyRelocAlloc = fn(
     section: &mut [u8],
     base: u64,
     tls_begin: u64,
     entries: &[Reloc],
     targets: &[Resolved],
-) -> Result<Vec<Report>, Refusal>;
+    slots: &mut [Report],
+) -> Result<usize, Refusal>;
 
 /// Runs hints on an image.
 pub type ApplyHints = fn(image: &mut [u8], hints: &[Hint], entries: &[Reloc]) -> Result<Tally, Refusal>;
@@ -34,32 +36,23 @@ pub struct Calls {
 
 /// The calls of the proved library.
 pub const PORT: Calls = Calls {
-    read_relocs,
-    apply_reloc_alloc,
+    read_relocs: typed::read_relocs,
+    apply_reloc_alloc: typed::apply_reloc_alloc,
     write_stub: hauklivo::write_stub,
     write_thunk: hauklivo::write_thunk,
-    apply_hints: |image, hints, entries| hauklivo::apply_hints(image, Hint::bytes(hints), Reloc::bytes(entries)),
+    apply_hints: typed::apply_hints,
 };
 
-fn read_relocs(contents: &[u8], records: &[MachRel], sections: &[u64]) -> Result<Vec<Reloc>, Refusal> {
-    let mut slots = vec![Reloc::default(); records.len()];
-    let records = MachRel::bytes(records);
-    let count = hauklivo::read_relocs(contents, records, sections, Reloc::bytes_mut(&mut slots))?;
-    slots.truncate(count);
-    Ok(slots)
-}
-
-fn apply_reloc_alloc(
-    section: &mut [u8],
-    base: u64,
-    tls_begin: u64,
-    entries: &[Reloc],
-    targets: &[Resolved],
-) -> Result<Vec<Report>, Refusal> {
-    let mut slots = vec![Report::default(); entries.len()];
-    let (entries, targets) = (Reloc::bytes(entries), Resolved::bytes(targets));
-    let into = Report::bytes_mut(&mut slots);
-    let count = hauklivo::apply_reloc_alloc(section, base, tls_begin, entries, targets, into)?;
-    slots.truncate(count);
-    Ok(slots)
+impl Calls {
+    /// The entries of a section.
+    ///
+    /// # Errors
+    ///
+    /// The reader's.
+    pub fn entries(&self, contents: &[u8], records: &[MachRel], sections: &[u64]) -> Result<Vec<Reloc>, Refusal> {
+        let mut entries = vec![Reloc::default(); records.len()];
+        let count = (self.read_relocs)(contents, records, sections, &mut entries)?;
+        entries.truncate(count);
+        Ok(entries)
+    }
 }

@@ -81,7 +81,8 @@ fn entries(object: &Object, options: &Options, calls: &Calls) -> Result<Vec<Vec<
     let addresses: Vec<u64> = object.sections.iter().map(|s| s.address).collect();
     let read = |s: &crate::Section| match s.is_debug() && !options.debug {
         true => Ok(Vec::new()),
-        false => (calls.read_relocs)(s.contents, &s.records, &addresses)
+        false => calls
+            .entries(s.contents, &s.records, &addresses)
             .map_err(|r| Fault::refused(&format!("the relocation records of section {}", s.name), r)),
     };
     object.sections.iter().map(read).collect()
@@ -152,7 +153,10 @@ fn fix_up(laid: Laid, calls: &Calls, linked: &mut LinkedSection, bytes: &mut [u8
         linked.targets.push(target.map_err(|f| Fault::new(format!("section {name}: {f}")))?);
     }
     let (base, tls_begin) = (linked.address, laid.layout.tls_begin);
-    linked.reports = (calls.apply_reloc_alloc)(bytes, base, tls_begin, &linked.entries, &linked.targets)
+    let mut reports = vec![Report::default(); linked.entries.len()];
+    let count = (calls.apply_reloc_alloc)(bytes, base, tls_begin, &linked.entries, &linked.targets, &mut reports)
         .map_err(|r| Fault::refused(&format!("the fix-up of section {name}"), r))?;
+    reports.truncate(count);
+    linked.reports = reports;
     Ok(())
 }
