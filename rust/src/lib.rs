@@ -9,6 +9,7 @@
 //! records, also of a linker's own type, as such bytes without copying.
 //!
 //! A [`Refusal`] is an error with a number. A refused call has changed nothing that it was lent.
+//! [`position`] finds the record that it was refused for.
 //!
 //! ```
 //! use hauklivo::{MachRel, Reloc, Report, Resolved, Target, flag, ty, typed};
@@ -41,6 +42,7 @@ compile_error!("libhauklivo.a is an ELF archive for x86-64: it links on Linux");
 struct Readme;
 
 mod calls;
+pub mod position;
 pub mod raw;
 pub mod records;
 mod refusal;

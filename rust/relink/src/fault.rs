@@ -15,9 +15,10 @@ impl Fault {
         Self(words.into())
     }
 
-    /// A call's refusal: its number, what that means, and what was being worked on.
-    pub fn refused(what: &str, refusal: Refusal) -> Self {
-        Self(format!("{what}: number {refusal}"))
+    /// A call's refusal: its number, what that means, what was being worked on, and where it is.
+    pub fn refused(what: &str, refusal: Refusal, at: Option<String>) -> Self {
+        let at = at.map_or(String::new(), |at| format!(": {at}"));
+        Self(format!("{what}: number {refusal}{at}"))
     }
 }
 

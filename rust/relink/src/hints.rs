@@ -8,6 +8,7 @@ use crate::Fault;
 use crate::calls::Calls;
 use crate::link::LinkedSection;
 use crate::object::{Object, ObjectHint};
+use crate::refused;
 use crate::words::{NOP, is_access, is_adr, word_at};
 
 const ADRP_ADRP: u64 = kind::ADRP_ADRP as u64;
@@ -105,16 +106,17 @@ pub fn run(object: &Object, sections: &[LinkedSection], calls: &Calls, image: &m
     let finder = Finder::new(object, sections);
     let entries = sections.iter().flat_map(|s| &s.entries).copied().collect();
     let mut run = HintRun { entries, ..HintRun::default() };
-    let mut lent = Vec::new();
+    let (mut lent, mut numbers) = (Vec::new(), Vec::new());
     for (number, hint) in object.hints.iter().enumerate() {
         let record = finder.record(hint);
         run.lent.extend(record);
+        numbers.extend(record.map(|_| number));
         lent.push((number, hint.kind, record));
     }
     let apply = calls.apply_hints;
-    let refused = |r| Fault::refused("the hints", r);
     let mut whole = image.to_vec();
-    run.tally = apply(&mut whole, &run.lent, &run.entries).map_err(refused)?;
+    run.tally = apply(&mut whole, &run.lent, &run.entries)
+        .map_err(|r| refused::working(image, &run.lent, &numbers, &run.entries, r))?;
     // The same hints one by one, in the order of work, to see what each does.
     lent.sort_by_key(|&(_, kind, _)| kind == ADRP_ADRP);
     for (number, kind, record) in lent {
@@ -122,7 +124,8 @@ pub fn run(object: &Object, sections: &[LinkedSection], calls: &Calls, image: &m
             None => (Outcome::Dropped, Vec::new()),
             Some(hint) => {
                 let before = image_words(image, &hint);
-                let tally = apply(image, &[hint], &run.entries).map_err(refused)?;
+                let tally = apply(image, &[hint], &run.entries)
+                    .map_err(|r| refused::working(image, &[hint], &[number], &run.entries, r))?;
                 let after = image_words(image, &hint);
                 let join = |((address, before), (_, after))| HintWord { address, before, after };
                 let words: Vec<_> = before.into_iter().zip(after).map(join).collect();

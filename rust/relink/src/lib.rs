@@ -14,6 +14,7 @@ mod link;
 mod listing;
 mod needs;
 mod object;
+mod refused;
 mod targets;
 pub mod words;
 

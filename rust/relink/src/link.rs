@@ -7,7 +7,8 @@ use crate::calls::Calls;
 use crate::hints::{self, HintRun};
 use crate::layout::{Holds, Layout, Options};
 use crate::needs::Needs;
-use crate::object::Object;
+use crate::object::{Object, Section};
+use crate::refused;
 use crate::targets::Laid;
 
 /// A linked object.
@@ -79,11 +80,9 @@ pub fn link(object: &Object, options: &Options, calls: &Calls) -> Result<Linked,
 /// The entries of each section that goes into the image.
 fn entries(object: &Object, options: &Options, calls: &Calls) -> Result<Vec<Vec<Reloc>>, Fault> {
     let addresses: Vec<u64> = object.sections.iter().map(|s| s.address).collect();
-    let read = |s: &crate::Section| match s.is_debug() && !options.debug {
+    let read = |s: &Section| match s.is_debug() && !options.debug {
         true => Ok(Vec::new()),
-        false => calls
-            .entries(s.contents, &s.records, &addresses)
-            .map_err(|r| Fault::refused(&format!("the relocation records of section {}", s.name), r)),
+        false => calls.entries(s.contents, &s.records, &addresses).map_err(|r| refused::reading(s, &addresses, r)),
     };
     object.sections.iter().map(read).collect()
 }
@@ -121,7 +120,7 @@ fn unfixed_image(laid: Laid, calls: &Calls) -> Result<(Vec<u8>, Vec<u32>), Fault
                 for (symbol, &address) in &layout.stubs {
                     let into = &mut bytes[item(address)];
                     let reaches = (calls.write_stub)(into, address, layout.got[symbol])
-                        .map_err(|r| Fault::refused("a stub", r))?;
+                        .map_err(|r| Fault::refused("a stub", r, None))?;
                     far_stubs.extend((!reaches).then_some(*symbol));
                 }
             }
@@ -129,7 +128,7 @@ fn unfixed_image(laid: Laid, calls: &Calls) -> Result<(Vec<u8>, Vec<u32>), Fault
                 for (&symbol, &address) in &layout.thunks[table] {
                     let into = &mut bytes[item(address)];
                     (calls.write_thunk)(into, address, laid.branch_target(symbol))
-                        .map_err(|r| Fault::refused("a thunk entry", r))?;
+                        .map_err(|r| Fault::refused("a thunk entry", r, None))?;
                 }
             }
             Holds::Got => {
@@ -146,16 +145,16 @@ fn unfixed_image(laid: Laid, calls: &Calls) -> Result<(Vec<u8>, Vec<u32>), Fault
 
 /// Resolves the targets of a section's entries and fixes up its bytes.
 fn fix_up(laid: Laid, calls: &Calls, linked: &mut LinkedSection, bytes: &mut [u8]) -> Result<(), Fault> {
-    let name = &laid.object.sections[linked.section].name;
+    let section = &laid.object.sections[linked.section];
     for entry in &linked.entries {
         let place = linked.address.wrapping_add(entry.offset.into());
         let target = laid.resolve(entry, place);
-        linked.targets.push(target.map_err(|f| Fault::new(format!("section {name}: {f}")))?);
+        linked.targets.push(target.map_err(|f| Fault::new(format!("section {}: {f}", section.name)))?);
     }
     let (base, tls_begin) = (linked.address, laid.layout.tls_begin);
     let mut reports = vec![Report::default(); linked.entries.len()];
     let count = (calls.apply_reloc_alloc)(bytes, base, tls_begin, &linked.entries, &linked.targets, &mut reports)
-        .map_err(|r| Fault::refused(&format!("the fix-up of section {name}"), r))?;
+        .map_err(|r| refused::fixing(section, linked, r))?;
     reports.truncate(count);
     linked.reports = reports;
     Ok(())

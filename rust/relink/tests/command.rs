@@ -6,6 +6,7 @@ use std::os::unix::ffi::OsStrExt;
 use std::path::PathBuf;
 use std::process::{Command, Output};
 
+use relink::hauklivo::Record;
 use relink::{Object, Options, PORT, link};
 
 const EXAMPLE: &[u8] = include_bytes!("../example/thermo.o");
@@ -113,17 +114,18 @@ fn refusals() {
     other[4] = 7;
     assert!(error(&[&written("x86", &other)], 1).contains("another processor than arm64"));
 
-    // The first record of the file made one of a type that there is none of.
+    // A record of the file made one of a type that there is none of.
     let object = Object::parse(EXAMPLE).unwrap();
-    let first: Vec<u8> = [object.sections[0].records[0].offset, object.sections[0].records[0].bits]
-        .iter()
-        .flat_map(|n| n.to_le_bytes())
-        .collect();
-    let at = EXAMPLE.windows(8).position(|w| w == first).unwrap();
+    let third = object.sections[0].records[2];
+    let at = EXAMPLE.windows(8).position(|w| w == third.to_bytes()).unwrap();
     let mut odd = EXAMPLE.to_vec();
     odd[at + 7] |= 0xf0;
     let words = error(&[&written("odd", &odd)], 1);
-    let expected =
-        "the relocation records of section __TEXT,__text: number 5: a relocation's type or form is not supported";
-    assert!(words.contains(expected), "{words}");
+    let expected = format!(
+        "the relocation records of section __TEXT,__text: number 5: a relocation's type or form is not supported: \
+         record 2, offset {:#x}, bits {:#010x}\n",
+        third.offset,
+        third.bits | 0xf000_0000
+    );
+    assert!(words.ends_with(&expected), "{words}");
 }

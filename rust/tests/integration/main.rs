@@ -7,7 +7,7 @@ use std::collections::BTreeMap;
 use std::ops::Range;
 use std::path::Path;
 
-use hauklivo::{Hint, Place, Record, Report, Resolved, flag, ty};
+use hauklivo::{Hint, Place, Record, Report, Resolved, flag, position, ty};
 use linker::*;
 
 /// A relocation record of a mapped file.
@@ -49,7 +49,9 @@ fn read_relocs(
     match hauklivo::read_relocs(contents, MachRel::bytes(rels), &addrs, slots) {
         Ok(n) => entries.truncate(n),
         Err(refusal) => {
-            fatal!("{}: {}: {refusal}", file_name.display(), hdr.sectname().escape_ascii())
+            let at = position::in_records(refusal, contents, MachRel::bytes(rels), &addrs);
+            let at = at.map(|i| format!(": record {i} at 0x{:x}", rels[i].offset)).unwrap_or_default();
+            fatal!("{}: {}: {refusal}{at}", file_name.display(), hdr.sectname().escape_ascii())
         }
     }
     entries
@@ -122,7 +124,11 @@ fn apply_reloc_alloc(ctx: &Context<Arm64>, rels: &[Reloc], isec_id: usize, base:
                 tell(ctx, isec, &rels[report.entry as usize], report);
             }
         }
-        Err(refusal) => fatal!("{}: {refusal}", ctx.objs[isec.file as usize].mf.name.display()),
+        Err(refusal) => {
+            let at = position::in_entries(refusal, buf, base, entries, targets);
+            let at = at.map(|i| format!(": relocation {i} at 0x{:x}", rels[i].offset)).unwrap_or_default();
+            fatal!("{}: {refusal}{at}", ctx.objs[isec.file as usize].mf.name.display())
+        }
     }
 }
 
@@ -277,10 +283,19 @@ fn taken_entries_are_not_asked() {
 }
 
 #[test]
-#[should_panic(expected = "a.o: __text: 4: an ADDEND record is the last record")]
+#[should_panic(expected = "a.o: __text: 5: a relocation's type or form is not supported: record 1 at 0x4")]
 fn refusals_are_fatal() {
     let hdr = MachSection { name: b"__text".to_vec(), ..MachSection::default() };
-    read_relocs(Path::new("a.o"), &[], &hdr, &[0; 4], &[record(0, 1, false, 2, ty::ADDEND)]);
+    let records = [record(0, 1, true, 2, ty::BRANCH26), record(4, 1, true, 2, 15), record(0, 1, true, 2, ty::BRANCH26)];
+    read_relocs(Path::new("a.o"), &[], &hdr, &[0; 8], &records);
+}
+
+#[test]
+#[should_panic(expected = "8: a SUBTRACTOR entry is the last entry: relocation 1 at 0x8")]
+fn refused_fix_ups_are_fatal() {
+    let entry = |offset, ty| Reloc { offset, ty, size: 8, ..Reloc::default() };
+    let ctx = context(vec![entry(0, ty::UNSIGNED), entry(8, ty::SUBTRACTOR)]);
+    apply_reloc_alloc(&ctx, &ctx.objs[0].rels, 0, 0x1000, &mut [0; 40]);
 }
 
 #[test]

@@ -1,0 +1,119 @@
+//! Small objects that are made here: what a refusal names.
+
+use relink::hauklivo::{MachRel, Record, ty};
+use relink::{Object, Options, PORT, link};
+
+/// A symbol's place: a section, counted from 0, and an offset in it.
+type Place = Option<(usize, u64)>;
+
+/// An object of sections (segment, name, words, records) and symbols.
+fn object(sections: &[(&str, &str, &[u32], &[MachRel])], symbols: &[(&str, Place)]) -> Vec<u8> {
+    let commands = 72 + 80 * sections.len() as u32 + 24;
+    let mut tail = Vec::new();
+    let mut put = |bytes: &[u8]| {
+        let at = 32 + commands + tail.len() as u32;
+        tail.extend_from_slice(bytes);
+        at
+    };
+    let (mut headers, mut starts) = (Vec::new(), Vec::new());
+    let mut address = 0;
+    for (segment, name, words, records) in sections {
+        let bytes: Vec<u8> = words.iter().flat_map(|w| w.to_le_bytes()).collect();
+        let (contents, list) = (put(&bytes), put(MachRel::bytes(records)));
+        headers.extend([name, segment].map(|n| [n.as_bytes(), &vec![0; 16 - n.len()]].concat()).concat());
+        headers.extend([address, bytes.len() as u64].map(u64::to_le_bytes).concat());
+        headers.extend([contents, 2, list, records.len() as u32, 0, 0, 0, 0].map(u32::to_le_bytes).concat());
+        starts.push(address);
+        address += bytes.len() as u64;
+    }
+    let (mut table, mut names) = (Vec::new(), vec![0]);
+    for (name, place) in symbols {
+        let (ty, ordinal, value) = match place {
+            Some((section, offset)) => (0x0f, *section as u8 + 1, starts[*section] + offset),
+            None => (0x01, 0, 0),
+        };
+        table.extend([&(names.len() as u32).to_le_bytes()[..], &[ty, ordinal, 0, 0], &value.to_le_bytes()].concat());
+        names.extend([name.as_bytes(), b"\0"].concat());
+    }
+    let (at, names_at) = (put(&table), put(&names));
+    let mut head = vec![0xfeed_facf, 0x0100_000c, 0, 1, 2, commands, 0, 0, 0x19, commands - 24];
+    head.extend([0; 14]);
+    head.extend([sections.len() as u32, 0]);
+    let symtab = [2, 24, at, symbols.len() as u32, names_at, names.len() as u32];
+    let words = |words: &[u32]| words.iter().flat_map(|w| w.to_le_bytes()).collect::<Vec<_>>();
+    [words(&head), headers, words(&symtab), tail].concat()
+}
+
+/// A record of a symbol.
+fn of(symbol: u32, offset: u32, ty: u8) -> MachRel {
+    let is_pcrel = matches!(ty, ty::BRANCH26 | ty::PAGE21 | ty::GOT_LOAD_PAGE21 | ty::POINTER_TO_GOT);
+    let p2size = if matches!(ty, ty::UNSIGNED | ty::SUBTRACTOR) { 3 } else { 2 };
+    MachRel::new(offset, symbol, is_pcrel, p2size, true, ty)
+}
+
+/// The ADDEND record of a number.
+fn addend(offset: u32, number: u32) -> MachRel {
+    MachRel::new(offset, number, false, 2, false, ty::ADDEND)
+}
+
+const BL: u32 = 0x94000000;
+const NOP: u32 = 0xd503201f;
+
+/// A refusal is shown with section, record number, offset and bits.
+#[test]
+fn refusals_name_the_record() {
+    let fault = |records: &[MachRel]| {
+        let text = ("__TEXT", "__text", &[BL, BL, NOP][..], records);
+        let bytes = object(&[text], &[("_a", Some((0, 0)))]);
+        link(&Object::parse(&bytes).unwrap(), &Options::default(), &PORT).unwrap_err().to_string()
+    };
+    let branch = of(0, 0, ty::BRANCH26);
+    let reading = "the relocation records of section __TEXT,__text: number";
+    for (records, expected) in [
+        (
+            &[branch, of(0, 4, ty::BRANCH26), of(0, 8, 15), branch][..],
+            "5: a relocation's type or form is not supported: record 2, offset 0x8, bits 0xfc000000",
+        ),
+        (
+            &[branch, addend(4, 1), of(0, 4, ty::PAGE21), of(0, 8, ty::TLVP_LOAD_PAGEOFF12)],
+            "6: a word is unfit for its relocation: record 3, offset 0x8, bits 0x9c000000",
+        ),
+        (
+            &[branch, addend(4, 1), of(0, 8, 12)],
+            "5: a relocation's type or form is not supported: record 2, offset 0x8, bits 0xcc000000",
+        ),
+        (
+            &[branch, addend(4, 1), branch, addend(13, 0xffffff)],
+            "3: a place is past its bytes, a word past its part, or a part past the image: record 3, offset 0xd, bits 0xa4ffffff",
+        ),
+        (&[addend(4, 1)], "4: an ADDEND record is the last record: record 0, offset 0x4, bits 0xa4000001"),
+        (
+            &[MachRel::new(0, 2, false, 3, false, ty::UNSIGNED)],
+            "7: a record names a section that is not there: record 0, offset 0x0, bits 0x06000002",
+        ),
+    ] {
+        assert_eq!(fault(records), format!("{reading} {expected}"));
+    }
+    let fixing = "the fix-up of section __TEXT,__text: number";
+    let bounds = "3: a place is past its bytes, a word past its part, or a part past the image";
+    for (records, expected) in [
+        (
+            &[addend(0, 1), branch, of(0, 12, ty::BRANCH26), branch][..],
+            format!("{bounds}: entry 1, record 2, offset 0xc, bits 0x2d000000"),
+        ),
+        (
+            &[addend(0, 1), branch, of(0, 8, ty::SUBTRACTOR), branch],
+            format!("{bounds}: entry 1, record 2, offset 0x8, bits 0x1e000000"),
+        ),
+        (
+            &[branch, addend(0, 1), addend(4, 1), branch],
+            "5: a relocation's type or form is not supported: entry 1, record 2, offset 0x4, bits 0xa4000001".into(),
+        ),
+        (
+            &[branch, of(0, 0, ty::SUBTRACTOR)],
+            "8: a SUBTRACTOR entry is the last entry: entry 1, record 1, offset 0x0, bits 0x1e000000".into(),
+        ),
+    ] {
+        assert_eq!(fault(records), format!("{fixing} {expected}"));
+    }
+}
