@@ -9,6 +9,7 @@
 mod calls;
 mod fault;
 mod hints;
+mod labels;
 mod layout;
 mod link;
 mod listing;

@@ -2,13 +2,13 @@
 
 use std::fmt::Write;
 
-use hauklivo::{Reloc, Report, ReportKind, Resolved, Target, flag, ty};
+use hauklivo::{Reloc, Report, ReportKind, flag, ty};
 
 use crate::hints::{HintRun, LinkedHint, Outcome, Rewrite, kind_name};
+use crate::labels::Labels;
 use crate::layout::{Holds, Part};
 use crate::link::{Linked, LinkedSection};
 use crate::object::Object;
-use crate::targets::branch_reaches;
 use crate::words::{text, word_at};
 
 /// The listing of a linked object.
@@ -108,22 +108,20 @@ pub fn type_name(number: u8) -> &'static str {
 fn entries(out: &mut String, object: &Object, linked: &Linked, section: &LinkedSection) {
     line!(out, "Entries of {}", object.sections[section.section].name);
     let bytes = section.start..section.start + object.sections[section.section].contents.len();
+    let labels = Labels::new(object, linked, section);
     let mut rows = Vec::new();
-    let mut taken = false;
     for (number, (entry, target)) in section.entries.iter().zip(&section.targets).enumerate() {
         let [before, after] = [&linked.before, &linked.fixed].map(|i| shown(&i[bytes.clone()], section.address, entry));
-        let has_address = target.flags & flag::HAS_ADDRESS != 0;
         let (before, after) = match entry.ty {
-            _ if taken => (String::new(), "taken by the SUBTRACTOR before it".into()),
+            _ if labels.is_taken(number) => (String::new(), "taken by the SUBTRACTOR before it".into()),
             ty::UNSIGNED if target.flags & flag::IMPORTED != 0 => (before, "left for dyld to bind".into()),
-            ty::PAGE21 | ty::PAGEOFF12 if !has_address => (before, "left, the target has no address".into()),
+            ty::PAGE21 | ty::PAGEOFF12 if labels.lacks_address(number) => {
+                (before, "left, the target has no address".into())
+            }
             _ => (before, after),
         };
-        taken = !taken && entry.ty == ty::SUBTRACTOR;
-        let place = section.address.wrapping_add(entry.offset.into());
-        let target = target_name(object, entry, target, place);
-        let (number, place) = (number.to_string(), format!("{place:x}"));
-        rows.push((entry.offset, [number, place, type_name(entry.ty).into(), target, before, after]));
+        let (label, place) = (labels.label(number), format!("{:x}", labels.place(number)));
+        rows.push((entry.offset, [number.to_string(), place, type_name(entry.ty).into(), label, before, after]));
     }
     rows.sort_by_key(|&(offset, _)| offset);
     let head = ["no", "address", "type", "target", "before", "after"].map(String::from);
@@ -146,30 +144,6 @@ fn shown(section: &[u8], base: u64, entry: &Reloc) -> String {
     }
 }
 
-/// What an entry at `place` refers to, and by way of what.
-fn target_name(object: &Object, entry: &Reloc, target: &Resolved, place: u64) -> String {
-    let name = match entry.target() {
-        Target::Symbol(number) => &object.symbols[number as usize].name,
-        Target::Section(number) => &object.sections[number as usize].name,
-    };
-    let relaxed = target.flags & flag::RELAXES_GOT != 0;
-    let way = match entry.ty {
-        ty::POINTER_TO_GOT => "GOT slot of ",
-        ty::GOT_LOAD_PAGE21..=ty::TLVP_LOAD_PAGEOFF12 if !relaxed => "GOT slot of ",
-        ty::BRANCH26 if target.flags & (flag::PROBE | flag::IS_ENABLED) != 0 => "DTrace site ",
-        ty::BRANCH26 if target.flags & flag::HAS_THUNK != 0 && !branch_reaches(place, target.branch) => {
-            "thunk entry of "
-        }
-        ty::BRANCH26 if target.flags & flag::HAS_ADDRESS == 0 => "stub of ",
-        _ => "",
-    };
-    match entry.addend {
-        0 => format!("{way}{name}"),
-        addend if addend < 0 => format!("{way}{name} - {:#x}", addend.unsigned_abs()),
-        addend => format!("{way}{name} + {addend:#x}"),
-    }
-}
-
 fn reports(out: &mut String, object: &Object, linked: &Linked) {
     let far = |number: &u32| {
         let name = &object.symbols[*number as usize].name;
@@ -177,7 +151,8 @@ fn reports(out: &mut String, object: &Object, linked: &Linked) {
     };
     let mut sentences: Vec<String> = linked.far_stubs.iter().map(far).collect();
     for section in &linked.sections {
-        sentences.extend(section.reports.iter().map(|r| sentence(object, section, r)));
+        let labels = Labels::new(object, linked, section);
+        sentences.extend(section.reports.iter().map(|r| sentence(object, &labels, r)));
     }
     match sentences.len() {
         0 => line!(out, "No reports."),
@@ -187,12 +162,11 @@ fn reports(out: &mut String, object: &Object, linked: &Linked) {
 }
 
 /// A report as a sentence.
-fn sentence(object: &Object, section: &LinkedSection, report: &Report) -> String {
+fn sentence(object: &Object, labels: &Labels, report: &Report) -> String {
     let number = report.entry as usize;
-    let entry = &section.entries[number];
-    let place = section.address.wrapping_add(entry.offset.into());
-    let target = target_name(object, entry, &section.targets[number], place);
-    let name = &object.sections[section.section].name;
+    let name = &object.sections[labels.section.section].name;
+    let target = labels.reference(number);
+    let ty = type_name(labels.section.entries[number].ty);
     let what = match report.kind() {
         Some(ReportKind::AdrpReach) => {
             format!("ADRP does not reach {:x}; the word is written all the same", report.target)
@@ -206,7 +180,7 @@ fn sentence(object: &Object, section: &LinkedSection, report: &Report) -> String
         Some(ReportKind::NonLdr) => "the word is no LDR, so it cannot be relaxed; it is left".into(),
         None => format!("a report of the unknown kind {}", report.kind),
     };
-    format!("Entry {number} of {name}, {} of {target}: {what}.", type_name(entry.ty))
+    format!("Entry {number} of {name}, {ty} of {target}: {what}.")
 }
 
 impl Outcome {

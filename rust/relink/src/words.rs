@@ -19,6 +19,12 @@ pub fn is_access(word: u32) -> bool {
     word & 0x3b00_0000 == 0x3900_0000
 }
 
+/// Where B or BL at `address` goes; None for another word.
+pub fn branch_target(word: u32, address: u64) -> Option<u64> {
+    let is_branch = word & 0x7c00_0000 == 0x1400_0000;
+    is_branch.then(|| address.wrapping_add_signed(signed(word & 0x3ff_ffff, 26) << 2))
+}
+
 /// The word at `address` as an assembler would have it; ".word" for one of another class.
 pub fn text(word: u32, address: u64) -> String {
     let (rd, rn) = (word & 31, word >> 5 & 31);
@@ -34,9 +40,9 @@ pub fn text(word: u32, address: u64) -> String {
         let sp = if is_64 { "sp" } else { "wsp" };
         let name = |r| if r == 31 { sp.into() } else { general(r, is_64) };
         format!("add {}, {}, #{:#x}", name(rd), name(rn), word >> 10 & 0xfff)
-    } else if word & 0x7c00_0000 == 0x1400_0000 {
+    } else if let Some(to) = branch_target(word, address) {
         let name = if word >> 31 == 1 { "bl" } else { "b" };
-        format!("{name} {:#x}", address.wrapping_add_signed(signed(word & 0x3ff_ffff, 26) << 2))
+        format!("{name} {to:#x}")
     } else if is_access(word) {
         access(word).unwrap_or_else(|| unknown(word))
     } else if word & 0x3b00_0000 == 0x1800_0000 {

@@ -1,7 +1,8 @@
-//! Small objects that are made here: what a refusal names.
+//! Small objects that are made here: what a refusal names, what a branch goes to.
 
 use relink::hauklivo::{MachRel, Record, ty};
-use relink::{Object, Options, PORT, link};
+use relink::words::word_at;
+use relink::{Object, Options, PORT, link, listing};
 
 /// A symbol's place: a section, counted from 0, and an offset in it.
 type Place = Option<(usize, u64)>;
@@ -116,4 +117,75 @@ fn refusals_name_the_record() {
     ] {
         assert_eq!(fault(records), format!("{fixing} {expected}"));
     }
+}
+
+/// Text at 0x100000000 whose words are BL with these records, and data of two words so far behind; `_a` is the first word
+/// of the text, `_b` that of the data. The labels of the entries by number, each with the word after the fix-up.
+fn branches(far: u64, records: &[MachRel]) -> Vec<(String, u32)> {
+    let words = [BL, BL, BL, BL, BL, NOP];
+    let sections = [("__TEXT", "__text", &words[..], records), ("__DATA", "__code", &[NOP, NOP][..], &[])];
+    let symbols = [("_a", Some((0, 0))), ("_b", Some((1, 0))), ("_lib", None), ("___dtrace_probe$p", None)];
+    let bytes = object(&sections, &symbols);
+    let object = Object::parse(&bytes).unwrap();
+    let options = Options { text: TEXT, data: Some(TEXT + far), debug: false };
+    let linked = link(&object, &options, &PORT).unwrap();
+    let listing = listing(&object, &linked);
+    let label = |number: usize| {
+        let mut lines = listing.lines().skip_while(|line| !line.starts_with("Entries of"));
+        let row = lines.find(|line| line.starts_with(&format!("  {number} "))).unwrap();
+        let columns: Vec<_> = row.split("  ").filter(|column| !column.is_empty()).collect();
+        columns[3].trim().to_string()
+    };
+    let entries = &linked.sections[0].entries;
+    let word = |number: usize| word_at(&linked.fixed, entries[number].offset as usize).unwrap();
+    (0..entries.len()).map(|number| (label(number), word(number))).collect()
+}
+
+const TEXT: u64 = 0x1_0000_0000;
+
+/// A branch's label says where the word that was written goes.
+#[test]
+fn labels_of_branches() {
+    let branch = |symbol, offset| of(symbol, offset, ty::BRANCH26);
+    let label = |text: &str, word: u32| (text.to_string(), word);
+    // In reach. A displacement loses its two low bits.
+    let near = [
+        branch(1, 0),
+        addend(4, 4),
+        branch(1, 4),
+        addend(8, 2),
+        branch(1, 8),
+        branch(2, 12),
+        addend(16, 4),
+        branch(2, 16),
+        branch(3, 4),
+        branch(0, 20),
+    ];
+    assert_eq!(
+        branches(0x1000, &near),
+        [
+            label("_b", 0x94000400),
+            label("_b + 0x4, no branch", NOP), // entry 5 has written over it
+            label("100001000, not _b + 0x2", 0x940003fe),
+            label("stub of _lib", 0x94000003),
+            label("(stub of _lib) + 0x4", 0x94000003),
+            label("DTrace site ___dtrace_probe$p", NOP),
+            label("_a, no branch", 0xd7fffffb),
+        ]
+    );
+    // 0x20000000 away: the thunk entry, which stands behind the text, is for branches without an addend.
+    let far = [branch(1, 0), addend(4, 4), branch(1, 4), addend(8, 0xffffff), branch(1, 8)];
+    assert_eq!(
+        branches(0x2000_0000, &far),
+        [
+            label("thunk entry of _b", 0x94000006),
+            label("100000004, not _b + 0x4", 0x94000000),
+            label("fffffffc, not _b - 0x1", 0x97fffffd),
+        ]
+    );
+    // 8 GiB away: ADRP does not reach from the thunk entry either.
+    assert_eq!(
+        branches(1 << 33, &[branch(1, 0), branch(1, 8)]),
+        [label("100000000, not _b", 0x94000000), label("100000000, not _b", 0x97fffffe)]
+    );
 }
