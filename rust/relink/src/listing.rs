@@ -2,13 +2,14 @@
 
 use std::fmt::Write;
 
-use hauklivo::{Reloc, Report, ReportKind, flag, ty};
+use hauklivo::{Reloc, flag, ty};
 
 use crate::hints::{HintRun, LinkedHint, Outcome, Rewrite, kind_name};
 use crate::labels::Labels;
 use crate::layout::{Holds, Part};
 use crate::link::{Linked, LinkedSection};
 use crate::object::Object;
+use crate::reports::reports;
 use crate::words::{text, word_at};
 
 /// The listing of a linked object.
@@ -18,7 +19,7 @@ pub fn listing(object: &Object, linked: &Linked) -> String {
     for section in linked.sections.iter().filter(|s| !s.entries.is_empty()) {
         entries(&mut out, object, linked, section);
     }
-    reports(&mut out, object, linked);
+    told(&mut out, &reports(object, linked));
     hints(&mut out, &linked.hints);
     out
 }
@@ -144,43 +145,12 @@ fn shown(section: &[u8], base: u64, entry: &Reloc) -> String {
     }
 }
 
-fn reports(out: &mut String, object: &Object, linked: &Linked) {
-    let far = |number: &u32| {
-        let name = &object.symbols[*number as usize].name;
-        format!("The stub of {name} does not reach its pointer by ADRP; it is written all the same.")
-    };
-    let mut sentences: Vec<String> = linked.far_stubs.iter().map(far).collect();
-    for section in &linked.sections {
-        let labels = Labels::new(object, linked, section);
-        sentences.extend(section.reports.iter().map(|r| sentence(object, &labels, r)));
-    }
-    match sentences.len() {
+fn told(out: &mut String, reports: &[String]) {
+    match reports.len() {
         0 => line!(out, "No reports."),
-        _ => line!(out, "Reports\n  {}", sentences.join("\n  ")),
+        _ => line!(out, "Reports\n  {}", reports.join("\n  ")),
     }
     line!(out, "");
-}
-
-/// A report as a sentence.
-fn sentence(object: &Object, labels: &Labels, report: &Report) -> String {
-    let number = report.entry as usize;
-    let name = &object.sections[labels.section.section].name;
-    let target = labels.reference(number);
-    let ty = type_name(labels.section.entries[number].ty);
-    let what = match report.kind() {
-        Some(ReportKind::AdrpReach) => {
-            format!("ADRP does not reach {:x}; the word is written all the same", report.target)
-        }
-        Some(ReportKind::BranchReach) => {
-            format!("the branch does not reach {:x}; the word is written all the same", report.target)
-        }
-        Some(ReportKind::Alignment(size)) => {
-            format!("the address is no multiple of the {size} bytes that the word moves; the word is left")
-        }
-        Some(ReportKind::NonLdr) => "the word is no LDR, so it cannot be relaxed; it is left".into(),
-        None => format!("a report of the unknown kind {}", report.kind),
-    };
-    format!("Entry {number} of {name}, {ty} of {target}: {what}.")
 }
 
 impl Outcome {

@@ -6,24 +6,21 @@ use std::io::{self, Read, Write};
 use std::path::{Path, PathBuf};
 use std::process::ExitCode;
 
-use relink::{Fault, Object, Options, PORT, link, listing};
+use relink::{Fault, Object, Options, PORT, link, listing, reports};
 
-const USAGE: &str = "\
-usage: ./relink [FILE.o] [--text ADDRESS] [--data ADDRESS] [-o OUT]
-
-Lays out an arm64 Mach-O object, reads its relocation records, fixes up its sections, works its
-linker optimization hints, and lists every entry and hint with its words before and after.
-
-  FILE.o           the object, at most 16 MiB; without it, an example
-  --text ADDRESS   where __TEXT goes (default 0x100004000)
-  --data ADDRESS   where everything else goes (default: the page after __TEXT)
-  -o OUT           write the finished bytes there, part after part as listed
-  --help           this text";
+/// Which ./relink prints, too, before anything is built.
+const USAGE: &str = include_str!("usage.txt");
 
 const EXAMPLE: &[u8] = include_bytes!("../example/thermo.o");
 
 /// The largest file that is read, in bytes.
 const LARGEST: u64 = 16 << 20;
+
+/// The exit statuses.
+const LINKED: u8 = 0;
+const FAILED: u8 = 1;
+const WRONG_ARGUMENTS: u8 = 2;
+const BROKEN: u8 = 3;
 
 /// What the command line asks for.
 #[derive(Default)]
@@ -36,10 +33,10 @@ struct Asked {
 fn main() -> ExitCode {
     let asked = match arguments(std::env::args_os().skip(1)) {
         Ok(Some(asked)) => asked,
-        Ok(None) => return print(&format!("{USAGE}\n")),
+        Ok(None) => return print(USAGE, LINKED),
         Err(fault) => {
-            eprintln!("relink: {fault}\n\n{USAGE}");
-            return ExitCode::from(2);
+            eprint!("relink: {fault}\n\n{USAGE}");
+            return ExitCode::from(WRONG_ARGUMENTS);
         }
     };
     let name = match &asked.file {
@@ -47,22 +44,27 @@ fn main() -> ExitCode {
         None => "the example, rust/relink/example/thermo.o".into(),
     };
     match work(&name, &asked) {
-        Ok(text) => print(&text),
+        Ok((text, 0)) => print(&text, LINKED),
+        Ok((text, reports)) => {
+            let status = print(&text, BROKEN);
+            eprintln!("relink: {name}: the link is broken: {reports} in Reports");
+            status
+        }
         Err(fault) => {
             eprintln!("relink: {name}: {fault}");
-            ExitCode::from(1)
+            ExitCode::from(FAILED)
         }
     }
 }
 
-/// Writes to the standard output. A reader that went away is no fault.
-fn print(text: &str) -> ExitCode {
+/// Writes to the standard output; the status where that goes well. A reader that went away is no fault.
+fn print(text: &str, status: u8) -> ExitCode {
     match io::stdout().write_all(text.as_bytes()) {
         Err(error) if error.kind() != io::ErrorKind::BrokenPipe => {
             eprintln!("relink: the listing cannot be written: {error}");
-            ExitCode::from(1)
+            ExitCode::from(FAILED)
         }
-        _ => ExitCode::SUCCESS,
+        _ => ExitCode::from(status),
     }
 }
 
@@ -102,7 +104,8 @@ fn address(word: &OsStr) -> Result<u64, Fault> {
     number.ok_or_else(|| Fault::new(format!("{text} is no address (for example 0x100004000)")))
 }
 
-fn work(name: &str, asked: &Asked) -> Result<String, Fault> {
+/// The listing, and how many reports it has.
+fn work(name: &str, asked: &Asked) -> Result<(String, usize), Fault> {
     let bytes = match &asked.file {
         Some(file) => read(file).map_err(|error| Fault::new(format!("it cannot be read: {error}")))?,
         None => EXAMPLE.to_vec(),
@@ -116,7 +119,7 @@ fn work(name: &str, asked: &Asked) -> Result<String, Fault> {
         let fault = |error| Fault::new(format!("{} cannot be written: {error}", out.display()));
         fs::write(out, &linked.image).map_err(fault)?;
     }
-    Ok(format!("{name}\n\n{}", listing(&object, &linked)))
+    Ok((format!("{name}\n\n{}", listing(&object, &linked)), reports(&object, &linked).len()))
 }
 
 /// A file's bytes, at most one more than the largest that is read.

@@ -30,7 +30,11 @@ fn written(name: &str, bytes: &[u8]) -> String {
 
 #[test]
 fn usage() {
-    assert!(relink(&["--help"]).status.success());
+    for word in ["--help", "-h"] {
+        let done = relink(&[word]);
+        assert!(done.status.success() && done.stderr.is_empty());
+        assert_eq!(String::from_utf8(done.stdout).unwrap(), include_str!("../src/usage.txt"));
+    }
     for (words, expected) in [
         (&["--text"][..], "--text needs a value"),
         (&["--text", "here"], "here is no address"),
@@ -74,7 +78,9 @@ fn example_and_output() {
 
 #[test]
 fn example_listing() {
-    let near = String::from_utf8(relink(&[]).stdout).unwrap();
+    let done = relink(&[]);
+    assert!(done.status.success() && done.stderr.is_empty());
+    let near = String::from_utf8(done.stdout).unwrap();
     assert!(near.contains("\nNo reports.\n"));
     assert!(near.contains("  6  ADRP_ADD_LDR, rewritten: literal load\n"));
     assert!(near.ends_with("\nTally: 13 rewritten, 0 skipped, 2 declined, 0 turned down by 9; 0 not run.\n"));
@@ -83,7 +89,11 @@ fn example_listing() {
     assert!(far.contains("  6  ADRP_ADD_LDR, rewritten: ADD folded into the access\n"));
     assert!(far.contains("  5  ADRP_ADRP, rewritten: second ADRP dropped\n"));
 
-    let beyond = String::from_utf8(relink(&["--data", "0x300000000"]).stdout).unwrap();
+    let done = relink(&["--data", "0x300000000"]);
+    assert_eq!(done.status.code(), Some(3));
+    let error = String::from_utf8(done.stderr).unwrap();
+    assert!(error.ends_with("thermo.o: the link is broken: 14 in Reports\n"), "{error}");
+    let beyond = String::from_utf8(done.stdout).unwrap();
     assert!(beyond.contains("The stub of _ring does not reach its pointer by ADRP; it is written all the same.\n"));
     assert!(beyond.contains(", PAGE21 of _newest: ADRP does not reach 300000010; the word is written all the same.\n"));
 }

@@ -114,14 +114,17 @@ fn one_list_for_many_sections() {
 fn as_a_program() {
     let folder = PathBuf::from(env!("CARGO_TARGET_TMPDIR"));
     let (file, out) = (folder.join("hostile.o"), folder.join("hostile.out"));
-    let mut statuses = [0; 2];
+    let mut statuses = [0; 4];
     let mut run = |bytes: &[u8]| {
         fs::write(&file, bytes).unwrap();
         let mut command = Command::new(env!("CARGO_BIN_EXE_relink"));
         let done = command.arg(&file).arg("-o").arg(&out).output().unwrap();
         let status = done.status.code().expect("no signal");
-        assert!(status < 2, "{status}: {}", String::from_utf8_lossy(&done.stderr));
+        assert!([0, 1, 3].contains(&status), "{status}: {}", String::from_utf8_lossy(&done.stderr));
         assert_eq!(done.stderr.is_empty(), status == 0);
+        assert_eq!(done.stdout.is_empty(), status == 1);
+        let has_reports = done.stdout.windows(9).any(|w| w == b"\nReports\n");
+        assert_eq!(has_reports, status == 3);
         statuses[status as usize] += 1;
     };
     run(EXAMPLE);
@@ -132,5 +135,5 @@ fn as_a_program() {
     for _ in 0..2_000 {
         run(&numbers.damaged());
     }
-    assert!(statuses.iter().all(|&count| count > 100), "{statuses:?}");
+    assert!([0, 1, 3].iter().all(|&status| statuses[status] > 30), "{statuses:?}");
 }

@@ -1,4 +1,7 @@
-//! Small objects that are made here: what a refusal names, what a branch goes to.
+//! Small objects that are made here: what a refusal names, what a branch goes to, what makes a link a broken one.
+
+use std::fs;
+use std::process::Command;
 
 use relink::hauklivo::{MachRel, Record, ty};
 use relink::words::word_at;
@@ -23,7 +26,8 @@ fn object(sections: &[(&str, &str, &[u32], &[MachRel])], symbols: &[(&str, Place
         let (contents, list) = (put(&bytes), put(MachRel::bytes(records)));
         headers.extend([name, segment].map(|n| [n.as_bytes(), &vec![0; 16 - n.len()]].concat()).concat());
         headers.extend([address, bytes.len() as u64].map(u64::to_le_bytes).concat());
-        headers.extend([contents, 2, list, records.len() as u32, 0, 0, 0, 0].map(u32::to_le_bytes).concat());
+        let flags = if *segment == "__DWARF" { 0x0200_0000 } else { 0 }; // for the debugger, not for the image
+        headers.extend([contents, 2, list, records.len() as u32, flags, 0, 0, 0].map(u32::to_le_bytes).concat());
         starts.push(address);
         address += bytes.len() as u64;
     }
@@ -188,4 +192,86 @@ fn labels_of_branches() {
         branches(1 << 33, &[branch(1, 0), branch(1, 8)]),
         [label("100000000, not _b", 0x94000000), label("100000000, not _b", 0x97fffffe)]
     );
+}
+
+/// What the program says of an object: its status, the reports of its listing, and its error.
+fn program(name: &str, bytes: &[u8], options: &[&str]) -> (Option<i32>, Vec<String>, String) {
+    let file = format!("{}/{name}.o", env!("CARGO_TARGET_TMPDIR"));
+    fs::write(&file, bytes).unwrap();
+    let done = Command::new(env!("CARGO_BIN_EXE_relink")).arg(&file).args(options).output().unwrap();
+    let [listing, error] = [done.stdout, done.stderr].map(|bytes| String::from_utf8(bytes).unwrap());
+    let mut reports = listing.lines().skip_while(|line| *line != "Reports").skip(1);
+    let reports = reports.by_ref().take_while(|line| !line.is_empty()).map(|line| line.trim().into()).collect();
+    (done.status.code(), reports, error.replace(&file, "FILE"))
+}
+
+/// What the calls report, and what the linker sees beside that, is in Reports, and the status is 3.
+#[test]
+fn broken_links() {
+    let words = [BL, 0x90000008, 0xf9400108, BL, 0, 0, 0, 0];
+    let symbols =
+        [("_a", Some((0, 0))), ("_lib", None), ("_b", Some((1, 4))), ("_dwarf", Some((2, 0))), ("_sys", None)];
+    let made = |records: &[MachRel]| {
+        let text = ("__TEXT", "__text", &words[..], records);
+        object(&[text, ("__DATA", "__data", &[0, 0], &[]), ("__DWARF", "__debug", &[0], &[])], &symbols)
+    };
+    let sub = |symbol, offset| of(symbol, offset, ty::SUBTRACTOR);
+    let pointer = |symbol, offset| of(symbol, offset, ty::UNSIGNED);
+    // Stubs, GOT slots, pointers that dyld binds and differences of what is in the image.
+    let good = [
+        of(1, 0, ty::BRANCH26),
+        of(1, 4, ty::GOT_LOAD_PAGE21),
+        of(1, 8, ty::GOT_LOAD_PAGEOFF12),
+        sub(0, 16),
+        pointer(2, 16),
+        pointer(1, 24),
+    ];
+    assert_eq!(program("good", &made(&good), &[]), (Some(0), vec![], "".into()));
+    for (records, faults) in [
+        (&[of(1, 4, ty::PAGE21)][..], &["0: PAGE21 of _lib: _lib has no address; the word is left"][..]),
+        (
+            &[addend(8, 4), of(1, 8, ty::PAGEOFF12), of(1, 0, ty::BRANCH26)],
+            &["0: PAGEOFF12 of _lib + 0x4: _lib has no address; the word is left"],
+        ),
+        (
+            &[sub(1, 16), pointer(0, 16), sub(0, 24), pointer(1, 24)],
+            &[
+                "0: SUBTRACTOR of _lib: _lib has no address; 0 is taken for it in the difference",
+                "2: SUBTRACTOR of _a: _lib has no address; 0 is taken for it in the difference",
+            ],
+        ),
+        (
+            &[sub(1, 16), of(4, 4, ty::PAGE21), sub(1, 24), pointer(1, 24)],
+            &[
+                "0: SUBTRACTOR of _lib: _lib and _sys have no address; 0 is taken for each in the difference",
+                "2: SUBTRACTOR of _lib: _lib has no address; 0 is taken for it in the difference",
+            ],
+        ),
+        (
+            &[of(2, 8, ty::PAGEOFF12)],
+            &["0: PAGEOFF12 of _b: the address is no multiple of the 8 bytes that the word moves; the word is left"],
+        ),
+        (&[addend(0, 2), of(0, 0, ty::BRANCH26)], &["0: BRANCH26 of _a + 0x2: the word goes to 100004000"]),
+        (
+            &[addend(0, 4), of(1, 0, ty::BRANCH26)],
+            &["0: BRANCH26 of _lib + 0x4: a stub is no target with an addend; the word goes into the stub"],
+        ),
+        (&[of(0, 4, ty::BRANCH26)], &["0: BRANCH26 of _a: the word is no branch"]),
+        (
+            &[pointer(3, 16)],
+            &["0: UNSIGNED of _dwarf: __DWARF,__debug is not in the image; the object's own address is taken"],
+        ),
+    ] {
+        let (status, reports, error) = program("broken", &made(records), &[]);
+        let due: Vec<_> = faults.iter().map(|fault| fault.split_once(": ").unwrap()).collect();
+        let due: Vec<_> = due.iter().map(|(n, fault)| format!("Entry {n} of __TEXT,__text, {fault}.")).collect();
+        assert_eq!((status, &reports), (Some(3), &due));
+        assert_eq!(error, format!("relink: FILE: the link is broken: {} in Reports\n", due.len()));
+    }
+    // Out of reach: what the calls report.
+    let far = [of(2, 0, ty::BRANCH26), addend(12, 4), of(2, 12, ty::BRANCH26)];
+    let (status, reports, _) = program("far", &made(&far), &["--data", "0x120004000"]);
+    let due = "Entry 1 of __TEXT,__text, BRANCH26 of _b + 0x4: the branch does not reach 120004008; \
+               the word is written all the same, and goes to 100004008.";
+    assert_eq!((status, reports), (Some(3), vec![due.into()]));
 }
