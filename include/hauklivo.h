@@ -97,20 +97,20 @@ enum hauklivo_type {
 };
 
 /* A relocation record of an object file: Apple's relocation_info. */
-struct hauklivo_record {
+struct hauklivo_mach_rel {
     /* Offset of the place in the section. */
     uint32_t offset;
     /* From bit 0: index (24 bits), pc-relative (1), log2 of the size (2), extern (1), type (4).
      * The index is a symbol's number; where extern is 0, a section's ordinal, counted from 1. */
     uint32_t bits;
 };
-HAUKLIVO_ASSERT(sizeof(struct hauklivo_record) == 8, "a record has 8 bytes");
+HAUKLIVO_ASSERT(sizeof(struct hauklivo_mach_rel) == 8, "a record has 8 bytes");
 
 /* In an entry's target: the rest is a section's number, not a symbol's. */
 #define HAUKLIVO_SECTION_TARGET UINT32_C(0x80000000)
 
 /* An entry: what a record, with the ADDEND record before it, comes to. */
-struct hauklivo_entry {
+struct hauklivo_reloc {
     /* Offset of the place in the section; after an ADDEND record that record's. */
     uint32_t offset;
     /* enum hauklivo_type. */
@@ -128,7 +128,7 @@ struct hauklivo_entry {
     /* What is added to the target. */
     int64_t addend;
 };
-HAUKLIVO_ASSERT(sizeof(struct hauklivo_entry) == 24, "an entry has 24 bytes");
+HAUKLIVO_ASSERT(sizeof(struct hauklivo_reloc) == 24, "an entry has 24 bytes");
 
 /* Flags of a resolved target. */
 enum hauklivo_flag {
@@ -154,7 +154,7 @@ enum hauklivo_flag {
 };
 
 /* What the linker knows of an entry's target; one for each entry. */
-struct hauklivo_target {
+struct hauklivo_resolved {
     /* Its address. */
     uint64_t address;
     /* Address of its GOT slot. */
@@ -170,7 +170,7 @@ struct hauklivo_target {
     /* Must be 0, else number 11. */
     uint32_t zero;
 };
-HAUKLIVO_ASSERT(sizeof(struct hauklivo_target) == 48, "a resolved target has 48 bytes");
+HAUKLIVO_ASSERT(sizeof(struct hauklivo_resolved) == 48, "a resolved target has 48 bytes");
 
 /* What a report is about. */
 enum hauklivo_report_kind {
@@ -224,7 +224,7 @@ enum hauklivo_hint_kind {
 #define HAUKLIVO_WITHOUT_ENTRY UINT32_C(0xffffffff)
 
 /* Where one word of a hint stands. */
-struct hauklivo_place {
+struct hauklivo_hint_insn {
     /* Offset of the word in the hint's part of the image. */
     uint32_t offset;
     /* Number of the word's entry, counted from 0, or HAUKLIVO_WITHOUT_ENTRY: 0 names the first. */
@@ -232,10 +232,10 @@ struct hauklivo_place {
     /* The word's own address. */
     uint64_t address;
 };
-HAUKLIVO_ASSERT(sizeof(struct hauklivo_place) == 16, "a place has 16 bytes");
+HAUKLIVO_ASSERT(sizeof(struct hauklivo_hint_insn) == 16, "a place has 16 bytes");
 
 /* A hint. One of another kind, or with another word count than its kind has, is skipped. */
-struct hauklivo_hint {
+struct hauklivo_hint_record {
     /* enum hauklivo_hint_kind. */
     uint8_t kind;
     /* 2 words, or 3 for the kinds 3 to 6. */
@@ -248,9 +248,9 @@ struct hauklivo_hint {
     uint32_t start;
     uint32_t length;
     /* A third place is not looked at where there are 2 words. */
-    struct hauklivo_place places[3];
+    struct hauklivo_hint_insn places[3];
 };
-HAUKLIVO_ASSERT(sizeof(struct hauklivo_hint) == 64, "a hint has 64 bytes");
+HAUKLIVO_ASSERT(sizeof(struct hauklivo_hint_record) == 64, "a hint has 64 bytes");
 
 /* What became of the hints of a run. */
 struct hauklivo_tally {
@@ -269,10 +269,10 @@ HAUKLIVO_ASSERT(sizeof(struct hauklivo_tally) == 16, "a tally has 16 bytes");
  * Reads the relocation records of a section into entries.
  *
  *   contents  the section's bytes
- *   records   struct hauklivo_record
+ *   records   struct hauklivo_mach_rel
  *   sections  the address of each section of the object; `sections_count` counts addresses, where
  *             every other length counts bytes
- *   slots     at least 24 bytes for each record; gets struct hauklivo_entry
+ *   slots     at least 24 bytes for each record; gets struct hauklivo_reloc
  *   count     gets how many entries were filled; slots after them keep their bytes. It is not read,
  *             and written only where 0 comes back: so every `count` and `reaches` below
  *
@@ -289,8 +289,8 @@ uint8_t hauklivo_read_relocs(const uint8_t *contents, size_t contents_len, const
  *   section    the section's bytes
  *   base       the address of its first byte
  *   tls_begin  the start of thread-local storage
- *   entries    struct hauklivo_entry
- *   targets    struct hauklivo_target, one for each entry
+ *   entries    struct hauklivo_reloc
+ *   targets    struct hauklivo_resolved, one for each entry
  *   slots      at least 24 bytes for each entry; gets struct hauklivo_report
  *   count      gets how many reports were filled; slots after them keep their bytes
  *
@@ -322,8 +322,8 @@ uint8_t hauklivo_write_thunk(uint8_t *bytes, size_t bytes_len, uint64_t address,
  * number take time linear in their number; another order takes walks over the list for each object.
  *
  *   image    the bytes of every section that a hint's part is in
- *   hints    struct hauklivo_hint
- *   entries  struct hauklivo_entry
+ *   hints    struct hauklivo_hint_record
+ *   entries  struct hauklivo_reloc
  *   tally    gets the four counts where 0 comes back. Its 16 bytes are read, and where the call
  *            refuses the same are written back; nothing else depends on them. So it may be
  *            uninitialised when lent, and is then still so after a refusal

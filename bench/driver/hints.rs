@@ -1,6 +1,6 @@
 //! An image of instruction sequences with a hint for each.
 
-use hauklivo::{Hint, Place, Reloc, kind, ty};
+use hauklivo::{HintInsn, HintRecord, Reloc, kind, ty};
 
 use crate::rng::Rng;
 
@@ -32,7 +32,7 @@ impl Objects {
 /// What a hint run is lent.
 pub struct Sequences {
     pub image: Vec<u8>,
-    pub hints: Vec<Hint>,
+    pub hints: Vec<HintRecord>,
     pub entries: Vec<Reloc>,
 }
 
@@ -101,13 +101,13 @@ fn words(rng: &mut Rng, kind: u8) -> [u32; 3] {
 }
 
 /// The hint whose words stand at `at` of the image; its part is the function around it.
-fn hint(kind: u8, object: u32, at: usize, first: u32) -> Hint {
+fn hint(kind: u8, object: u32, at: usize, first: u32) -> HintRecord {
     let start = at - at % PART;
     let place = |k: usize, entry: u32| {
         let place = at + 4 * k;
-        Place { offset: (place - start) as u32, entry, address: BASE + place as u64 }
+        HintInsn { offset: (place - start) as u32, entry, address: BASE + place as u64 }
     };
-    let places = [place(0, first), place(1, first + 1), place(2, Place::WITHOUT_ENTRY)];
+    let places = [place(0, first), place(1, first + 1), place(2, HintInsn::WITHOUT_ENTRY)];
     let words = if has_access(kind) { 3 } else { 2 };
-    Hint { kind, words, object, start: start as u32, length: PART as u32, places, ..Hint::default() }
+    HintRecord { kind, words, object, start: start as u32, length: PART as u32, places, ..HintRecord::default() }
 }

@@ -1,6 +1,6 @@
 //! The work that is timed: each call of the port, the Rust's own, and a plain copy.
 
-use hauklivo::{Hint, MachRel, Record, Reloc, Report, Resolved};
+use hauklivo::{HintRecord, MachRel, Record, Reloc, Report, Resolved};
 use oracle::{Entries, FixingUp, Given, Linked, Reading};
 
 use crate::hints::Sequences;
@@ -199,7 +199,7 @@ fn hints<'a>(from: &'a Sequences, call: impl FnMut(&mut [u8]) + 'a) -> Box<dyn J
 }
 
 pub fn port_hints(from: &Sequences) -> Box<dyn Job + '_> {
-    let (hints_of, entries) = (Hint::bytes(&from.hints), Reloc::bytes(&from.entries));
+    let (hints_of, entries) = (HintRecord::bytes(&from.hints), Reloc::bytes(&from.entries));
     hints(from, move |image| {
         let tally = hauklivo::apply_hints(image, hints_of, entries).unwrap();
         assert_eq!((tally.skipped, tally.turned_down), (0, 0));
@@ -208,13 +208,13 @@ pub fn port_hints(from: &Sequences) -> Box<dyn Job + '_> {
 
 /// The Rust's rules over given places.
 pub fn rust_rules(from: &Sequences) -> Box<dyn Job + '_> {
-    let given = Given::new(Hint::bytes(&from.hints), Reloc::bytes(&from.entries));
+    let given = Given::new(HintRecord::bytes(&from.hints), Reloc::bytes(&from.entries));
     hints(from, move |image| given.run(image))
 }
 
 /// The Rust's own apply_hints, which finds the places.
 pub fn rust_run(from: &Sequences) -> Box<dyn Job + '_> {
-    let (hints_of, entries) = (Hint::bytes(&from.hints), Reloc::bytes(&from.entries));
+    let (hints_of, entries) = (HintRecord::bytes(&from.hints), Reloc::bytes(&from.entries));
     let linked = Linked::new(from.image.len(), hints_of, entries).expect("places that go with offsets");
     hints(from, move |image| linked.run(image))
 }

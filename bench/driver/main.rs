@@ -14,7 +14,7 @@ mod rng;
 
 use std::collections::BTreeMap;
 
-use hauklivo::{Hint, MachRel, Record, Reloc, Resolved};
+use hauklivo::{HintRecord, MachRel, Record, Reloc, Resolved};
 use hints::{Objects, Sequences};
 use jobs::{Copy, Fill, Job, PortFix, PortRead, RustFix, RustRead};
 use records::Table;
@@ -64,7 +64,7 @@ fn with_sides(case: &str, size: usize, then: impl FnOnce(Sides, usize)) {
                 _ => Objects::Falling,
             };
             let from = Sequences::new(size, objects);
-            let bytes = from.image.len() + size * Hint::SIZE + from.entries.len() * Reloc::SIZE;
+            let bytes = from.image.len() + size * HintRecord::SIZE + from.entries.len() * Reloc::SIZE;
             let sides = vec![
                 ("port", jobs::port_hints(&from)),
                 ("rust", jobs::rust_rules(&from)),

@@ -7,7 +7,7 @@ use crate::chunks::ChunkHeader;
 use crate::context::Context;
 use crate::input_files::ObjectFile;
 use crate::input_sections::{InputSection, Reloc};
-use crate::lent::{self, HintPlace, HintRecord, NO_ENTRY};
+use crate::lent::{self, HintInsn, HintRecord, NO_ENTRY};
 use crate::macho::LOH_ARM64_ADRP_ADRP;
 use crate::stop::{Stop, caught};
 use crate::words::Rules;
@@ -85,7 +85,7 @@ fn apply_hint(image: &mut [u8], hint: &HintRecord, entries: &[Reloc]) -> Result<
     let part = caught(|| &mut image[start..][..length])?;
     let places = caught(|| {
         let rel = |e: u32| (e != NO_ENTRY).then(|| &entries[e as usize]);
-        let place = |p: &HintPlace| (p.offset as usize, p.address, rel(p.entry));
+        let place = |p: &HintInsn| (p.offset as usize, p.address, rel(p.entry));
         hint.places[..hint.count as usize].iter().map(place).collect::<Vec<_>>()
     })?;
     let before = part.to_vec();
@@ -191,7 +191,7 @@ fn link(
     relocs: &mut Vec<Reloc>,
     image_len: usize,
     hint: &HintRecord,
-    places: &[HintPlace],
+    places: &[HintInsn],
     entries: &[Reloc],
 ) -> Option<u64> {
     if hint.start as usize + hint.length as usize > image_len {

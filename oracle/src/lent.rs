@@ -100,7 +100,7 @@ pub fn report_bytes(entry: u32, message: &str) -> Option<[u8; REPORT]> {
 
 /// A place of a hint: offset in its part, entry number, the word's own address.
 #[derive(Clone, Copy)]
-pub struct HintPlace {
+pub struct HintInsn {
     pub offset: u32,
     pub entry: u32,
     pub address: u64,
@@ -112,7 +112,7 @@ pub struct HintRecord {
     pub object: u32,
     pub start: u32,
     pub length: u32,
-    pub places: [HintPlace; 3],
+    pub places: [HintInsn; 3],
 }
 
 pub fn hints(list: &[u8]) -> Vec<HintRecord> {
@@ -123,7 +123,7 @@ pub fn hints(list: &[u8]) -> Vec<HintRecord> {
             object: u32_at(h, 4),
             start: u32_at(h, 8),
             length: u32_at(h, 12),
-            places: [16, 32, 48].map(|at| HintPlace {
+            places: [16, 32, 48].map(|at| HintInsn {
                 offset: u32_at(h, at),
                 entry: u32_at(h, at + 4),
                 address: u64_at(h, at + 8),

@@ -179,10 +179,10 @@ pub fn write_thunk(bytes: &mut [u8], address: u64, target: u64) -> Result<(), Re
 /// Hints that come by rising object number take time linear in their number; another order takes
 /// walks over the list for each object.
 ///
-/// `hints` holds [`Hint`](crate::Hint)s, `entries` [`Reloc`](crate::Reloc)s.
+/// `hints` holds [`HintRecord`](crate::HintRecord)s, `entries` [`Reloc`](crate::Reloc)s.
 ///
 /// ```
-/// use hauklivo::{Hint, Place, Record, Reloc, Tally, apply_hints, kind, ty};
+/// use hauklivo::{HintRecord, HintInsn, Record, Reloc, Tally, apply_hints, kind, ty};
 ///
 /// // adrp x0, 0; add x0, x0, #3: the address is near, so one adr does.
 /// let mut image = [0x90000000_u32, 0x91000c00].map(u32::to_le_bytes).concat();
@@ -190,12 +190,12 @@ pub fn write_thunk(bytes: &mut [u8], address: u64, target: u64) -> Result<(), Re
 ///     Reloc { offset: 0, ty: ty::PAGE21, size: 4, is_pcrel: 1, target: 5, ..Reloc::default() },
 ///     Reloc { offset: 4, ty: ty::PAGEOFF12, size: 4, target: 5, ..Reloc::default() },
 /// ];
-/// let first = Place { offset: 0, entry: 0, address: 0x1000 };
-/// let second = Place { offset: 4, entry: 1, address: 0x1004 };
-/// let places = [first, second, Place::default()];
-/// let hints = [Hint { kind: kind::ADRP_ADD, words: 2, length: 8, places, ..Hint::default() }];
+/// let first = HintInsn { offset: 0, entry: 0, address: 0x1000 };
+/// let second = HintInsn { offset: 4, entry: 1, address: 0x1004 };
+/// let places = [first, second, HintInsn::default()];
+/// let hints = [HintRecord { kind: kind::ADRP_ADD, words: 2, length: 8, places, ..HintRecord::default() }];
 ///
-/// let tally = apply_hints(&mut image, Hint::bytes(&hints), Reloc::bytes(&entries))?;
+/// let tally = apply_hints(&mut image, HintRecord::bytes(&hints), Reloc::bytes(&entries))?;
 /// assert_eq!(tally, Tally { rewritten: 1, ..Tally::default() });
 /// assert_eq!(image, [0x70000000_u32, 0xd503201f].map(u32::to_le_bytes).concat()); // adr x0, 3; nop
 /// # Ok::<(), hauklivo::Refusal>(())

@@ -50,6 +50,8 @@ pub mod typed;
 mod version;
 
 pub use calls::{LINE, apply_hints, apply_reloc_alloc, list, read_relocs, version, write_stub, write_thunk};
-pub use records::{Hint, MachRel, Place, Record, Reloc, Report, ReportKind, Resolved, Tally, Target, flag, kind, ty};
+pub use records::{
+    HintInsn, HintRecord, MachRel, Record, Reloc, Report, ReportKind, Resolved, Tally, Target, flag, kind, ty,
+};
 pub use refusal::Refusal;
 pub use version::VERSION;

@@ -32,7 +32,9 @@
 //! assert_eq!(position, Some(1));
 //! ```
 
-use crate::{Hint, MachRel, Record, Refusal, Reloc, Report, Resolved, apply_hints, apply_reloc_alloc, read_relocs};
+use crate::{
+    HintRecord, MachRel, Record, Refusal, Reloc, Report, Resolved, apply_hints, apply_reloc_alloc, read_relocs,
+};
 
 /// The position, counted from 0, of the record for which [`read_relocs`] gives `refusal`. Of an ADDEND
 /// record and the one after it, it is the first for an offset past the contents, else the second.
@@ -66,10 +68,10 @@ pub fn in_entries(refusal: Refusal, section: &[u8], base: u64, entries: &[u8], t
 ///
 /// None for a refusal that is of whole lists, or that these lists are not refused with.
 pub fn in_hints(refusal: Refusal, image: &[u8], hints: &[u8], entries: &[u8]) -> Option<usize> {
-    let count = hints.len() / Hint::SIZE;
+    let count = hints.len() / HintRecord::SIZE;
     // As above, of the image.
     let mut image = image.to_vec();
-    position(refusal, count, |n| apply_hints(&mut image, prefix::<Hint>(hints, n, count), entries).err())
+    position(refusal, count, |n| apply_hints(&mut image, prefix::<HintRecord>(hints, n, count), entries).err())
 }
 
 /// The first n of `count` records; for all of them the whole list, whatever its length.

@@ -101,7 +101,7 @@ macro_rules! records {
     )*};
 }
 
-records! { MachRel: 8, Reloc: 24, Resolved: 48, Report: 24, Place: 16, Hint: 64, Tally: 16, }
+records! { MachRel: 8, Reloc: 24, Resolved: 48, Report: 24, HintInsn: 16, HintRecord: 64, Tally: 16, }
 
 /// Relocation types, those of Apple's `<mach-o/arm64/reloc.h>`.
 #[allow(missing_docs)]
@@ -339,29 +339,29 @@ pub mod kind {
 /// Where one word of a hint stands. The default has no entry.
 ///
 /// ```
-/// use hauklivo::{Hint, Place};
+/// use hauklivo::{HintRecord, HintInsn};
 ///
-/// let place = Place { offset: 8, address: 0x1008, ..Place::default() };
-/// assert_eq!(place.entry, Place::WITHOUT_ENTRY);
-/// assert_eq!(Hint::default().places, [Place::default(); 3]);
+/// let place = HintInsn { offset: 8, address: 0x1008, ..HintInsn::default() };
+/// assert_eq!(place.entry, HintInsn::WITHOUT_ENTRY);
+/// assert_eq!(HintRecord::default().places, [HintInsn::default(); 3]);
 /// ```
 #[repr(C)]
 #[derive(Clone, Copy, Debug, PartialEq, Eq, Hash)]
-pub struct Place {
+pub struct HintInsn {
     /// Offset of the word in the hint's part of the image.
     pub offset: u32,
-    /// Number of the word's entry, counted from 0, or [`Place::WITHOUT_ENTRY`].
+    /// Number of the word's entry, counted from 0, or [`HintInsn::WITHOUT_ENTRY`].
     pub entry: u32,
     /// The word's own address.
     pub address: u64,
 }
 
-impl Place {
+impl HintInsn {
     /// The entry number of a word that has none.
     pub const WITHOUT_ENTRY: u32 = u32::MAX;
 }
 
-impl Default for Place {
+impl Default for HintInsn {
     fn default() -> Self {
         Self { offset: 0, entry: Self::WITHOUT_ENTRY, address: 0 }
     }
@@ -371,7 +371,7 @@ impl Default for Place {
 /// is skipped.
 #[repr(C)]
 #[derive(Clone, Copy, Debug, Default, PartialEq, Eq, Hash)]
-pub struct Hint {
+pub struct HintRecord {
     /// One of [`kind`].
     pub kind: u8,
     /// 2 words, or 3 for the kinds 3 to 6.
@@ -385,7 +385,7 @@ pub struct Hint {
     /// The bytes of its part.
     pub length: u32,
     /// Its words; the third is not looked at where there are 2.
-    pub places: [Place; 3],
+    pub places: [HintInsn; 3],
 }
 
 /// What became of the hints of a run.

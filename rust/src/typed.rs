@@ -24,7 +24,7 @@
 //! # Ok::<(), hauklivo::Refusal>(())
 //! ```
 
-use crate::{Hint, MachRel, Record, Refusal, Reloc, Report, Resolved, Tally};
+use crate::{HintRecord, MachRel, Record, Refusal, Reloc, Report, Resolved, Tally};
 
 /// Reads the relocation records of a section into entries, and says how many it filled; slots after
 /// those stay. `sections` has the address of each section of the object, `slots` at least one place for
@@ -67,6 +67,6 @@ pub fn apply_reloc_alloc(
 /// # Errors
 ///
 /// Those of [`apply_hints`](crate::apply_hints).
-pub fn apply_hints(image: &mut [u8], hints: &[Hint], entries: &[Reloc]) -> Result<Tally, Refusal> {
-    crate::apply_hints(image, Hint::bytes(hints), Reloc::bytes(entries))
+pub fn apply_hints(image: &mut [u8], hints: &[HintRecord], entries: &[Reloc]) -> Result<Tally, Refusal> {
+    crate::apply_hints(image, HintRecord::bytes(hints), Reloc::bytes(entries))
 }

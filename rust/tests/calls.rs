@@ -3,7 +3,8 @@
 use std::mem::MaybeUninit;
 
 use hauklivo::{
-    Hint, MachRel, Place, Record, Refusal, Reloc, Report, ReportKind, Resolved, Tally, Target, flag, kind, ty, typed,
+    HintInsn, HintRecord, MachRel, Record, Refusal, Reloc, Report, ReportKind, Resolved, Tally, Target, flag, kind, ty,
+    typed,
 };
 
 const FILL: u8 = 0xa5;
@@ -207,10 +208,10 @@ fn halves() -> [Reloc; 2] {
 
 /// A hint whose words stand one after another from `start`, the first at `address`, with the entries
 /// 0 and 1 on the first two.
-fn hint(kind: u8, words: u8, object: u32, start: u32, address: u64) -> Hint {
-    let place = |i: u32, entry| Place { offset: 4 * i, entry, address: address.wrapping_add(4 * u64::from(i)) };
-    let places = [place(0, 0), place(1, 1), place(2, Place::WITHOUT_ENTRY)];
-    Hint { kind, words, object, start, length: 4 * u32::from(words), places, ..Hint::default() }
+fn hint(kind: u8, words: u8, object: u32, start: u32, address: u64) -> HintRecord {
+    let place = |i: u32, entry| HintInsn { offset: 4 * i, entry, address: address.wrapping_add(4 * u64::from(i)) };
+    let places = [place(0, 0), place(1, 1), place(2, HintInsn::WITHOUT_ENTRY)];
+    HintRecord { kind, words, object, start, length: 4 * u32::from(words), places, ..HintRecord::default() }
 }
 
 /// An image after a run. One that is turned down must keep its bytes.
@@ -221,8 +222,8 @@ fn work_bytes(image: &[u8], hints: &[u8], entries: &[u8]) -> Result<(Vec<u8>, Ta
     done.map(|tally| (after, tally))
 }
 
-fn work(words: &[u32], hints: &[Hint]) -> Result<(Vec<u8>, Tally), Refusal> {
-    work_bytes(&bytes(words), Hint::bytes(hints), Reloc::bytes(&halves()))
+fn work(words: &[u32], hints: &[HintRecord]) -> Result<(Vec<u8>, Tally), Refusal> {
+    work_bytes(&bytes(words), HintRecord::bytes(hints), Reloc::bytes(&halves()))
 }
 
 #[test]
@@ -262,24 +263,24 @@ fn hints_refuse() {
     assert_eq!(lists(&good.to_bytes(), &pair[..24]), Refusal::NoEntry);
 
     // After a good hint, so that nothing of it is kept.
-    let one = |bad: Hint| lists(Hint::bytes(&[good, bad]), &pair);
-    assert_eq!(one(Hint { start: 1, ..good }), Refusal::Bounds);
-    assert_eq!(one(Hint { length: 7, ..good }), Refusal::Bounds);
+    let one = |bad: HintRecord| lists(HintRecord::bytes(&[good, bad]), &pair);
+    assert_eq!(one(HintRecord { start: 1, ..good }), Refusal::Bounds);
+    assert_eq!(one(HintRecord { length: 7, ..good }), Refusal::Bounds);
     let mut absent = good;
     absent.places[1].entry = 2;
     assert_eq!(one(absent), Refusal::NoEntry);
     // Bounds go first, and a skipped hint is not looked at.
-    assert_eq!(one(Hint { length: 7, ..absent }), Refusal::Bounds);
+    assert_eq!(one(HintRecord { length: 7, ..absent }), Refusal::Bounds);
     assert_eq!(
         Refusal::Bounds.to_string(),
         "3: a place is past its bytes, a word past its part, or a part past the image"
     );
     // A place that nothing is said of names no entry.
-    let unsaid = Hint { places: [Place::default(); 3], ..good };
+    let unsaid = HintRecord { places: [HintInsn::default(); 3], ..good };
     assert_eq!(work_bytes(&image, &unsaid.to_bytes(), &[]).map(|(_, tally)| tally.declined), Ok(1));
-    let skipped = Hint { words: 3, start: 1, ..absent };
+    let skipped = HintRecord { words: 3, start: 1, ..absent };
     let tally = Tally { rewritten: 1, skipped: 1, ..Tally::default() };
-    let done = work_bytes(&image, Hint::bytes(&[good, skipped]), &pair);
+    let done = work_bytes(&image, HintRecord::bytes(&[good, skipped]), &pair);
     assert_eq!(done, Ok((bytes(&[0x70000000, NOP]), tally)));
 }
 
@@ -410,7 +411,7 @@ fn records_convert() {
     assert_eq!((report.kind, report.size, report.kind()), (4, 5, Some(ReportKind::NonLdr)));
     assert_eq!((report.place, report.target), (0x0f0e0d0c0b0a0908, 0x1716151413121110));
     let list: Vec<u8> = (0..64).collect();
-    let h = Hint::from_bytes(&list).unwrap();
+    let h = HintRecord::from_bytes(&list).unwrap();
     assert_eq!((h.kind, h.words, h.object, h.start, h.length), (0, 1, 0x07060504, 0x0b0a0908, 0x0f0e0d0c));
     assert_eq!((h.places[1].offset, h.places[1].entry), (0x23222120, 0x27262524));
     assert_eq!((h.places[0].address, h.places[2].address), (0x1f1e1d1c1b1a1918, 0x3f3e3d3c3b3a3938));

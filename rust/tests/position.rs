@@ -3,7 +3,7 @@
 use std::collections::BTreeSet;
 
 use hauklivo::{
-    Hint, MachRel, Place, Record, Refusal, Reloc, Report, Resolved, Target, flag, kind, position, ty, typed,
+    HintInsn, HintRecord, MachRel, Record, Refusal, Reloc, Report, Resolved, Target, flag, kind, position, ty, typed,
 };
 
 const NOP: u32 = 0xd503201f;
@@ -237,7 +237,7 @@ fn entries() {
 }
 
 /// The first refusal among hints of an image of 16 bytes with 2 entries, by docs/RULES.md, 3.6.
-fn scan_hints(hints: &[Hint]) -> Option<(usize, Refusal)> {
+fn scan_hints(hints: &[HintRecord]) -> Option<(usize, Refusal)> {
     hints.iter().enumerate().find_map(|(i, hint)| {
         let words = match hint.kind {
             kind::ADRP_ADRP | kind::ADRP_LDR | kind::ADRP_ADD | kind::ADRP_LDR_GOT => 2,
@@ -250,7 +250,7 @@ fn scan_hints(hints: &[Hint]) -> Option<(usize, Refusal)> {
         let places = &hint.places[..usize::from(words)];
         if hint.start + hint.length > 16 || places.iter().any(|p| p.offset + 4 > hint.length) {
             Some((i, Refusal::Bounds))
-        } else if places.iter().any(|p| p.entry != Place::WITHOUT_ENTRY && p.entry > 1) {
+        } else if places.iter().any(|p| p.entry != HintInsn::WITHOUT_ENTRY && p.entry > 1) {
             Some((i, Refusal::NoEntry))
         } else {
             None
@@ -262,24 +262,24 @@ fn scan_hints(hints: &[Hint]) -> Option<(usize, Refusal)> {
 fn hints() {
     let image = [0x90000000_u32, 0x91000c00, 0x90000001, 0xf9400021].map(u32::to_le_bytes).concat();
     let entries = [ty::PAGE21, ty::PAGEOFF12].map(|ty| Reloc { ty, size: 4, ..Reloc::default() });
-    let place = |offset, entry| Place { offset, entry, address: 0x1000 + u64::from(offset) };
+    let place = |offset, entry| HintInsn { offset, entry, address: 0x1000 + u64::from(offset) };
     let hint = |kind, object, places| {
         let words = if (3..7).contains(&kind) { 3 } else { 2 };
-        Hint { kind, words, object, length: 16, places, ..Hint::default() }
+        HintRecord { kind, words, object, length: 16, places, ..HintRecord::default() }
     };
     let [first, second] = [place(0, 0), place(4, 1)];
     let good = [
         hint(kind::ADRP_ADD, 3, [first, second, place(20, 7)]),
         hint(kind::ADRP_LDR, 1, [place(8, 0), place(12, 1), first]),
-        hint(kind::ADRP_ADRP, 2, [first, place(8, Place::WITHOUT_ENTRY), first]),
-        hint(kind::ADRP_ADD_LDR, 0, [first, second, place(12, Place::WITHOUT_ENTRY)]),
-        Hint { start: 90, ..hint(9, 5, [first; 3]) },
-        Hint { words: 3, start: 90, ..hint(kind::ADRP_ADD, 0, [first; 3]) },
+        hint(kind::ADRP_ADRP, 2, [first, place(8, HintInsn::WITHOUT_ENTRY), first]),
+        hint(kind::ADRP_ADD_LDR, 0, [first, second, place(12, HintInsn::WITHOUT_ENTRY)]),
+        HintRecord { start: 90, ..hint(9, 5, [first; 3]) },
+        HintRecord { words: 3, start: 90, ..hint(kind::ADRP_ADD, 0, [first; 3]) },
     ];
     let bad = [
-        Hint { start: 1, ..good[0] },
-        Hint { length: 7, ..good[0] },
-        Hint { length: 3, ..good[0] },
+        HintRecord { start: 1, ..good[0] },
+        HintRecord { length: 7, ..good[0] },
+        HintRecord { length: 3, ..good[0] },
         hint(kind::ADRP_ADD, 0, [place(13, 0), second, first]),
         hint(kind::ADRP_ADD, 0, [first, place(4, 2), first]),
         hint(kind::ADRP_ADD_STR, 4, [first, second, place(12, 2)]),
@@ -291,7 +291,7 @@ fn hints() {
         let done = typed::apply_hints(&mut image.clone(), list, &entries);
         assert_eq!(done.err(), due.map(|(_, refusal)| refusal), "{list:x?}");
         for refusal in Refusal::ALL {
-            let found = position::in_hints(*refusal, &image, Hint::bytes(list), Reloc::bytes(&entries));
+            let found = position::in_hints(*refusal, &image, HintRecord::bytes(list), Reloc::bytes(&entries));
             assert_eq!(found, due.filter(|due| due.1 == *refusal).map(|due| due.0), "{refusal}: {list:x?}");
         }
         met.note(list.len(), due);

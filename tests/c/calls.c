@@ -38,10 +38,10 @@ static int filled(const void *bytes, size_t len)
 
 /* A call of the reader that must answer `number` and leave slots and count. */
 static void refused_reading(uint8_t number, const uint8_t *contents, size_t contents_len,
-                            const struct hauklivo_record *records, size_t records_len, size_t slots_len)
+                            const struct hauklivo_mach_rel *records, size_t records_len, size_t slots_len)
 {
     const uint64_t sections[1] = {0x4000};
-    struct hauklivo_entry slots[4];
+    struct hauklivo_reloc slots[4];
     size_t count = UNTOUCHED;
     memset(slots, FILL, sizeof slots);
     CHECK(hauklivo_read_relocs(contents, contents_len, records, records_len, sections, 1, slots, slots_len,
@@ -54,11 +54,11 @@ static void reader(void)
 {
     uint8_t contents[16] = {0};
     const uint64_t sections[1] = {0x4000};
-    struct hauklivo_entry slots[4];
+    struct hauklivo_reloc slots[4];
     size_t count = UNTOUCHED;
 
     /* ADDEND -1 with the PAGE21 of symbol 5: one entry, at the ADDEND record's offset. */
-    const struct hauklivo_record pair[2] = {{4, 0xa4ffffff}, {8, 0x3d000005}};
+    const struct hauklivo_mach_rel pair[2] = {{4, 0xa4ffffff}, {8, 0x3d000005}};
     memset(slots, FILL, sizeof slots);
     CHECK(hauklivo_read_relocs(contents, sizeof contents, pair, sizeof pair, sections, 1, slots, sizeof slots,
                                &count) == HAUKLIVO_DONE);
@@ -69,7 +69,7 @@ static void reader(void)
     CHECK(filled(slots + 1, sizeof slots - sizeof slots[0]));
 
     /* A pointer into section 1, whose address is taken off. */
-    const struct hauklivo_record pointer[1] = {{0, 0x06000001}};
+    const struct hauklivo_mach_rel pointer[1] = {{0, 0x06000001}};
     put_word(contents, 0, 0x4010);
     CHECK(hauklivo_read_relocs(contents, sizeof contents, pointer, sizeof pointer, sections, 1, slots,
                                sizeof slots, &count) == HAUKLIVO_DONE);
@@ -77,7 +77,7 @@ static void reader(void)
 
     /* The sections are counted by addresses: 2 are two sections, not two bytes. */
     const uint64_t two[2] = {0x4000, 0x4004};
-    const struct hauklivo_record second[1] = {{0, 0x06000002}};
+    const struct hauklivo_mach_rel second[1] = {{0, 0x06000002}};
     CHECK(hauklivo_read_relocs(contents, sizeof contents, second, sizeof second, two, 2, slots, sizeof slots,
                                &count) == HAUKLIVO_DONE);
     CHECK(count == 1 && slots[0].target == HAUKLIVO_SECTION_TARGET + 1 && slots[0].addend == 0xc);
@@ -92,21 +92,21 @@ static void reader(void)
     put_word(contents, 12, 0xd503201f);
     refused_reading(HAUKLIVO_LENGTHS, contents, 16, pair, 7, sizeof slots);
     refused_reading(HAUKLIVO_SLOTS, contents, 16, pair, 16, 47);
-    const struct hauklivo_record past[1] = {{17, 0x3d000005}};
+    const struct hauklivo_mach_rel past[1] = {{17, 0x3d000005}};
     refused_reading(HAUKLIVO_BOUNDS, contents, 16, past, 8, sizeof slots);
-    const struct hauklivo_record lone[1] = {{0, 0xa4000000}};
+    const struct hauklivo_mach_rel lone[1] = {{0, 0xa4000000}};
     refused_reading(HAUKLIVO_LONE_ADDEND, contents, 16, lone, 8, sizeof slots);
-    const struct hauklivo_record pointer32[1] = {{0, 0x0c000000}};
+    const struct hauklivo_mach_rel pointer32[1] = {{0, 0x0c000000}};
     refused_reading(HAUKLIVO_UNSUPPORTED, contents, 16, pointer32, 8, sizeof slots);
-    const struct hauklivo_record nop[1] = {{12, 0x9c000000}};
+    const struct hauklivo_mach_rel nop[1] = {{12, 0x9c000000}};
     refused_reading(HAUKLIVO_UNFIT, contents, 16, nop, 8, sizeof slots);
-    const struct hauklivo_record ordinal0[1] = {{0, 0x06000000}};
+    const struct hauklivo_mach_rel ordinal0[1] = {{0, 0x06000000}};
     refused_reading(HAUKLIVO_NO_SECTION, contents, 16, ordinal0, 8, sizeof slots);
 }
 
 /* A fix-up of one or two entries that must answer `number` and leave section, slots and count. */
-static void refused_fixing(uint8_t number, uint64_t base, const struct hauklivo_entry *entries,
-                           size_t entries_len, const struct hauklivo_target *targets, size_t targets_len,
+static void refused_fixing(uint8_t number, uint64_t base, const struct hauklivo_reloc *entries,
+                           size_t entries_len, const struct hauklivo_resolved *targets, size_t targets_len,
                            size_t slots_len)
 {
     uint8_t section[8];
@@ -126,12 +126,12 @@ static void fixup(void)
     uint8_t section[12];
     struct hauklivo_report slots[3];
     size_t count = UNTOUCHED;
-    const struct hauklivo_entry entries[3] = {
+    const struct hauklivo_reloc entries[3] = {
         {.offset = 0, .type = HAUKLIVO_BRANCH26, .size = 4, .is_pcrel = 1},
         {.offset = 4, .type = HAUKLIVO_PAGEOFF12, .size = 4},
         {.offset = 8, .type = HAUKLIVO_GOT_LOAD_PAGEOFF12, .size = 4},
     };
-    const struct hauklivo_target targets[3] = {
+    const struct hauklivo_resolved targets[3] = {
         {.branch = 0xffc},
         {.address = 0x1234, .flags = HAUKLIVO_HAS_ADDRESS},
         {.address = 0x1234, .flags = HAUKLIVO_HAS_ADDRESS | HAUKLIVO_RELAXES_GOT},
@@ -157,13 +157,13 @@ static void fixup(void)
     CHECK(hauklivo_apply_reloc_alloc(section, 0, 0, 0, entries, 0, targets, 0, slots, 0, &count) == HAUKLIVO_DONE);
     CHECK(count == 0);
 
-    const struct hauklivo_entry pointer = {.type = HAUKLIVO_UNSIGNED, .size = 8};
-    const struct hauklivo_entry at4 = {.offset = 4, .type = HAUKLIVO_UNSIGNED, .size = 8};
-    const struct hauklivo_entry type10 = {.type = HAUKLIVO_ADDEND, .size = 4};
-    const struct hauklivo_entry lone = {.type = HAUKLIVO_SUBTRACTOR, .size = 8};
-    const struct hauklivo_entry got = {.type = HAUKLIVO_POINTER_TO_GOT, .size = 4, .target = HAUKLIVO_SECTION_TARGET};
-    const struct hauklivo_target plain = {.flags = HAUKLIVO_HAS_ADDRESS};
-    const struct hauklivo_target odd = {.flags = 0x200};
+    const struct hauklivo_reloc pointer = {.type = HAUKLIVO_UNSIGNED, .size = 8};
+    const struct hauklivo_reloc at4 = {.offset = 4, .type = HAUKLIVO_UNSIGNED, .size = 8};
+    const struct hauklivo_reloc type10 = {.type = HAUKLIVO_ADDEND, .size = 4};
+    const struct hauklivo_reloc lone = {.type = HAUKLIVO_SUBTRACTOR, .size = 8};
+    const struct hauklivo_reloc got = {.type = HAUKLIVO_POINTER_TO_GOT, .size = 4, .target = HAUKLIVO_SECTION_TARGET};
+    const struct hauklivo_resolved plain = {.flags = HAUKLIVO_HAS_ADDRESS};
+    const struct hauklivo_resolved odd = {.flags = 0x200};
     refused_fixing(HAUKLIVO_LENGTHS, 0, &pointer, 23, &plain, 48, 24);
     refused_fixing(HAUKLIVO_LENGTHS, 0, &pointer, 24, &plain, 0, 24);
     refused_fixing(HAUKLIVO_SLOTS, 0, &pointer, 24, &plain, 48, 23);
@@ -202,8 +202,8 @@ static void stub_and_thunk(void)
 }
 
 /* A run that must answer `number` and leave image and tally. */
-static void refused_working(uint8_t number, const struct hauklivo_hint *hints, size_t hints_len,
-                            const struct hauklivo_entry *entries, size_t entries_len)
+static void refused_working(uint8_t number, const struct hauklivo_hint_record *hints, size_t hints_len,
+                            const struct hauklivo_reloc *entries, size_t entries_len)
 {
     uint8_t image[8];
     struct hauklivo_tally tally;
@@ -216,13 +216,13 @@ static void refused_working(uint8_t number, const struct hauklivo_hint *hints, s
 
 static void hints(void)
 {
-    const struct hauklivo_entry entries[2] = {
+    const struct hauklivo_reloc entries[2] = {
         {.type = HAUKLIVO_PAGE21, .size = 4, .is_pcrel = 1, .target = 5},
         {.offset = 4, .type = HAUKLIVO_PAGEOFF12, .size = 4, .target = 5},
     };
-    const struct hauklivo_place first = {0, 0, 0x1000}, second = {4, 1, 0x1004}, past = {5, 1, 0x1004};
-    const struct hauklivo_place absent = {4, 2, 0x1004};
-    const struct hauklivo_hint list[2] = {
+    const struct hauklivo_hint_insn first = {0, 0, 0x1000}, second = {4, 1, 0x1004}, past = {5, 1, 0x1004};
+    const struct hauklivo_hint_insn absent = {4, 2, 0x1004};
+    const struct hauklivo_hint_record list[2] = {
         {.kind = HAUKLIVO_ADRP_ADD, .words = 2, .length = 8, .places = {first, second}},
         {.kind = 9, .words = 2},
     };
@@ -245,7 +245,7 @@ static void hints(void)
     CHECK(tally.rewritten == 0 && tally.skipped == 0 && tally.declined == 1 && tally.turned_down == 0);
 
     /* adrp x1, 0; str s5, [x1, #0x29d0] on the last page: the sum passes 2^64 - 1, and the words stay. */
-    struct hauklivo_hint last = {.kind = HAUKLIVO_ADRP_LDR, .words = 2, .length = 8, .places = {first, second}};
+    struct hauklivo_hint_record last = {.kind = HAUKLIVO_ADRP_LDR, .words = 2, .length = 8, .places = {first, second}};
     last.places[0].address = UINT64_C(0xfffffffffffff000);
     last.places[1].address = UINT64_C(0xfffffffffffff004);
     put_word(image, 0, 0x90000001);
@@ -260,7 +260,7 @@ static void hints(void)
     CHECK(hauklivo_apply_hints(image, 0, list, 0, entries, 0, &fresh) == HAUKLIVO_DONE);
     CHECK(fresh.rewritten == 0 && fresh.skipped == 0 && fresh.declined == 0 && fresh.turned_down == 0);
 
-    struct hauklivo_hint far = list[0], wide = list[0], third = list[0];
+    struct hauklivo_hint_record far = list[0], wide = list[0], third = list[0];
     far.start = 1;
     wide.places[1] = past;
     third.places[1] = absent;

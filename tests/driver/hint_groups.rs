@@ -1,6 +1,6 @@
 //! The cases of the hint run.
 
-use hauklivo::{Hint, Place, Reloc};
+use hauklivo::{HintInsn, HintRecord, Reloc};
 
 use crate::hint_shape::{BASE, LDR_X, LDRSW, LOADS, NOP, STORES, STR_X, Shape, bytes, entry, places, single};
 use crate::hints::{Answer, Case, check, of_lengths, word_count};
@@ -282,7 +282,7 @@ fn bounds(index: u64, world: &World, table: &mut Table) -> Verdict {
         }
     }
     let count = last as u8 + 1 + u8::from(is_skipped);
-    let hint = Hint { kind, words: count, object: 1, start, length, places, ..Hint::default() };
+    let hint = HintRecord { kind, words: count, object: 1, start, length, places, ..HintRecord::default() };
     let answer = check(&Case::new(image, &[hint], &entries), world, table)?;
     let (part, word) = (u64::from(start) + u64::from(length), u64::from(offset) + 4);
     let (over, past) = (part as i64 - len as i64, word as i64 - i64::from(length));
@@ -309,7 +309,7 @@ fn absent(index: u64, world: &World, table: &mut Table) -> Verdict {
     let kind = d.pick(&[7, 5]);
     let past = d.next(2) == 1;
     let (second, falls) = (d.next(4), d.next(2) == 1);
-    let numbers = [0, n - 1, n, n + 1, Place::WITHOUT_ENTRY - 1, Place::WITHOUT_ENTRY];
+    let numbers = [0, n - 1, n, n + 1, HintInsn::WITHOUT_ENTRY - 1, HintInsn::WITHOUT_ENTRY];
     let shape = Shape::new(kind);
     let mut places = places(&shape.named(), &mut Vec::new());
     let count = word_count(kind);
@@ -317,10 +317,16 @@ fn absent(index: u64, world: &World, table: &mut Table) -> Verdict {
         place.entry = numbers[i];
     }
     places[count - 1].offset += u32::from(past);
-    let good = Hint { kind, words: count as u8, length: 4 * count as u32, object: u32::from(falls), ..Hint::default() };
-    let first = Hint { places, ..good };
-    let mut other = Hint { object: 1 - u32::from(falls), ..good };
-    other.places = [0, 4, 8].map(|offset| Place { offset, entry: 0, address: BASE });
+    let good = HintRecord {
+        kind,
+        words: count as u8,
+        length: 4 * count as u32,
+        object: u32::from(falls),
+        ..HintRecord::default()
+    };
+    let first = HintRecord { places, ..good };
+    let mut other = HintRecord { object: 1 - u32::from(falls), ..good };
+    other.places = [0, 4, 8].map(|offset| HintInsn { offset, entry: 0, address: BASE });
     match second {
         0 | 1 => {}
         2 => other.places[0].entry = n,
@@ -354,7 +360,7 @@ fn lengths(index: u64, world: &World, table: &mut Table) -> Verdict {
     let mut case = Shape::new(7).case();
     let mut list = case.list();
     for place in &mut list[0].places {
-        place.entry = Place::WITHOUT_ENTRY;
+        place.entry = HintInsn::WITHOUT_ENTRY;
     }
     case.set_list(&[list[0]; 4]);
     case.hints.truncate(hints);
@@ -436,7 +442,7 @@ fn good_list(rng: &mut Rng) -> Case {
     let n = rng.pick(&[0, 1, 1, 2, 2, 3, 4, 6]);
     let before = rng.len(12);
     let mut image = rng.bytes(before);
-    let (mut list, mut entries): (Vec<Hint>, Vec<Reloc>) = (Vec::new(), Vec::new());
+    let (mut list, mut entries): (Vec<HintRecord>, Vec<Reloc>) = (Vec::new(), Vec::new());
     for _ in 0..n {
         let at = image.len() as u32;
         let shape = some_shape(rng, base.wrapping_add(u64::from(at)));
@@ -454,13 +460,13 @@ fn good_list(rng: &mut Rng) -> Case {
             places[rng.len(count)] = from;
         }
         let object = rng.pick(&[0, 0, 1, 1, 2, u32::MAX]);
-        list.push(Hint {
+        list.push(HintRecord {
             kind: shape.kind,
             words: count as u8,
             ignored: rng.word() as u16,
             object,
             places,
-            ..Hint::default()
+            ..HintRecord::default()
         });
     }
     image.extend(bytes(&[NOP, NOP]));
@@ -480,7 +486,7 @@ fn good_list(rng: &mut Rng) -> Case {
 }
 
 /// Objects by rising number, or the list in any order, or as it is.
-fn reorder(rng: &mut Rng, list: &mut [Hint]) {
+fn reorder(rng: &mut Rng, list: &mut [HintRecord]) {
     match rng.below(3) {
         0 => list.sort_by_key(|h| h.object),
         1 => {

@@ -1,6 +1,6 @@
 //! Words of a hint, made so that its rule rewrites them, and changed from there.
 
-use hauklivo::{Hint, Place, Reloc};
+use hauklivo::{HintInsn, HintRecord, Reloc};
 
 use crate::hint_ways::Named;
 use crate::hints::{Case, word_count};
@@ -104,12 +104,12 @@ fn adrp(page: u64, from: u64, register: u32) -> u32 {
 }
 
 /// The places of words that stand one after another, with their entries at the end of a list.
-pub fn places(named: &[Named], entries: &mut Vec<Reloc>) -> [Place; 3] {
-    let mut places = [Place { offset: u32::MAX, entry: 0x55, address: 0x77 }; 3];
+pub fn places(named: &[Named], entries: &mut Vec<Reloc>) -> [HintInsn; 3] {
+    let mut places = [HintInsn { offset: u32::MAX, entry: 0x55, address: 0x77 }; 3];
     for (i, (place, n)) in places.iter_mut().zip(named).enumerate() {
-        let number = n.entry.map_or(Place::WITHOUT_ENTRY, |_| entries.len() as u32);
+        let number = n.entry.map_or(HintInsn::WITHOUT_ENTRY, |_| entries.len() as u32);
         entries.extend(n.entry);
-        *place = Place { offset: 4 * i as u32, entry: number, address: n.address };
+        *place = HintInsn { offset: 4 * i as u32, entry: number, address: n.address };
     }
     places
 }
@@ -126,6 +126,6 @@ pub fn single(kind: u8, named: &[Named]) -> Case {
     words.extend(named.iter().map(|n| n.word));
     words.push(NOP);
     let length = 4 * named.len() as u32;
-    let hint = Hint { kind, words: word_count(kind) as u8, ignored: 0xa5a5, object: 3, start: 4, length, places };
+    let hint = HintRecord { kind, words: word_count(kind) as u8, ignored: 0xa5a5, object: 3, start: 4, length, places };
     Case::new(bytes(&words), &[hint], &entries)
 }

@@ -2,7 +2,7 @@
 
 use std::collections::{BTreeMap, BTreeSet};
 
-use hauklivo::{Hint, Place, Record, Reloc, raw};
+use hauklivo::{HintInsn, HintRecord, Record, Reloc, raw};
 
 use crate::answers::{HINTS, record};
 use crate::hint_ways::{Named, way};
@@ -17,18 +17,18 @@ pub fn word_count(kind: u8) -> usize {
 }
 
 /// Whether a hint is skipped: there is no such kind, or its word count is not the kind's.
-pub fn is_skipped(hint: &Hint) -> bool {
+pub fn is_skipped(hint: &HintRecord) -> bool {
     let n = word_count(hint.kind);
     n == 0 || n != hint.words as usize
 }
 
 /// The places of a hint that are looked at.
-pub fn looked_at(hint: &Hint) -> &[Place] {
+pub fn looked_at(hint: &HintRecord) -> &[HintInsn] {
     if is_skipped(hint) { &[] } else { &hint.places[..hint.words as usize] }
 }
 
 /// Whether a word of a hint ends past its part.
-pub fn ends_past(hint: &Hint) -> bool {
+pub fn ends_past(hint: &HintRecord) -> bool {
     looked_at(hint).iter().any(|p| u64::from(p.offset) + 4 > u64::from(hint.length))
 }
 
@@ -55,17 +55,17 @@ pub struct Answer {
 const TALLY: [u32; 4] = [0x5eed_0001, 0x5eed_0002, 0x5eed_0003, 0x5eed_0004];
 
 impl Case {
-    pub fn new(image: Vec<u8>, hints: &[Hint], entries: &[Reloc]) -> Self {
-        Self { image, hints: Hint::bytes(hints).to_vec(), entries: Reloc::bytes(entries).to_vec() }
+    pub fn new(image: Vec<u8>, hints: &[HintRecord], entries: &[Reloc]) -> Self {
+        Self { image, hints: HintRecord::bytes(hints).to_vec(), entries: Reloc::bytes(entries).to_vec() }
     }
 
     /// The hints of a whole list.
-    pub fn list(&self) -> Vec<Hint> {
-        Hint::list(&self.hints).expect("whole hints")
+    pub fn list(&self) -> Vec<HintRecord> {
+        HintRecord::list(&self.hints).expect("whole hints")
     }
 
-    pub fn set_list(&mut self, list: &[Hint]) {
-        self.hints = Hint::bytes(list).to_vec();
+    pub fn set_list(&mut self, list: &[HintRecord]) {
+        self.hints = HintRecord::bytes(list).to_vec();
     }
 
     fn refused(&self, number: u8) -> Answer {
@@ -74,7 +74,7 @@ impl Case {
 
     fn show(&self) -> String {
         let Self { image, hints, entries } = self;
-        let hints: String = hints.chunks(Hint::SIZE).map(|h| format!("\n    hint {}", hex(h))).collect();
+        let hints: String = hints.chunks(HintRecord::SIZE).map(|h| format!("\n    hint {}", hex(h))).collect();
         format!("apply_hints: image {}{hints}\n    entries {}", hex(image), hex(entries))
     }
 }
@@ -83,7 +83,7 @@ impl Case {
 pub fn of_lengths(hints: usize, entries: usize) -> Option<u8> {
     let most = u32::MAX as usize;
     let is_list = |len: usize, size: usize| len.is_multiple_of(size) && len / size <= most;
-    (!is_list(hints, Hint::SIZE) || !is_list(entries, Reloc::SIZE)).then_some(1)
+    (!is_list(hints, HintRecord::SIZE) || !is_list(entries, Reloc::SIZE)).then_some(1)
 }
 
 /// The Rust's answer. It finds a refusal only at a hint's turn: the first one by list position is found by
@@ -98,7 +98,7 @@ pub fn rust(case: &Case, world: &World) -> Result<Answer, Difference> {
         Ok(answer) => return linked(case, answer, world),
         Err(stop) => stop,
     };
-    let alone = case.hints.chunks(Hint::SIZE).find_map(|h| run(h).err());
+    let alone = case.hints.chunks(HintRecord::SIZE).find_map(|h| run(h).err());
     let stop = alone.unwrap_or(stop);
     match stop.number {
         Some(number) => Ok(case.refused(number)),
@@ -204,11 +204,11 @@ fn record_answer(case: &Case, answer: &Answer, table: &mut Table) {
 }
 
 /// The words of a hint as they stand in the lent image.
-fn named(case: &Case, hint: &Hint) -> Vec<Named> {
-    let one = |p: &Place| {
+fn named(case: &Case, hint: &HintRecord) -> Vec<Named> {
+    let one = |p: &HintInsn| {
         let at = hint.start as usize + p.offset as usize;
         let word = u32::from_le_bytes(case.image[at..at + 4].try_into().expect("4 bytes"));
-        let entry = (p.entry != Place::WITHOUT_ENTRY).then(|| {
+        let entry = (p.entry != HintInsn::WITHOUT_ENTRY).then(|| {
             let at = 24 * p.entry as usize;
             Reloc::from_bytes(&case.entries[at..at + 24]).expect("an entry")
         });
@@ -218,7 +218,7 @@ fn named(case: &Case, hint: &Hint) -> Vec<Named> {
 }
 
 /// Several objects, and the order of their hints.
-fn record_order(list: &[Hint], hit: &mut impl FnMut(HintList)) {
+fn record_order(list: &[HintRecord], hit: &mut impl FnMut(HintList)) {
     let objects: BTreeSet<_> = list.iter().map(|h| h.object).collect();
     if objects.len() > 1 {
         hit(HintList::Objects);
@@ -231,7 +231,7 @@ fn record_order(list: &[Hint], hit: &mut impl FnMut(HintList)) {
     if runs.len() > objects.len() {
         hit(HintList::Mixed);
     }
-    let comes_early = |(i, h): (usize, &Hint)| {
+    let comes_early = |(i, h): (usize, &HintRecord)| {
         h.kind == 1 && list[i + 1..].iter().any(|later| later.object == h.object && (2..9).contains(&later.kind))
     };
     if list.iter().enumerate().any(comes_early) {
@@ -240,7 +240,7 @@ fn record_order(list: &[Hint], hit: &mut impl FnMut(HintList)) {
 }
 
 /// Words that are named twice, and words that overlap, of one hint and of several.
-fn record_sharing(list: &[Hint], hit: &mut impl FnMut(HintList)) {
+fn record_sharing(list: &[HintRecord], hit: &mut impl FnMut(HintList)) {
     let mut before: BTreeMap<u64, usize> = BTreeMap::new();
     for (i, hint) in list.iter().enumerate() {
         for p in looked_at(hint) {

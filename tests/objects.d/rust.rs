@@ -2,7 +2,7 @@
 
 use oracle::Stop;
 use relink::Calls;
-use relink::hauklivo::{Hint, MachRel, Record, Refusal, Reloc, Report, Resolved, Tally};
+use relink::hauklivo::{HintRecord, MachRel, Record, Refusal, Reloc, Report, Resolved, Tally};
 
 pub const RUST: Calls = Calls {
     read_relocs,
@@ -54,8 +54,8 @@ fn apply_reloc_alloc(
     }
 }
 
-fn apply_hints(image: &mut [u8], hints: &[Hint], entries: &[Reloc]) -> Result<Tally, Refusal> {
-    match oracle::apply_hints(image, Hint::bytes(hints), Reloc::bytes(entries)) {
+fn apply_hints(image: &mut [u8], hints: &[HintRecord], entries: &[Reloc]) -> Result<Tally, Refusal> {
+    match oracle::apply_hints(image, HintRecord::bytes(hints), Reloc::bytes(entries)) {
         Ok(run) => {
             let [rewritten, skipped, declined, turned_down] = run.tally;
             Ok(Tally { rewritten, skipped, declined, turned_down })
@@ -65,9 +65,9 @@ fn apply_hints(image: &mut [u8], hints: &[Hint], entries: &[Reloc]) -> Result<Ta
 }
 
 /// The image after the Rust's own walk over the hints; None where that walk cannot say it.
-pub fn walked(image: &[u8], hints: &[Hint], entries: &[Reloc]) -> Option<Vec<u8>> {
+pub fn walked(image: &[u8], hints: &[HintRecord], entries: &[Reloc]) -> Option<Vec<u8>> {
     let mut image = image.to_vec();
-    let done = oracle::apply_hints_linked(&mut image, Hint::bytes(hints), Reloc::bytes(entries))?;
+    let done = oracle::apply_hints_linked(&mut image, HintRecord::bytes(hints), Reloc::bytes(entries))?;
     done.expect("the hints of an object do not stop the Rust");
     Some(image)
 }

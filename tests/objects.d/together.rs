@@ -1,6 +1,6 @@
 //! The hints of all objects in one run, interleaved.
 
-use relink::hauklivo::{Hint, Place, Reloc, Tally};
+use relink::hauklivo::{HintInsn, HintRecord, Reloc, Tally};
 use relink::{Linked, PORT};
 
 use crate::rust::RUST;
@@ -11,7 +11,7 @@ pub struct Together {
     fixed: Vec<u8>,
     finished: Vec<u8>,
     entries: Vec<Reloc>,
-    objects: Vec<Vec<Hint>>,
+    objects: Vec<Vec<HintRecord>>,
     tally: Tally,
 }
 
@@ -19,12 +19,12 @@ impl Together {
     pub fn add(&mut self, linked: &Linked) {
         let (start, entry) = (self.fixed.len() as u32, self.entries.len() as u32);
         let object = self.objects.len() as u32;
-        let moved = |hint: &Hint| {
+        let moved = |hint: &HintRecord| {
             let places = hint.places.map(|place| match place.entry {
-                Place::WITHOUT_ENTRY => place,
-                number => Place { entry: entry + number, ..place },
+                HintInsn::WITHOUT_ENTRY => place,
+                number => HintInsn { entry: entry + number, ..place },
             });
-            Hint { object, start: start + hint.start, places, ..*hint }
+            HintRecord { object, start: start + hint.start, places, ..*hint }
         };
         self.objects.push(linked.hints.lent.iter().map(moved).collect());
         self.fixed.extend(&linked.fixed);
@@ -42,7 +42,7 @@ impl Together {
     pub fn differences(&self) -> Vec<String> {
         let longest = self.objects.iter().map(Vec::len).max().unwrap_or(0);
         let turn = |i: usize| self.objects.iter().rev().filter_map(move |hints| hints.get(i).copied());
-        let hints: Vec<Hint> = (0..longest).flat_map(turn).collect();
+        let hints: Vec<HintRecord> = (0..longest).flat_map(turn).collect();
         let differs = |(name, calls): &(&str, _)| {
             let calls: &relink::Calls = calls;
             let mut image = self.fixed.clone();

@@ -1,6 +1,6 @@
 //! The calls that the work is done by.
 
-use hauklivo::{Hint, MachRel, Refusal, Reloc, Report, Resolved, Tally, typed};
+use hauklivo::{HintRecord, MachRel, Refusal, Reloc, Report, Resolved, Tally, typed};
 
 /// Records of a section's contents, with the addresses of all sections, into entries; how many.
 pub type ReadRelocs =
@@ -17,7 +17,7 @@ pub type ApplyRelocAlloc = fn(
 ) -> Result<usize, Refusal>;
 
 /// Runs hints on an image.
-pub type ApplyHints = fn(image: &mut [u8], hints: &[Hint], entries: &[Reloc]) -> Result<Tally, Refusal>;
+pub type ApplyHints = fn(image: &mut [u8], hints: &[HintRecord], entries: &[Reloc]) -> Result<Tally, Refusal>;
 
 /// The calls. [`PORT`] has those of the proved library.
 #[derive(Clone, Copy)]

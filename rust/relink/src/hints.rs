@@ -2,7 +2,7 @@
 
 use std::collections::HashMap;
 
-use hauklivo::{Hint, Place, Reloc, Tally, kind};
+use hauklivo::{HintInsn, HintRecord, Reloc, Tally, kind};
 
 use crate::Fault;
 use crate::calls::Calls;
@@ -94,7 +94,7 @@ pub struct HintRun {
     /// In the order of work: ADRP_ADRP after all others.
     pub hints: Vec<LinkedHint>,
     /// The hints as they were lent; a hint's part of the image is its section.
-    pub lent: Vec<Hint>,
+    pub lent: Vec<HintRecord>,
     /// Entries of all sections, one list after another, which the hints name by number.
     pub entries: Vec<Reloc>,
     /// The counts of the run.
@@ -141,9 +141,9 @@ pub fn run(object: &Object, sections: &[LinkedSection], calls: &Calls, image: &m
 }
 
 /// The words that a lent hint names, with their addresses.
-fn image_words(image: &[u8], hint: &Hint) -> Vec<(u64, u32)> {
+fn image_words(image: &[u8], hint: &HintRecord) -> Vec<(u64, u32)> {
     let places = &hint.places[..usize::from(hint.words).min(3)];
-    let word = |p: &Place| Some((p.address, word_at(image, hint.start as usize + p.offset as usize)?));
+    let word = |p: &HintInsn| Some((p.address, word_at(image, hint.start as usize + p.offset as usize)?));
     places.iter().filter(|_| hint.length > 0).filter_map(word).collect()
 }
 
@@ -203,10 +203,10 @@ impl<'a> Finder<'a> {
     }
 
     /// A hint as it is lent; None where its words are not in one section.
-    fn record(&self, hint: &ObjectHint) -> Option<Hint> {
+    fn record(&self, hint: &ObjectHint) -> Option<HintRecord> {
         let kind = u8::try_from(hint.kind).unwrap_or(u8::MAX);
         let words = u8::try_from(hint.words.len()).unwrap_or(u8::MAX);
-        let mut record = Hint { kind, words, ..Hint::default() };
+        let mut record = HintRecord { kind, words, ..HintRecord::default() };
         if row(hint.kind).map(|(_, words, _)| words) != Some(hint.words.len()) {
             return Some(record);
         }
@@ -218,7 +218,7 @@ impl<'a> Finder<'a> {
             let offset = word.checked_sub(address).filter(|&o| o < size && size - o >= 4)?;
             place.offset = offset as u32;
             place.address = section.address + offset;
-            place.entry = *self.entries.get(&(section.section, place.offset)).unwrap_or(&Place::WITHOUT_ENTRY);
+            place.entry = *self.entries.get(&(section.section, place.offset)).unwrap_or(&HintInsn::WITHOUT_ENTRY);
         }
         Some(record)
     }

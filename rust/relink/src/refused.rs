@@ -1,6 +1,6 @@
 //! A call's refusal as a fault, with the record that it is for.
 
-use hauklivo::{Hint, MachRel, Record, Refusal, Reloc, Resolved, position, ty};
+use hauklivo::{HintRecord, MachRel, Record, Refusal, Reloc, Resolved, position, ty};
 
 use crate::Fault;
 use crate::link::LinkedSection;
@@ -23,8 +23,8 @@ pub fn fixing(section: &Section, linked: &LinkedSection, refusal: Refusal) -> Fa
 }
 
 /// The hint run's, of hints with these numbers in the object.
-pub fn working(image: &[u8], hints: &[Hint], numbers: &[usize], entries: &[Reloc], refusal: Refusal) -> Fault {
-    let at = position::in_hints(refusal, image, Hint::bytes(hints), Reloc::bytes(entries));
+pub fn working(image: &[u8], hints: &[HintRecord], numbers: &[usize], entries: &[Reloc], refusal: Refusal) -> Fault {
+    let at = position::in_hints(refusal, image, HintRecord::bytes(hints), Reloc::bytes(entries));
     Fault::refused("the hints", refusal, at.map(|at| format!("hint {}", numbers[at])))
 }
 

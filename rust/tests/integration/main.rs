@@ -7,7 +7,7 @@ use std::collections::BTreeMap;
 use std::ops::Range;
 use std::path::Path;
 
-use hauklivo::{Hint, Place, Record, Report, Resolved, flag, position, ty};
+use hauklivo::{HintInsn, HintRecord, Record, Report, Resolved, flag, position, ty};
 use linker::*;
 
 /// A relocation record of a mapped file.
@@ -153,7 +153,7 @@ fn write_thunk(ctx: &Context<Arm64>, addr: u64, syms: &[SymbolId], buf: &mut [u8
     }
 }
 
-fn hint_insns(ctx: &Context<Arm64>, obj: &ObjectFile, addrs: &[u64]) -> Option<(usize, Range<usize>, [Place; 3])> {
+fn hint_insns(ctx: &Context<Arm64>, obj: &ObjectFile, addrs: &[u64]) -> Option<(usize, Range<usize>, [HintInsn; 3])> {
     let id = obj.hint_subsec(&ctx.isecs, addrs)?;
     let isec = &ctx.isecs[id];
     if !isec.is_emitted() || isec.offset == u32::MAX {
@@ -161,7 +161,7 @@ fn hint_insns(ctx: &Context<Arm64>, obj: &ObjectFile, addrs: &[u64]) -> Option<(
     }
     let hdr = ctx.chunk_header(isec.output_section()?);
     let rels = isec.rels(&ctx.objs[isec.file as usize]);
-    let mut places = [Place::default(); 3];
+    let mut places = [HintInsn::default(); 3];
     for (place, &addr) in places.iter_mut().zip(addrs) {
         let off = addr - isec.input_addr as u64;
         if off + 4 > isec.size as u64 {
@@ -169,9 +169,9 @@ fn hint_insns(ctx: &Context<Arm64>, obj: &ObjectFile, addrs: &[u64]) -> Option<(
         }
         let i = rels.partition_point(|r| (r.offset as u64) < off);
         let has_rel = rels.get(i).is_some_and(|r| r.offset as u64 == off);
-        *place = Place {
+        *place = HintInsn {
             offset: u32::try_from(off).ok()?,
-            entry: if has_rel { i as u32 } else { Place::WITHOUT_ENTRY },
+            entry: if has_rel { i as u32 } else { HintInsn::WITHOUT_ENTRY },
             address: hdr.addr + isec.offset as u64 + off,
         };
     }
@@ -181,7 +181,7 @@ fn hint_insns(ctx: &Context<Arm64>, obj: &ObjectFile, addrs: &[u64]) -> Option<(
 
 fn apply_hints(ctx: &Context<Arm64>, buf: &mut [u8]) {
     for obj in ctx.objs.iter().filter(|obj| obj.is_reachable) {
-        let mut parts = BTreeMap::<usize, (Range<usize>, Vec<Hint>)>::new(); // by subsection
+        let mut parts = BTreeMap::<usize, (Range<usize>, Vec<HintRecord>)>::new(); // by subsection
         for (kind, addrs) in &obj.loh {
             let words = match *kind {
                 1 | 2 | 7 | 8 => 2,
@@ -192,13 +192,13 @@ fn apply_hints(ctx: &Context<Arm64>, buf: &mut [u8]) {
                 continue;
             }
             let Some((id, range, places)) = hint_insns(ctx, obj, addrs) else { continue };
-            let hint = Hint { kind: *kind, words, length: range.len() as u32, places, ..Hint::default() };
+            let hint = HintRecord { kind: *kind, words, length: range.len() as u32, places, ..HintRecord::default() };
             parts.entry(id).or_insert((range, Vec::new())).1.push(hint);
         }
         for (id, (range, hints)) in parts {
             let isec = &ctx.isecs[id];
             let entries = Reloc::bytes(isec.rels(&ctx.objs[isec.file as usize]));
-            match hauklivo::apply_hints(&mut buf[range], Hint::bytes(&hints), entries) {
+            match hauklivo::apply_hints(&mut buf[range], HintRecord::bytes(&hints), entries) {
                 Ok(_tally) => {} // rewritten, declined, turned down by 9: for --stats
                 Err(refusal) => fatal!("{}: hints: {refusal}", obj.mf.name.display()),
             }
