@@ -19,6 +19,9 @@ use Rattle.macho.specs.declared.hint.HintInsn.{HintInsn}
 use Rattle.macho.specs.declared.hint.HintRecord.{HintRecord}
 use Rattle.macho.specs.declared.refusal.Refusal.{Refusal}
 use Rattle.macho.specs.declared.refusal.Refusal.the-variants.{Lengths}
+use Rattle.macho.specs.Refusal.{checkNumber}
+use Rattle.macho.specs.declared.refusal.Check.{Check}
+use Rattle.macho.specs.declared.refusal.Check.the-variants.{Fit, Refused}
 use Rattle.arm64_hint_order.specs.Cursor.{objectAt}
 use Rattle.arm64_hint_order.specs.Walk.{grouped, lastOf}
 use Rattle.arm64_hint_order.proofs.Walk.{grouped-step}
@@ -26,12 +29,10 @@ use Rattle.arm64_hint_words.specs.Place.{InBytes}
 use Rattle.arm64_hint_words.specs.Entry.{InEntries}
 use Rattle.arm64_hint_places.specs.Hint.{isSkipped, insnsIn, Inside, Named}
 use Rattle.arm64_hint_places.proofs.Places.{neither, by-count}
-use Rattle.arm64_hint_check.specs.Check.{isList, checkLists, partPast, endsPast, namesAbsent, anyOf, checkHint, first, checkTo, checkAll, checkedAs}
-use Rattle.arm64_hint_check.specs.declared.Check.{Check}
-use Rattle.arm64_hint_check.specs.declared.Check.the-variants.{Fine, Refused}
+use Rattle.arm64_hint_check.specs.Check.{isList, checkLists, partPast, endsPast, namesAbsent, anyOf, checkHint, first, checkTo, checkAll, checkedAs, checkedNumber}
 use Rattle.arm64_hint_check.specs.declared.Checked.the-variants as Said
 
-never : {x : Refusal} → Refused x ≡ Fine → ⊥
+never : {x : Refusal} → Refused x ≡ Fit → ⊥
 never q = let z : _≡_ {A = ℕ} 0 1 = cc in omega arith
 
 -- ---- a test of the places, one after another
@@ -88,17 +89,17 @@ none-absent count bytes e (i ∷ insns) q =
 
 -- ---- a hint that is not skipped, and not turned down
 
-module _ (len count : ℕ) (h : HintRecord) (e : isSkipped h ≡ false) (fine : checkHint len count h ≡ Fine) where
+module _ (len count : ℕ) (h : HintRecord) (e : isSkipped h ≡ false) (fit : checkHint len count h ≡ Fit) where
   tests : (partPast len h ≡ false) × (anyOf (endsPast (h .len)) (insnsIn h) ≡ false) × (anyOf (namesAbsent count) (insnsIn h) ≡ false)
   unfolding checkHint
   tests =
       split P (partPast len h) _ _ (λ a q. absurd (never q))
       (λ a q. split P (anyOf (endsPast (h .len)) (insnsIn h)) _ _ (λ b r. absurd (never r))
       (λ b r. split P (anyOf (namesAbsent count) (insnsIn h)) _ _ (λ c s. absurd (never s)) (λ c s. (a, b, c)) r) q)
-      (sym (choose-false (isSkipped h) _ _ e) ∙ fine)
+      (sym (choose-false (isSkipped h) _ _ e) ∙ fit)
     where
       P : Check → Type 0
-      P c = c ≡ Fine → (partPast len h ≡ false) × (anyOf (endsPast (h .len)) (insnsIn h) ≡ false) × (anyOf (namesAbsent count) (insnsIn h) ≡ false)
+      P c = c ≡ Fit → (partPast len h ≡ false) × (anyOf (endsPast (h .len)) (insnsIn h) ≡ false) × (anyOf (namesAbsent count) (insnsIn h) ≡ false)
 
   -- its part is inside the image
   part-inside : h .start + h .len ≤ len
@@ -118,9 +119,9 @@ pub record Ready (len bytes : ℕ) (h : HintRecord) : Type 0 where
   pub words : Inside h (h .len)
   pub entries : Named h bytes
 
-pub ready : (len bytes : ℕ) (h g : HintRecord) → h ≡ g → checkHint len (bytes / 24) g ≡ Fine → isSkipped h ≡ false → Ready len bytes h
-ready len bytes h g e fine works =
-    let f : checkHint len (bytes / 24) h ≡ Fine = ap (checkHint len (bytes / 24)) e ∙ fine in
+pub ready : (len bytes : ℕ) (h g : HintRecord) → h ≡ g → checkHint len (bytes / 24) g ≡ Fit → isSkipped h ≡ false → Ready len bytes h
+ready len bytes h g e fit works =
+    let f : checkHint len (bytes / 24) h ≡ Fit = ap (checkHint len (bytes / 24)) e ∙ fit in
     record {
       part = part-inside len (bytes / 24) h works f;
       words = words-inside len (bytes / 24) h works f;
@@ -129,12 +130,12 @@ ready len bytes h g e fine works =
 
 -- ---- the hints one after another
 
-both-fine : (a b : Check) → first a b ≡ Fine → (a ≡ Fine) × (b ≡ Fine)
-both-fine Fine b e = (refl, e)
-both-fine (Refused x) b e = absurd (never e)
+both-fit : (a b : Check) → first a b ≡ Fit → (a ≡ Fit) × (b ≡ Fit)
+both-fit Fit b e = (refl, e)
+both-fit (Refused x) b e = absurd (never e)
 
 module _ (len count : ℕ) (hints : List ℕ) where
-  pub check-more : (k : ℕ) → checkTo len count hints k ≡ Fine → checkHint len count (hintOf hints k) ≡ Fine → checkTo len count hints (k + 1) ≡ Fine
+  pub check-more : (k : ℕ) → checkTo len count hints k ≡ Fit → checkHint len count (hintOf hints k) ≡ Fit → checkTo len count hints (k + 1) ≡ Fit
   unfolding checkTo
   check-more k e q = rw (add-one k) (ap (λ (c : Check). first c (checkHint len count (hintOf hints k))) e ∙ q)
 
@@ -147,17 +148,17 @@ module _ (len count : ℕ) (hints : List ℕ) where
       (λ (w : k < suc n). ap (λ (c : Check). first c (checkHint len count (hintOf hints n))) (stays n k x (le-of-suc-le-suc w) e))
       (eq-or-lt-of-le h)
 
-  pub check-stop : (n k : ℕ) (x : Refusal) → k < n → checkTo len count hints k ≡ Fine → checkHint len count (hintOf hints k) ≡ Refused x
+  pub check-stop : (n k : ℕ) (x : Refusal) → k < n → checkTo len count hints k ≡ Fit → checkHint len count (hintOf hints k) ≡ Refused x
       → checkTo len count hints n ≡ Refused x
   unfolding checkTo
   check-stop n k x h e q = stays n (suc k) x h (ap (λ (c : Check). first c (checkHint len count (hintOf hints k))) e ∙ q)
 
-  pub fine-at : (n : ℕ) → checkTo len count hints n ≡ Fine → (k : ℕ) → k < n → checkHint len count (hintOf hints k) ≡ Fine
+  pub fit-at : (n : ℕ) → checkTo len count hints n ≡ Fit → (k : ℕ) → k < n → checkHint len count (hintOf hints k) ≡ Fit
   unfolding checkTo
-  fine-at zero e k h = absurd (not-suc-le-zero h)
-  fine-at (suc n) e k h =
-      let t = both-fine (checkTo len count hints n) (checkHint len count (hintOf hints n)) e in
-      ⊎-elim (λ (w : k ≡ n). ap (λ (j : ℕ). checkHint len count (hintOf hints j)) w ∙ t .1) (λ (w : k < n). fine-at n (t .0) k w)
+  fit-at zero e k h = absurd (not-suc-le-zero h)
+  fit-at (suc n) e k h =
+      let t = both-fit (checkTo len count hints n) (checkHint len count (hintOf hints n)) e in
+      ⊎-elim (λ (w : k ≡ n). ap (λ (j : ℕ). checkHint len count (hintOf hints j)) w ∙ t .1) (λ (w : k < n). fit-at n (t .0) k w)
       (eq-or-lt-of-le (le-of-suc-le-suc h))
 
 -- ---- with whether their object numbers never fall
@@ -183,20 +184,26 @@ pub says-refused : {c : Check} (g : Bool) {x : Refusal} → c ≡ Refused x → 
 unfolding checkedAs
 says-refused g e = sym (ap (λ (c : Check). checkedAs c g) e)
 
-pub says-fine : {c : Check} {f : Bool} (g : Bool) → c ≡ Fine → f ≡ g → Said.Fine f ≡ checkedAs c g
+pub says-fit : {c : Check} {f : Bool} (g : Bool) → c ≡ Fit → f ≡ g → Said.Fit f ≡ checkedAs c g
 unfolding checkedAs
-says-fine g e q = ap Said.Fine q ∙ sym (ap (λ (c : Check). checkedAs c g) e)
+says-fit g e q = ap Said.Fit q ∙ sym (ap (λ (c : Check). checkedAs c g) e)
 
 -- and what the word tells of the check
 pub told-refused : (c : Check) (g : Bool) (x : Refusal) → checkedAs c g ≡ Said.Refused x → c ≡ Refused x
 unfolding checkedAs
-told-refused Fine g x e = let z : _≡_ {A = ℕ} 0 1 = cc in absurd (omega arith)
+told-refused Fit g x e = let z : _≡_ {A = ℕ} 0 1 = cc in absurd (omega arith)
 told-refused (Refused y) g x e = cc
 
-pub told-fine : (c : Check) (f g : Bool) → checkedAs c g ≡ Said.Fine f → (c ≡ Fine) × (f ≡ g)
+pub told-fit : (c : Check) (f g : Bool) → checkedAs c g ≡ Said.Fit f → (c ≡ Fit) × (f ≡ g)
 unfolding checkedAs
-told-fine Fine f g e = (refl, cc)
-told-fine (Refused y) f g e = let z : _≡_ {A = ℕ} 0 1 = cc in absurd (omega arith)
+told-fit Fit f g e = (refl, cc)
+told-fit (Refused y) f g e = let z : _≡_ {A = ℕ} 0 1 = cc in absurd (omega arith)
+
+-- its number is the check's
+pub same-number : (c : Check) (g : Bool) → checkedNumber (checkedAs c g) ≡ checkNumber c
+unfolding checkedAs
+same-number Fit g = refl
+same-number (Refused x) g = refl
 
 -- ---- the whole check
 
@@ -205,22 +212,22 @@ module _ (len : ℕ) (hints : List ℕ) (entries : ℕ) where
   unfolding checkAll
   all-refused x e = ap (λ (c : Check). first c (checkTo len (entries / 24) hints (hintCount hints))) e
 
-  pub all-hints : (g : Bool) → checkLists (length hints) entries ≡ Fine
+  pub all-hints : (g : Bool) → checkLists (length hints) entries ≡ Fit
       → checkedAs (checkTo len (entries / 24) hints (hintCount hints)) g ≡ checkedAs (checkAll len hints entries) g
   unfolding checkAll
   all-hints g e = sym (ap (λ (c : Check). checkedAs (first c (checkTo len (entries / 24) hints (hintCount hints))) g) e)
 
-  module _ (fine : checkAll len hints entries ≡ Fine) where
+  module _ (fit : checkAll len hints entries ≡ Fit) where
     pub few-hints : hintCount hints < 2 ^ 32
     unfolding checkAll checkLists isList
     few-hints =
-        let t = both-fine (checkLists (length hints) entries) (checkTo len (entries / 24) hints (hintCount hints)) fine in
-        let l = choose-first (isList (length hints) 64 && isList entries 24) Fine (Refused Lengths) Fine (t .0) (λ q. never q) in
+        let t = both-fit (checkLists (length hints) entries) (checkTo len (entries / 24) hints (hintCount hints)) fit in
+        let l = choose-first (isList (length hints) 64 && isList entries 24) Fit (Refused Lengths) Fit (t .0) (λ q. never q) in
         let m = both (isList (length hints) 64) (isList entries 24) (l .0) in
         ltb-true (hintCount hints) (2 ^ 32) (both (eqb (length hints % 64) 0) (ltb (hintCount hints) (2 ^ 32)) (m .0) .1)
 
-    pub each-fine : (k : ℕ) → k < hintCount hints → checkHint len (entries / 24) (hintOf hints k) ≡ Fine
+    pub each-fit : (k : ℕ) → k < hintCount hints → checkHint len (entries / 24) (hintOf hints k) ≡ Fit
     unfolding checkAll
-    each-fine =
-        fine-at len (entries / 24) hints (hintCount hints)
-        (both-fine (checkLists (length hints) entries) (checkTo len (entries / 24) hints (hintCount hints)) fine .1)
+    each-fit =
+        fit-at len (entries / 24) hints (hintCount hints)
+        (both-fit (checkLists (length hints) entries) (checkTo len (entries / 24) hints (hintCount hints)) fit .1)

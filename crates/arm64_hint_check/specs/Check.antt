@@ -9,9 +9,10 @@ use Rattle.macho.specs.Hint.{noEntry, hintCount, hintOf}
 use Rattle.macho.specs.declared.hint.HintInsn.{HintInsn}
 use Rattle.macho.specs.declared.hint.HintRecord.{HintRecord}
 use Rattle.macho.specs.declared.refusal.Refusal.the-variants.{Lengths, Bounds, NoEntry}
+use Rattle.macho.specs.declared.refusal.Check.{Check}
+use Rattle.macho.specs.declared.refusal.Check.the-variants.{Fit, Refused}
+use Rattle.macho.specs.Refusal.{numberOf}
 use Rattle.arm64_hint_places.specs.Hint.{isSkipped, insnsIn}
-use Rattle.arm64_hint_check.specs.declared.Check.{Check}
-use Rattle.arm64_hint_check.specs.declared.Check.the-variants.{Fine, Refused}
 use Rattle.arm64_hint_check.specs.declared.Checked.{Checked}
 use Rattle.arm64_hint_check.specs.declared.Checked.the-variants as Said
 
@@ -21,7 +22,7 @@ isList len size = eqb (len % size) 0 && ltb (len / size) (2 ^ 32)
 
 -- number 1: the lengths of hints and entries in bytes
 unfoldable pub checkLists : ℕ → ℕ → Check
-checkLists hints entries = choose (isList hints 64 && isList entries 24) Fine (Refused Lengths)
+checkLists hints entries = choose (isList hints 64 && isList entries 24) Fit (Refused Lengths)
 
 -- number 3: the part ends past an image of len bytes
 abbrev pub partPast : ℕ → HintRecord → Bool
@@ -43,19 +44,19 @@ anyOf test (i ∷ is) = test i || anyOf test is
 -- the numbers of one hint, for an image of len bytes and a number of entries; a skipped hint is not looked at, nor a place past the word count
 unfoldable pub checkHint : ℕ → ℕ → HintRecord → Check
 checkHint len count h =
-    choose (isSkipped h) Fine
+    choose (isSkipped h) Fit
     (choose (partPast len h) (Refused Bounds)
     (choose (anyOf (endsPast (h .len)) (insnsIn h)) (Refused Bounds)
-    (choose (anyOf (namesAbsent count) (insnsIn h)) (Refused NoEntry) Fine)))
+    (choose (anyOf (namesAbsent count) (insnsIn h)) (Refused NoEntry) Fit)))
 
 -- the first refusal of two checks
 abbrev pub first : Check → Check → Check
 first (Refused x) c = Refused x
-first Fine c = c
+first Fit c = c
 
 -- the first refusal among the first k hints
 unfoldable pub checkTo : ℕ → ℕ → List ℕ → ℕ → Check
-checkTo len count hints zero = Fine
+checkTo len count hints zero = Fit
 checkTo len count hints (suc k) = first (checkTo len count hints k) (checkHint len count (hintOf hints k))
 
 -- the first refusal of a run
@@ -64,5 +65,10 @@ checkAll len hints entries = first (checkLists (length hints) entries) (checkTo 
 
 -- a check's word, with whether the hints are grouped
 unfoldable pub checkedAs : Check → Bool → Checked
-checkedAs Fine g = Said.Fine g
+checkedAs Fit g = Said.Fit g
 checkedAs (Refused x) g = Said.Refused x
+
+-- its number: 0 where all hints are fit
+abbrev pub checkedNumber : Checked → ℕ
+checkedNumber (Said.Fit rises) = 0
+checkedNumber (Said.Refused x) = numberOf x

@@ -2,6 +2,7 @@
 use arm64_hint_places::is_skipped;
 use macho::hint::HintInsn;
 use macho::hint::HintRecord;
+use macho::refusal::Check;
 use macho::refusal::Refusal;
 ghost use mathlib.Core.Path.{_≡_};
 ghost use mathlib.Core.Bool.{false};
@@ -13,15 +14,9 @@ ghost use Rattle.arm64_hint_order.specs.Walk.{grouped};
 ghost use Rattle.arm64_hint_places.specs.Hint.{isSkipped, insnsIn};
 ghost use Rattle.arm64_hint_check.specs.Check.{isList, checkLists, endsPast, namesAbsent, anyOf, checkHint, checkTo, checkAll, checkedAs};
 
-// What a check says.
-pub enum Check {
-    Fine,
-    Refused(Refusal),
-}
-
-// What the check of all hints says: whether they come by rising object number, or the first refusal.
+// What the check of all hints says: Fit(rises), whether they come by rising object number, or the first refusal.
 pub enum Checked {
-    Fine(bool),
+    Fit(bool),
     Refused(Refusal),
 }
 
@@ -43,7 +38,7 @@ fn check_lists(hints: usize, entries: usize) -> Check
     if !is_list(entries, 24) {
         return Check::Refused(Refusal::Lengths);
     }
-    Check::Fine
+    Check::Fit
 }
 
 // Whether a place's word ends past a part of len bytes.
@@ -109,7 +104,7 @@ fn check_hint(len: usize, count: usize, h: HintRecord) -> Check
     ensures { λ r. ⌜ r ≡ checkHint len count h ⌝ }
 {
     if is_skipped(h) {
-        return Check::Fine;
+        return Check::Fit;
     }
     if len < h.start as usize + h.len as usize {
         return Check::Refused(Refusal::Bounds);
@@ -120,7 +115,7 @@ fn check_hint(len: usize, count: usize, h: HintRecord) -> Check
     if entry_absent(count, h) {
         return Check::Refused(Refusal::NoEntry);
     }
-    Check::Fine
+    Check::Fit
 }
 
 // The first refusal among the hints, or whether their object numbers never fall.
@@ -140,14 +135,14 @@ fn check_hints(len: usize, hints: &[u8], count: usize) -> Checked
             Check::Refused(x) => {
                 return Checked::Refused(x);
             }
-            Check::Fine => {
+            Check::Fit => {
                 grouped = grouped && last <= h.object;
                 last = h.object;
                 k += 1;
             }
         }
     }
-    Checked::Fine(grouped)
+    Checked::Fit(grouped)
 }
 
 // The first refusal of a run over an image of len bytes, with the entries' length in bytes; or whether the hints' object numbers never fall.
@@ -156,6 +151,6 @@ pub fn check_all(len: usize, hints: &[u8], entries: usize) -> Checked
 {
     match check_lists(hints.len(), entries) {
         Check::Refused(x) => Checked::Refused(x),
-        Check::Fine => check_hints(len, hints, entries / 24),
+        Check::Fit => check_hints(len, hints, entries / 24),
     }
 }

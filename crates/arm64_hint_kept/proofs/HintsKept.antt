@@ -20,7 +20,7 @@ use Rattle.arm64_machine.specs.Machine.{Other, State}
 use Rattle.arm64_machine.specs.SameRun.{SameRun}
 use Rattle.arm64_machine.proofs.FairLaws as FairLaws
 use Rattle.arm64_hint_places.specs.Hint.{isSkipped}
-use Rattle.arm64_hint_check.proofs.Checks.{Ready, ready, each-fine}
+use Rattle.arm64_hint_check.proofs.Checks.{Ready, ready, each-fit}
 use Rattle.arm64_hint_work.specs.Step.{placesOf, stepsOf}
 use Rattle.arm64_hint_work.specs.declared.tally.Tally.{Tally}
 use Rattle.arm64_hint_work.proofs.Steps.{add-swap}
@@ -28,7 +28,7 @@ use Rattle.arm64_hint_run.specs.Run.{start, worked, runOf, imageOf}
 use Rattle.arm64_hint_run.specs.declared.run.RunAnswer.{RunAnswer}
 use Rattle.arm64_hint_run.specs.declared.run.RunAnswer.the-variants as A
 use Rattle.arm64_hint_run.proofs.Parts.{places-inside, in-part}
-use Rattle.arm64_hint_run.proofs.Answers.{done-fine, run-is}
+use Rattle.arm64_hint_run.proofs.Answers.{done-fit, run-is}
 use Rattle.arm64_hint_kept.specs.HintsKept.{codes, partBytes, wordBytes, Kept, PartsApart, Alone, Fair, Same, HintsKept, Premises, Literally}
 use Rattle.arm64_hint_kept.proofs.Step.{codes-same, addresses, step-same}
 
@@ -41,11 +41,11 @@ module _ (image hints entries : List ℕ) (t : Tally) (e : runOf image hints ent
   checked : (k : ℕ) → k < hintCount hints → isSkipped (hintOf hints k) ≡ false → Ready (length image) (length entries) (hintOf hints k)
   checked k l s =
       ready (length image) (length entries) (hintOf hints k) (hintOf hints k) refl
-      (each-fine (length image) hints (length entries) (done-fine image hints entries t e) k l) s
+      (each-fit (length image) hints (length entries) (done-fit image hints entries t e) k l) s
 
   -- a byte of a hint's words is one of its part
   inside-part : (k : ℕ) → k < hintCount hints → (b : ℕ) → wordBytes (hintOf hints k) b ≡ true → partBytes (hintOf hints k) b ≡ true
-  inside-part k l b w = let q = in-part image hints entries (done-fine image hints entries t e) k l b w in rw (q .0) (q .1)
+  inside-part k l b w = let q = in-part image hints entries (done-fit image hints entries t e) k l b w in rw (q .0) (q .1)
 
   -- a hint's step on an image as long as the lent one
   step : (k : ℕ) → k < hintCount hints → isSkipped (hintOf hints k) ≡ false → (x : List ℕ) → length x ≡ length image → Fair (hintOf hints k) x

@@ -1,6 +1,6 @@
--- What a run says beside its promise: LLVM's kinds are worked; too many records are number 1; a refusal leaves the image; a run that is done is the list of
--- its order of work, and its counts add up to the hints; a hint answered nine leaves its words and the run goes on; ADRP_ADRP on one word twice blanks it.
--- Carried by the choices of the definitions.
+-- What a run says beside its promise: LLVM's kinds are worked; too many records are number 1; the run's number is the check's; a refusal leaves the image;
+-- a run that is done is the list of its order of work, and its counts add up to the hints; a hint answered nine leaves its words and the run goes on;
+-- ADRP_ADRP on one word twice blanks it. Carried by the choices of the definitions.
 use mathlib.Core.Path.{_≡_, refl, sym, ap, _∙_}
 use mathlib.Core.Bool.{Bool, true, false, _&&_, _||_, not}
 use mathlib.Core.List.{List, [], _∷_, map}
@@ -18,6 +18,9 @@ use Rattle.macho.specs.declared.hint.HintInsn.{HintInsn}
 use Rattle.macho.specs.declared.hint.HintRecord.{HintRecord}
 use Rattle.macho.specs.declared.refusal.Refusal.{Refusal}
 use Rattle.macho.specs.declared.refusal.Refusal.the-variants.{Lengths}
+use Rattle.macho.specs.Refusal.{checkNumber}
+use Rattle.macho.specs.declared.refusal.Check.{Check}
+use Rattle.macho.specs.declared.refusal.Check.the-variants as C
 use Rattle.image.specs.Words.{wordsAt, putWords}
 use Rattle.image.specs.Steps.{Work, answered, written, stepOf}
 use Rattle.image.proofs.Words.{puts-none}
@@ -40,15 +43,13 @@ use Rattle.arm64_hint_order.proofs.Walk.{order-length}
 use Rattle.arm64_hint_places.specs.Hint.{isSkipped, insnsIn, insnsOf, relsOf}
 use Rattle.arm64_hint_places.proofs.Places.{insns-two, rels-two}
 use Rattle.arm64_hint_check.specs.Check.{isList, checkLists, first, checkTo, checkAll}
-use Rattle.arm64_hint_check.specs.declared.Check.{Check}
-use Rattle.arm64_hint_check.specs.declared.Check.the-variants as C
 use Rattle.arm64_hint_rules.specs.Rule.{outcomeOf, newsIn, newsOf}
 use Rattle.arm64_hint_rules.specs.declared.outcome.Outcome.{Outcome}
 use Rattle.arm64_hint_rules.specs.declared.outcome.Outcome.the-variants.{Skipped, Worked}
 use Rattle.arm64_hint_work.specs.Step.{placesOf, addDecision, addOutcome, total, stepsOf}
 use Rattle.arm64_hint_work.specs.declared.tally.Tally.{Tally}
 use Rattle.arm64_hint_work.proofs.Steps.{total-add}
-use Rattle.arm64_hint_run.specs.Run.{start, worked, answerBy, imageBy, runOf, imageOf}
+use Rattle.arm64_hint_run.specs.Run.{start, worked, answerBy, imageBy, runOf, imageOf, runNumber}
 use Rattle.arm64_hint_run.specs.declared.run.RunAnswer.the-variants as A
 
 both-fail : (a : Bool) {b : Bool} → b ≡ false → (a && b) ≡ false
@@ -71,7 +72,7 @@ module _ (image hints entries : List ℕ) where
   not-lists e =
       ap (λ (c : Check). answerBy (first c (checkTo (length image) (length entries / 24) hints (hintCount hints)))
       (worked image hints entries (orderOf hints) .tally))
-      (choose-false (isList (length hints) 64 && isList (length entries) 24) C.Fine (C.Refused Lengths) e)
+      (choose-false (isList (length hints) 64 && isList (length entries) 24) C.Fit (C.Refused Lengths) e)
 
   pub too-many-hints : 2 ^ 32 ≤ length hints / 64 → runOf image hints entries ≡ A.Refused Lengths
   unfolding isList
@@ -83,6 +84,15 @@ module _ (image hints entries : List ℕ) where
   too-many-entries h =
       not-lists (both-fail (isList (length hints) 64) (both-fail (eqb (length entries % 24) 0) (le-ltb (length entries / 24) (2 ^ 32) h)))
 
+  -- the run's number is the check's
+  pub number-is : runNumber (runOf image hints entries) ≡ checkNumber (checkAll (length image) hints (length entries))
+  unfolding runOf
+  number-is = go (checkAll (length image) hints (length entries))
+    where
+      go : (c : Check) → runNumber (answerBy c (worked image hints entries (orderOf hints) .tally)) ≡ checkNumber c
+      go C.Fit = refl
+      go (C.Refused x) = refl
+
   -- a refusal leaves the image
   pub refused-leaves : (x : Refusal) → runOf image hints entries ≡ A.Refused x → imageOf image hints entries ≡ image
   unfolding runOf imageOf
@@ -90,16 +100,16 @@ module _ (image hints entries : List ℕ) where
     where
       go : (c : Check) (w : Work Tally) → answerBy c (w .tally) ≡ A.Refused x → imageBy c image (w .image) ≡ image
       go (C.Refused y) w e = refl
-      go C.Fine w e = let z : _≡_ {A = ℕ} 0 1 = cc in absurd (omega arith)
+      go C.Fit w e = let z : _≡_ {A = ℕ} 0 1 = cc in absurd (omega arith)
 
   module _ (t : Tally) (done : runOf image hints entries ≡ A.Done t) where
     -- a run that is done found nothing to turn down
-    pub done-fine : checkAll (length image) hints (length entries) ≡ C.Fine
+    pub done-fit : checkAll (length image) hints (length entries) ≡ C.Fit
     unfolding runOf
-    done-fine = go (checkAll (length image) hints (length entries)) (worked image hints entries (orderOf hints)) done
+    done-fit = go (checkAll (length image) hints (length entries)) (worked image hints entries (orderOf hints)) done
       where
-        go : (c : Check) (w : Work Tally) → answerBy c (w .tally) ≡ A.Done t → c ≡ C.Fine
-        go C.Fine w e = refl
+        go : (c : Check) (w : Work Tally) → answerBy c (w .tally) ≡ A.Done t → c ≡ C.Fit
+        go C.Fit w e = refl
         go (C.Refused y) w e = let z : _≡_ {A = ℕ} 0 1 = cc in absurd (omega arith)
 
     -- its image and counts are those of the list of its order of work
@@ -108,7 +118,7 @@ module _ (image hints entries : List ℕ) where
     run-is = go (checkAll (length image) hints (length entries)) (worked image hints entries (orderOf hints)) done
       where
         go : (c : Check) (w : Work Tally) → answerBy c (w .tally) ≡ A.Done t → w ≡ record { image = imageBy c image (w .image); tally = t }
-        go C.Fine w e = let q : w .tally ≡ t = cc in λ i. record { image = w .image; tally = q i }
+        go C.Fit w e = let q : w .tally ≡ t = cc in λ i. record { image = w .image; tally = q i }
         go (C.Refused y) w e = let z : _≡_ {A = ℕ} 0 1 = cc in absurd (omega arith)
 
   -- a list counts each of its steps once

@@ -27,7 +27,7 @@ use Rattle.arm64_hint_laws.specs.Decide.{decide}
 use Rattle.arm64_hint_places.specs.Hint.{isSkipped, insnsIn, insnsOf, relsOf}
 use Rattle.arm64_hint_check.specs.Check.{isList, checkLists, checkHint, checkTo, checkAll}
 use Rattle.arm64_hint_rules.specs.Rule.{outcomeOf}
-use Rattle.arm64_hint_run.specs.Run.{worked, runOf, imageOf, numberOf}
+use Rattle.arm64_hint_run.specs.Run.{worked, runOf, imageOf, runNumber}
 use Rattle.arm64_hint_run.specs.declared.run.RunAnswer.{RunAnswer}
 use Rattle.arm64_hint_run.specs.declared.run.RunAnswer.the-variants.{Done}
 
@@ -83,7 +83,7 @@ pieces = ((refl, refl), (refl, refl), (refl, refl))
 
 -- the number of a run, on an image of so many bytes
 abbrev number : ℕ → List ℕ → List ℕ → ℕ
-number len hints entries = numberOf (runOf (bytes len 0) hints entries)
+number len hints entries = runNumber (runOf (bytes len 0) hints entries)
 
 -- a word past its part, and one that names entry 1
 abbrev pastPart : List ℕ

@@ -10,6 +10,7 @@ use lib.ListN.{length, length-set}
 use Rattle.macho.specs.Hint.{hintAt, hintCount, hintOf}
 use Rattle.macho.specs.declared.hint.HintInsn.{HintInsn}
 use Rattle.macho.specs.declared.hint.HintRecord.{HintRecord}
+use Rattle.macho.specs.declared.refusal.Check.{Check}
 use Rattle.image.specs.Words.{wordsAt, putWords}
 use Rattle.image.specs.Steps.{Work, stepOf}
 use Rattle.arm64_hint_order.specs.Lists.{runList, ownList}
@@ -19,7 +20,6 @@ use Rattle.arm64_hint_order.proofs.Own.{own-once}
 use Rattle.arm64_hint_order.proofs.Same.{run-same, own-same}
 use Rattle.arm64_hint_places.proofs.Alike.{Alike, same-skip, same-insns, same-rels, changed, elsewhere, ignored-byte, past-place}
 use Rattle.arm64_hint_check.proofs.Ignored.{same-check}
-use Rattle.arm64_hint_check.specs.declared.Check.{Check}
 use Rattle.arm64_hint_rules.specs.Rule.{outcomeOf, newsOf}
 use Rattle.arm64_hint_rules.specs.declared.outcome.Outcome.{Outcome}
 use Rattle.arm64_hint_work.specs.Step.{placesOf, addOutcome, stepsOf}

@@ -17,6 +17,8 @@ use Rattle.util.proofs.Cases.{less-or}
 use Rattle.macho.specs.Reloc.{relocAt}
 use Rattle.macho.specs.Hint.{noEntry, hintCount, hintOf}
 use Rattle.macho.specs.declared.hint.HintRecord.{HintRecord}
+use Rattle.macho.specs.declared.refusal.Check.{Check}
+use Rattle.macho.specs.declared.refusal.Check.the-variants.{Fit, Refused}
 use Rattle.image.specs.Words.{wordsAt, putWords}
 use Rattle.image.specs.Steps.{Work, stepOf}
 use Rattle.arm64_hint_terms.specs.Rels.{relAt}
@@ -31,9 +33,7 @@ use Rattle.arm64_hint_order.proofs.Same.{run-same}
 use Rattle.arm64_hint_places.specs.Hint.{isSkipped, insnsOf, relsOf, Named}
 use Rattle.arm64_hint_places.proofs.Alike.{le-set}
 use Rattle.arm64_hint_check.specs.Check.{checkAll}
-use Rattle.arm64_hint_check.specs.declared.Check.{Check}
-use Rattle.arm64_hint_check.specs.declared.Check.the-variants.{Fine, Refused}
-use Rattle.arm64_hint_check.proofs.Checks.{ready, each-fine}
+use Rattle.arm64_hint_check.proofs.Checks.{ready, each-fit}
 use Rattle.arm64_hint_rules.specs.Rule.{outcomeOf, newsOf}
 use Rattle.arm64_hint_rules.specs.declared.outcome.Outcome.{Outcome}
 use Rattle.arm64_hint_rules.specs.declared.outcome.Outcome.the-variants.{Skipped, Worked}
@@ -76,12 +76,12 @@ module _ (entries entries′ : List ℕ) (sized : length entries ≡ length entr
           ap (λ (d : Decision). choose (isSkipped h) Skipped (Worked d (insnsOf h words)))
           (same-decision (relsOf entries h) (relsOf entries′ h) (n 0) (n 1) (n 2) (h .kind) (insnsOf h words))
 
-  module _ (image hints : List ℕ) (fine : checkAll (length image) hints (length entries) ≡ Fine) where
+  module _ (image hints : List ℕ) (fit : checkAll (length image) hints (length entries) ≡ Fit) where
     same-step : (k : ℕ) → k < hintCount hints → (w : Work Tally) → stepOf (stepsOf hints entries) k w ≡ stepOf (stepsOf hints entries′) k w
     same-step k l w =
         let h = hintOf hints k in
         let a = same-outcome h (wordsAt (placesOf h) (w .image))
-        (λ e. ready (length image) (length entries) h h refl (each-fine (length image) hints (length entries) fine k l) e .entries) in
+        (λ e. ready (length image) (length entries) h h refl (each-fit (length image) hints (length entries) fit k l) e .entries) in
         let p = ap (λ (o : Outcome). putWords (placesOf h) (newsOf o) (w .image)) a in
         let q = ap (λ (o : Outcome). addOutcome o (w .tally)) a in
         λ i. record { image = p i; tally = q i }
@@ -109,7 +109,7 @@ module _ (entries entries′ : List ℕ) (sized : length entries ≡ length entr
           × (imageBy (checkAll (length image) hints (length entries)) image (worked image hints entries (orderOf hints) .image)
           ≡ imageBy (checkAll (length image) hints (length entries)) image (worked image hints entries′ (orderOf hints) .image))
       go (Refused x) e = rw e (refl, refl)
-      go Fine e =
+      go Fit e =
           let q = same-work image hints e in (
             ap (λ (w : Work Tally). answerBy (checkAll (length image) hints (length entries)) (w .tally)) q,
             ap (λ (w : Work Tally). imageBy (checkAll (length image) hints (length entries)) image (w .image)) q,

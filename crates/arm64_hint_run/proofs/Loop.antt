@@ -6,6 +6,8 @@ use native.Mathlib.Omega.{arith}
 use lib.ListN.{length}
 use Rattle.macho.specs.declared.refusal.Refusal.{Refusal}
 use Rattle.macho.specs.Hint.{hintCount}
+use Rattle.macho.specs.declared.refusal.Check.{Check}
+use Rattle.macho.specs.declared.refusal.Check.the-variants as C
 use Rattle.image.specs.Steps.{Work, answered, written, stepOf}
 use Rattle.image.proofs.Steps.{local-step}
 use Rattle.arm64_hint_order.specs.declared.Cursor.{Cursor}
@@ -15,8 +17,6 @@ use Rattle.arm64_hint_order.specs.Lists.{runList}
 use Rattle.arm64_hint_order.specs.Cursor.{orderOf, rest, following, Sound, SoundNext}
 use Rattle.arm64_hint_order.proofs.Walk.{turn-at, turn-done, turn-count, turn-sound, order-length}
 use Rattle.arm64_hint_check.specs.Check.{checkAll}
-use Rattle.arm64_hint_check.specs.declared.Check.{Check}
-use Rattle.arm64_hint_check.specs.declared.Check.the-variants as C
 use Rattle.arm64_hint_rules.specs.declared.outcome.Outcome.{Outcome}
 use Rattle.arm64_hint_work.specs.Step.{addOutcome, total, stepsOf}
 use Rattle.arm64_hint_work.specs.declared.tally.Tally.{Tally}
@@ -80,7 +80,7 @@ module _ (image hints entries : List ℕ) where
     sym (ap (λ (c : Check). imageBy c image (worked image hints entries (orderOf hints) .image)) e),
   )
 
-  pub run-done : {t : Tally} {y : List ℕ} → checkAll (length image) hints (length entries) ≡ C.Fine → t ≡ worked image hints entries (orderOf hints) .tally
+  pub run-done : {t : Tally} {y : List ℕ} → checkAll (length image) hints (length entries) ≡ C.Fit → t ≡ worked image hints entries (orderOf hints) .tally
       → y ≡ worked image hints entries (orderOf hints) .image → (A.Done t ≡ runOf image hints entries) × (y ≡ imageOf image hints entries)
   unfolding runOf imageOf
   run-done e told left = (

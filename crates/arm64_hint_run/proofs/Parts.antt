@@ -9,14 +9,14 @@ use Rattle.util.specs.All.{All, empty, more}
 use Rattle.macho.specs.declared.hint.HintInsn.{HintInsn}
 use Rattle.macho.specs.declared.hint.HintRecord.{HintRecord}
 use Rattle.macho.specs.Hint.{hintCount, hintOf}
+use Rattle.macho.specs.declared.refusal.Check.the-variants.{Fit}
 use Rattle.image.specs.Words.{span, inWords}
 use Rattle.image.specs.Steps.{footOf}
 use Rattle.image.proofs.Words.{words-inside}
 use Rattle.arm64_hint_places.specs.Hint.{isSkipped, Inside}
 use Rattle.arm64_hint_places.proofs.Places.{insns-none}
 use Rattle.arm64_hint_check.specs.Check.{checkAll}
-use Rattle.arm64_hint_check.specs.declared.Check.the-variants.{Fine}
-use Rattle.arm64_hint_check.proofs.Checks.{ready, each-fine}
+use Rattle.arm64_hint_check.proofs.Checks.{ready, each-fit}
 use Rattle.arm64_hint_work.specs.Step.{placesOf, stepsOf}
 
 -- offsets inside a part are places inside the part of the image
@@ -29,9 +29,9 @@ pub places-inside : (h : HintRecord) → Inside h (h .len) → All (λ at. (h .s
 places-inside h i = moved (h .start) (h .len) (i .words)
 
 -- a byte of a hint's words: the hint is not skipped, and the byte is one of its part
-pub in-part : (image hints entries : List ℕ) → checkAll (length image) hints (length entries) ≡ Fine → (k : ℕ) → k < hintCount hints → (b : ℕ)
+pub in-part : (image hints entries : List ℕ) → checkAll (length image) hints (length entries) ≡ Fit → (k : ℕ) → k < hintCount hints → (b : ℕ)
     → footOf (stepsOf hints entries) k b ≡ true → (isSkipped (hintOf hints k) ≡ false) × (span (hintOf hints k .start) (hintOf hints k .len) b ≡ true)
-in-part image hints entries fine k l b inside = go (isSkipped (hintOf hints k)) refl
+in-part image hints entries fit k l b inside = go (isSkipped (hintOf hints k)) refl
   where
     go : (t : Bool) → isSkipped (hintOf hints k) ≡ t
         → (isSkipped (hintOf hints k) ≡ false) × (span (hintOf hints k .start) (hintOf hints k .len) b ≡ true)
@@ -40,5 +40,5 @@ in-part image hints entries fine k l b inside = go (isSkipped (hintOf hints k)) 
         ∙ ap (λ (is : List HintInsn). inWords (map (λ at. hintOf hints k .start + at) (map (λ i. i .off) is)) b) (insns-none (hintOf hints k) e)))
     go false e =
         let h = hintOf hints k in
-        let q = ready (length image) (length entries) h h refl (each-fine (length image) hints (length entries) fine k l) e in
+        let q = ready (length image) (length entries) h h refl (each-fit (length image) hints (length entries) fit k l) e in
         (e, words-inside (h .start) (h .len) (places-inside h (q .words)) b inside)

@@ -2,13 +2,13 @@
 use Prim.Native.Nat.{ℕ}
 use mathlib.Core.List.{List}
 use lib.ListN.{length}
-use Rattle.macho.specs.Refusal as Refusal
+use Rattle.macho.specs.Refusal.{numberOf}
+use Rattle.macho.specs.declared.refusal.Check.{Check}
+use Rattle.macho.specs.declared.refusal.Check.the-variants as C
 use Rattle.image.specs.Steps.{Work, stepOf}
 use Rattle.arm64_hint_order.specs.Lists.{runList}
 use Rattle.arm64_hint_order.specs.Cursor.{orderOf}
 use Rattle.arm64_hint_check.specs.Check.{checkAll}
-use Rattle.arm64_hint_check.specs.declared.Check.{Check}
-use Rattle.arm64_hint_check.specs.declared.Check.the-variants as C
 use Rattle.arm64_hint_work.specs.Step.{stepsOf}
 use Rattle.arm64_hint_work.specs.declared.tally.Tally.{Tally}
 use Rattle.arm64_hint_run.specs.declared.run.RunAnswer.{RunAnswer}
@@ -29,12 +29,12 @@ worked image hints entries l = runList (stepOf (stepsOf hints entries)) l (start
 
 -- the counts, or the first refusal
 abbrev pub answerBy : Check → Tally → RunAnswer
-answerBy C.Fine t = A.Done t
+answerBy C.Fit t = A.Done t
 answerBy (C.Refused x) t = A.Refused x
 
 -- the image as it was, or the new one
 abbrev pub imageBy : Check → List ℕ → List ℕ → List ℕ
-imageBy C.Fine old new = new
+imageBy C.Fit old new = new
 imageBy (C.Refused x) old new = old
 
 -- what a run answers: the first refusal, or the counts of the steps in the order of work
@@ -45,10 +45,10 @@ runOf image hints entries = answerBy (checkAll (length image) hints (length entr
 unfoldable pub imageOf : List ℕ → List ℕ → List ℕ → List ℕ
 imageOf image hints entries = imageBy (checkAll (length image) hints (length entries)) image (worked image hints entries (orderOf hints) .image)
 
--- the number (RULES 3.1) of an answer, 0 for none
-abbrev pub numberOf : RunAnswer → ℕ
-numberOf (A.Done t) = 0
-numberOf (A.Refused x) = Refusal.numberOf x
+-- the number (RULES 3.1) of an answer: 0 where the run is done
+abbrev pub runNumber : RunAnswer → ℕ
+runNumber (A.Done t) = 0
+runNumber (A.Refused x) = numberOf x
 
 -- a lent tally after an answer: the new counts, or the old ones
 abbrev pub tallyAfter : Tally → RunAnswer → Tally
@@ -57,4 +57,4 @@ tallyAfter old (A.Refused x) = old
 
 -- tally and number after an answer
 abbrev pub endOf : Tally → RunAnswer → RunEnd
-endOf old a = record { tally = tallyAfter old a; number = numberOf a }
+endOf old a = record { tally = tallyAfter old a; number = runNumber a }

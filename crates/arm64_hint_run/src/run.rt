@@ -9,10 +9,10 @@ use macho::refusal::Refusal;
 ghost use mathlib.Core.Path.{_≡_};
 ghost use lib.ListN.{length};
 ghost use Rattle.macho.specs.Hint.{hintCount};
+ghost use Rattle.macho.specs.declared.refusal.Check.the-variants.{Fit};
 ghost use Rattle.arm64_hint_order.specs.Cursor.{objectAt, orderOf};
 ghost use Rattle.arm64_hint_order.specs.Walk.{grouped};
 ghost use Rattle.arm64_hint_check.specs.Check.{checkAll};
-ghost use Rattle.arm64_hint_check.specs.declared.Check.the-variants.{Fine};
 ghost use Rattle.arm64_hint_run.specs.Run.{worked, runOf, imageOf};
 
 // What a run answers: its counts, or why it changed nothing.
@@ -23,7 +23,7 @@ pub enum RunAnswer {
 
 // Works all hints, objects by rising number, in each the two passes by list position. `rises` is whether the list's object numbers never fall.
 fn work_all(image: &mut [u8], hints: &[u8], entries: &[u8], rises: bool) -> Tally
-    requires { ⌜ checkAll (length (now image)) (now hints) (length (now entries)) ≡ Fine ⌝ }
+    requires { ⌜ checkAll (length (now image)) (now hints) (length (now entries)) ≡ Fit ⌝ }
     requires { ⌜ rises ≡ grouped (objectAt (now hints)) (hintCount (now hints)) ⌝ }
     ensures tally { λ r. ⌜ r ≡ worked (now (image .entry)) (now (hints .entry)) (now (entries .entry)) (orderOf (now (hints .entry))) .tally ⌝ }
     ensures image { λ _. ⌜ now (image .exit) ≡ worked (now (image .entry)) (now (hints .entry)) (now (entries .entry)) (orderOf (now (hints .entry))) .image ⌝ }
@@ -56,6 +56,6 @@ pub fn run(image: &mut [u8], hints: &[u8], entries: &[u8]) -> RunAnswer
 {
     match check_all(image.len(), hints, entries.len()) {
         Checked::Refused(x) => RunAnswer::Refused(x),
-        Checked::Fine(rises) => RunAnswer::Done(work_all(image, hints, entries, rises)),
+        Checked::Fit(rises) => RunAnswer::Done(work_all(image, hints, entries, rises)),
     }
 }

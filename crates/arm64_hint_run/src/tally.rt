@@ -3,7 +3,7 @@ use crate::run::RunAnswer;
 use crate::run::run;
 use arm64_hint_work::tally::Tally;
 ghost use mathlib.Core.Path.{_≡_};
-ghost use Rattle.arm64_hint_run.specs.Run.{runOf, imageOf, numberOf, tallyAfter, endOf};
+ghost use Rattle.arm64_hint_run.specs.Run.{runOf, imageOf, runNumber, tallyAfter, endOf};
 
 // What a run comes to: the tally that it leaves, and its number.
 pub struct RunEnd {
@@ -38,7 +38,7 @@ pub fn run_on(image: &mut [u8], hints: &[u8], entries: &[u8], old: Tally) -> Run
 
 // Works the hints on the image by the entries: 0 and the tally overwritten, or the number of the refusal and everything lent as it was.
 pub fn apply_hints(image: &mut [u8], hints: &[u8], entries: &[u8], tally: &mut Tally) -> u8
-    ensures { λ r. ⌜ (r ≡ numberOf (runOf (now (image .entry)) (now (hints .entry)) (now (entries .entry))))
+    ensures { λ r. ⌜ (r ≡ runNumber (runOf (now (image .entry)) (now (hints .entry)) (now (entries .entry))))
         × (now (tally .exit) ≡ tallyAfter (now (tally .entry)) (runOf (now (image .entry)) (now (hints .entry)) (now (entries .entry))))
         × (now (image .exit) ≡ imageOf (now (image .entry)) (now (hints .entry)) (now (entries .entry))) ⌝ }
 {

@@ -1,4 +1,4 @@
--- `check_hints`: the hints before place k are fine, with whether their object numbers never fall; the first that is not fine ends the walk.
+-- `check_hints`: the hints before place k are fit, with whether their object numbers never fall; the first that is not fit ends the walk.
 use borrow.Author.Needs.{needs}
 use mathlib.Core.Path.{_≡_, refl, sym, ap, _∙_}
 use mathlib.Core.Logic.{⊎-elim}
@@ -8,18 +8,18 @@ use native.Mathlib.Omega.{arith}
 use lib.Dec.{leb}
 use Rattle.macho.specs.declared.hint.HintRecord.{HintRecord}
 use Rattle.macho.specs.Hint.{hintCount}
+use Rattle.macho.specs.declared.refusal.Check.the-variants.{Fit}
 use Rattle.arm64_hint_order.specs.Cursor.{objectAt}
 use Rattle.arm64_hint_order.specs.Walk.{grouped, lastOf}
 use Rattle.arm64_hint_check.specs.Check.{checkHint, checkTo}
-use Rattle.arm64_hint_check.specs.declared.Check.the-variants.{Fine}
-use Rattle.arm64_hint_check.proofs.Checks.{check-more, check-stop, grouped-more, and-true, and-false, object-is, says-refused, says-fine}
+use Rattle.arm64_hint_check.proofs.Checks.{check-more, check-stop, grouped-more, and-true, and-false, object-is, says-refused, says-fit}
 use Rattle.arm64_hint_check.proofs.check_hints.Statement.{statement}
 use Rattle.arm64_hint_check.proofs.check_hints.Tie as tie
 
 abbrev Inv-loop : tie.InvT-loop
 Inv-loop len hints count n grouped₀ last₀ k₀ rises last k =
     (k ≤ hintCount hints)
-    × (checkTo len count hints k ≡ Fine)
+    × (checkTo len count hints k ≡ Fit)
     × (rises ≡ grouped (objectAt hints) k)
     × (last ≡ lastOf (objectAt hints) k)
 
@@ -83,7 +83,7 @@ returns-2 c =
     let p = c .before .loop in
     let s = c .before .before .before .args in
     let e : p .k ≡ hintCount (s .hints .now) = omega (arith, p .inv .0) in
-    says-fine _ (sym (ap (checkTo (s .len) (s .count) (s .hints .now)) e) ∙ p .inv .1) (p .inv .2 ∙ ap (grouped (objectAt (s .hints .now))) e)
+    says-fit _ (sym (ap (checkTo (s .len) (s .count) (s .hints .now)) e) ∙ p .inv .1) (p .inv .2 ∙ ap (grouped (objectAt (s .hints .now))) e)
 
 pub check-hints-spec : {M : Type 1} → statement M
 check-hints-spec =

@@ -5,11 +5,11 @@ use native.Mathlib.Omega.{arith}
 use borrow.Author.Needs.{needs}
 use lib.ListN.{length}
 use Rattle.macho.specs.Hint.{hintOf}
+use Rattle.macho.specs.declared.refusal.Check.the-variants.{Fit}
 use Rattle.arm64_hint_order.specs.Cursor.{rest}
 use Rattle.arm64_hint_order.proofs.Walk.{turn-count, turn-sound}
 use Rattle.arm64_hint_check.specs.Check.{checkHint}
-use Rattle.arm64_hint_check.specs.declared.Check.the-variants.{Fine}
-use Rattle.arm64_hint_check.proofs.Checks.{few-hints, each-fine}
+use Rattle.arm64_hint_check.proofs.Checks.{few-hints, each-fit}
 use Rattle.arm64_hint_run.proofs.Loop.{Going, going-first, going-done, going-next, room}
 use Rattle.arm64_hint_run.proofs.run.work_all.Statement.{statement}
 use Rattle.arm64_hint_run.proofs.run.work_all.Tie as tie
@@ -50,8 +50,8 @@ work-requires c κs =
     let s = n .before .before .before .before .before .before in
     let t = turn-sound _ _ _ _ (c .before .before .k .given .1) (n .next .ensures .1) in (
       t .0,
-      subst (λ (l : ℕ). checkHint l (length (s .args .entries .now) / 24) (hintOf (s .args .hints .now) (c .before .before .k .given .0 .0)) ≡ Fine)
-          (sym (p .inv .size)) (each-fine _ _ _ (s .pre .0) _ (t .0)),
+      subst (λ (l : ℕ). checkHint l (length (s .args .entries .now) / 24) (hintOf (s .args .hints .now) (c .before .before .k .given .0 .0)) ≡ Fit)
+          (sym (p .inv .size)) (each-fit _ _ _ (s .pre .0) _ (t .0)),
     )
 
 add-requires : tie.Need-add-requires Inv-loop μ-loop

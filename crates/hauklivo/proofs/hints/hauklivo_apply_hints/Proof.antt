@@ -40,7 +40,7 @@ use denote.Triple.Walked.{says, Stays, gave-slice, gave-ref, stay-dropped, goes-
 use denote.Triple.Walked.{walkOf, Walks, ends-at, walked, walk-meets}
 use denote.Exit.{yes}
 use denote.Signature.{Slot, plain, shrSliceOf}
-use Rattle.arm64_hint_run.specs.Run.{runOf, imageOf, numberOf, tallyAfter}
+use Rattle.arm64_hint_run.specs.Run.{runOf, imageOf, runNumber, tallyAfter}
 use Rattle.arm64_hint_work.specs.declared.tally.Tally.{Tally}
 use Rattle.arm64_hint_work.proofs.tally.Tally as T
 use Rattle.arm64_hint_run.proofs.tally.apply_hints as callee
@@ -114,7 +114,7 @@ module _ {M : Type 1} (𝓤 : URA M) (H : Heap 𝓤) (A : Atoms 𝓤) (W : Given
 
   -- what the callee says of its result, of the image's last list and of the tally's last record
   abbrev Said : ℕ → List ℕ → Tally → Type 0
-  Said r l t = (r ≡ numberOf (runOf (x .now) (y .now) (z .now))) × (t ≡ tallyAfter h (runOf (x .now) (y .now) (z .now)))
+  Said r l t = (r ≡ runNumber (runOf (x .now) (y .now) (z .now))) × (t ≡ tallyAfter h (runOf (x .now) (y .now) (z .now)))
       × (l ≡ imageOf (x .now) (y .now) (z .now))
 
   -- what the walk has when it ends
