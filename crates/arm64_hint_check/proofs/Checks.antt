@@ -14,7 +14,8 @@ use lib.ListN.{length}
 use Rattle.util.specs.All.{empty, more}
 use Rattle.util.proofs.Choice.{split, choose-false, choose-first, both}
 use Rattle.util.proofs.Cases.{same-or, less-or}
-use Rattle.macho.specs.Hint.{noEntry, hintCount, hintOf}
+use Rattle.macho.specs.Hint.{hintSize, noEntry, hintCount, hintOf}
+use Rattle.macho.specs.Reloc.{relocSize}
 use Rattle.macho.specs.declared.hint.HintInsn.{HintInsn}
 use Rattle.macho.specs.declared.hint.HintRecord.{HintRecord}
 use Rattle.macho.specs.declared.refusal.Refusal.{Refusal}
@@ -29,7 +30,8 @@ use Rattle.arm64_hint_words.specs.Place.{InBytes}
 use Rattle.arm64_hint_words.specs.Entry.{InEntries}
 use Rattle.arm64_hint_places.specs.Hint.{isSkipped, insnsIn, Inside, Named}
 use Rattle.arm64_hint_places.proofs.Places.{neither, by-count}
-use Rattle.arm64_hint_check.specs.Check.{isList, checkLists, partPast, endsPast, namesAbsent, anyOf, checkHint, first, checkTo, checkAll, checkedAs, checkedNumber}
+use Rattle.arm64_hint_check.specs.Check.{isList, checkLists, partPast, endsPast, namesAbsent, anyOf, checkHint}
+use Rattle.arm64_hint_check.specs.Check.{first, checkTo, checkAll, checkedAs, checkedNumber}
 use Rattle.arm64_hint_check.specs.declared.Checked.the-variants as Said
 
 never : {x : Refusal} → Refused x ≡ Fit → ⊥
@@ -75,13 +77,13 @@ none-past len [] q = empty
 none-past len (i ∷ insns) q = let t = neither _ _ q in more (ltb-false len (i .off + 4) (t .0)) (none-past len insns (t .1))
 
 -- entries below a count
-none-absent : (count bytes : ℕ) → count ≡ bytes / 24 → (insns : List HintInsn) → anyOf (namesAbsent count) insns ≡ false → InEntries bytes insns
+none-absent : (count bytes : ℕ) → count ≡ bytes / relocSize → (insns : List HintInsn) → anyOf (namesAbsent count) insns ≡ false → InEntries bytes insns
 none-absent count bytes e [] q = empty
 none-absent count bytes e (i ∷ insns) q =
     let t = neither _ _ q in
     more (λ n. below n (t .0)) (none-absent count bytes e insns (t .1))
   where
-    below : (i .rel ≡ noEntry → ⊥) → namesAbsent count i ≡ false → 24 * i .rel + 24 ≤ bytes
+    below : (i .rel ≡ noEntry → ⊥) → namesAbsent count i ≡ false → relocSize * i .rel + relocSize ≤ bytes
     below n t =
         let s : leb count (i .rel) ≡ false = rw (ne-eqb (i .rel) noEntry n) at t in
         let l : i .rel < count = leb-false count (i .rel) s in
@@ -110,7 +112,7 @@ module _ (len count : ℕ) (h : HintRecord) (e : isSkipped h ≡ false) (fit : c
   words-inside = record { worked = e; words = none-past (h .len) (insnsIn h) (tests .1) }
 
   -- and the entries that it names are in a list of so many
-  entries-inside : (bytes : ℕ) → count ≡ bytes / 24 → Named h bytes
+  entries-inside : (bytes : ℕ) → count ≡ bytes / relocSize → Named h bytes
   entries-inside bytes q = record { worked = e; entries = none-absent count bytes q (insnsIn h) (tests .2) }
 
 -- all three
@@ -119,13 +121,13 @@ pub record Ready (len bytes : ℕ) (h : HintRecord) : Type 0 where
   pub words : Inside h (h .len)
   pub entries : Named h bytes
 
-pub ready : (len bytes : ℕ) (h g : HintRecord) → h ≡ g → checkHint len (bytes / 24) g ≡ Fit → isSkipped h ≡ false → Ready len bytes h
+pub ready : (len bytes : ℕ) (h g : HintRecord) → h ≡ g → checkHint len (bytes / relocSize) g ≡ Fit → isSkipped h ≡ false → Ready len bytes h
 ready len bytes h g e fit works =
-    let f : checkHint len (bytes / 24) h ≡ Fit = ap (checkHint len (bytes / 24)) e ∙ fit in
+    let f : checkHint len (bytes / relocSize) h ≡ Fit = ap (checkHint len (bytes / relocSize)) e ∙ fit in
     record {
-      part = part-inside len (bytes / 24) h works f;
-      words = words-inside len (bytes / 24) h works f;
-      entries = entries-inside len (bytes / 24) h works f bytes refl;
+      part = part-inside len (bytes / relocSize) h works f;
+      words = words-inside len (bytes / relocSize) h works f;
+      entries = entries-inside len (bytes / relocSize) h works f bytes refl;
     }
 
 -- ---- the hints one after another
@@ -210,24 +212,24 @@ same-number (Refused x) g = refl
 module _ (len : ℕ) (hints : List ℕ) (entries : ℕ) where
   pub all-refused : (x : Refusal) → checkLists (length hints) entries ≡ Refused x → checkAll len hints entries ≡ Refused x
   unfolding checkAll
-  all-refused x e = ap (λ (c : Check). first c (checkTo len (entries / 24) hints (hintCount hints))) e
+  all-refused x e = ap (λ (c : Check). first c (checkTo len (entries / relocSize) hints (hintCount hints))) e
 
   pub all-hints : (g : Bool) → checkLists (length hints) entries ≡ Fit
-      → checkedAs (checkTo len (entries / 24) hints (hintCount hints)) g ≡ checkedAs (checkAll len hints entries) g
+      → checkedAs (checkTo len (entries / relocSize) hints (hintCount hints)) g ≡ checkedAs (checkAll len hints entries) g
   unfolding checkAll
-  all-hints g e = sym (ap (λ (c : Check). checkedAs (first c (checkTo len (entries / 24) hints (hintCount hints))) g) e)
+  all-hints g e = sym (ap (λ (c : Check). checkedAs (first c (checkTo len (entries / relocSize) hints (hintCount hints))) g) e)
 
   module _ (fit : checkAll len hints entries ≡ Fit) where
     pub few-hints : hintCount hints < 2 ^ 32
     unfolding checkAll checkLists isList
     few-hints =
-        let t = both-fit (checkLists (length hints) entries) (checkTo len (entries / 24) hints (hintCount hints)) fit in
-        let l = choose-first (isList (length hints) 64 && isList entries 24) Fit (Refused Lengths) Fit (t .0) (λ q. never q) in
-        let m = both (isList (length hints) 64) (isList entries 24) (l .0) in
-        ltb-true (hintCount hints) (2 ^ 32) (both (eqb (length hints % 64) 0) (ltb (hintCount hints) (2 ^ 32)) (m .0) .1)
+        let t = both-fit (checkLists (length hints) entries) (checkTo len (entries / relocSize) hints (hintCount hints)) fit in
+        let l = choose-first (isList (length hints) hintSize && isList entries relocSize) Fit (Refused Lengths) Fit (t .0) (λ q. never q) in
+        let m = both (isList (length hints) hintSize) (isList entries relocSize) (l .0) in
+        ltb-true (hintCount hints) (2 ^ 32) (both (eqb (length hints % hintSize) 0) (ltb (hintCount hints) (2 ^ 32)) (m .0) .1)
 
-    pub each-fit : (k : ℕ) → k < hintCount hints → checkHint len (entries / 24) (hintOf hints k) ≡ Fit
+    pub each-fit : (k : ℕ) → k < hintCount hints → checkHint len (entries / relocSize) (hintOf hints k) ≡ Fit
     unfolding checkAll
     each-fit =
-        fit-at len (entries / 24) hints (hintCount hints)
-        (both-fit (checkLists (length hints) entries) (checkTo len (entries / 24) hints (hintCount hints)) fit .1)
+        fit-at len (entries / relocSize) hints (hintCount hints)
+        (both-fit (checkLists (length hints) entries) (checkTo len (entries / relocSize) hints (hintCount hints)) fit .1)

@@ -4,8 +4,9 @@ use mathlib.Core.List.{List}
 use Prim.Native.Nat.{ℕ, zero, suc, _/_, _≤_, _<_}
 use native.Mathlib.Omega.{arith}
 use lib.ListN.{length}
+use Rattle.macho.specs.Reloc.{relocSize}
 use Rattle.macho.specs.declared.hint.HintRecord.{HintRecord}
-use Rattle.macho.specs.Hint.{hintCount, hintOf}
+use Rattle.macho.specs.Hint.{hintSize, hintCount, hintOf}
 use Rattle.arm64_hint_places.proofs.Alike.{Alike, same-skip}
 use Rattle.arm64_hint_check.specs.Check.{checkHint, first, checkLists, checkTo, checkAll}
 
@@ -16,7 +17,7 @@ same-hint-check h g alike len count = rw (alike .places, same-skip h g alike, al
 module _ (hints hints′ : List ℕ) (sized : length hints ≡ length hints′)
     (alike : (k : ℕ) → k < hintCount hints → Alike (hintOf hints k) (hintOf hints′ k)) where
   same-count : hintCount hints ≡ hintCount hints′
-  same-count = ap (λ (n : ℕ). n / 64) sized
+  same-count = ap (λ (n : ℕ). n / hintSize) sized
 
   same-checks : (len count k : ℕ) → k ≤ hintCount hints → checkTo len count hints k ≡ checkTo len count hints′ k
   unfolding checkTo
@@ -27,4 +28,4 @@ module _ (hints hints′ : List ℕ) (sized : length hints ≡ length hints′)
   unfolding checkAll
   same-check len entries =
       ap₂ first (ap (λ (n : ℕ). checkLists n entries) sized)
-      (same-checks len (entries / 24) (hintCount hints) (omega arith) ∙ ap (checkTo len (entries / 24) hints′) same-count)
+      (same-checks len (entries / relocSize) (hintCount hints) (omega arith) ∙ ap (checkTo len (entries / relocSize) hints′) same-count)

@@ -5,7 +5,8 @@ use mathlib.Core.List.{List, [], _∷_}
 use lib.Dec.{eqb, ltb, leb}
 use lib.ListN.{length}
 use Rattle.util.specs.Choice.{choose}
-use Rattle.macho.specs.Hint.{noEntry, hintCount, hintOf}
+use Rattle.macho.specs.Hint.{hintSize, noEntry, hintCount, hintOf}
+use Rattle.macho.specs.Reloc.{relocSize}
 use Rattle.macho.specs.declared.hint.HintInsn.{HintInsn}
 use Rattle.macho.specs.declared.hint.HintRecord.{HintRecord}
 use Rattle.macho.specs.declared.refusal.Refusal.the-variants.{Lengths, Bounds, NoEntry}
@@ -22,7 +23,7 @@ isList len size = eqb (len % size) 0 && ltb (len / size) (2 ^ 32)
 
 -- number 1: the lengths of hints and entries in bytes
 unfoldable pub checkLists : ℕ → ℕ → Check
-checkLists hints entries = choose (isList hints 64 && isList entries 24) Fit (Refused Lengths)
+checkLists hints entries = choose (isList hints hintSize && isList entries relocSize) Fit (Refused Lengths)
 
 -- number 3: the part ends past an image of len bytes
 abbrev pub partPast : ℕ → HintRecord → Bool
@@ -61,7 +62,7 @@ checkTo len count hints (suc k) = first (checkTo len count hints k) (checkHint l
 
 -- the first refusal of a run
 unfoldable pub checkAll : ℕ → List ℕ → ℕ → Check
-checkAll len hints entries = first (checkLists (length hints) entries) (checkTo len (entries / 24) hints (hintCount hints))
+checkAll len hints entries = first (checkLists (length hints) entries) (checkTo len (entries / relocSize) hints (hintCount hints))
 
 -- a check's word, with whether the hints are grouped
 unfoldable pub checkedAs : Check → Bool → Checked

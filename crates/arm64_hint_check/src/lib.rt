@@ -4,6 +4,7 @@ use macho::hint::HintInsn;
 use macho::hint::HintRecord;
 use macho::refusal::Check;
 use macho::refusal::Refusal;
+use macho::reloc::Reloc;
 ghost use mathlib.Core.Path.{_≡_};
 ghost use mathlib.Core.Bool.{false};
 ghost use Prim.Native.Nat.{_<_};
@@ -35,7 +36,7 @@ fn check_lists(hints: usize, entries: usize) -> Check
     if !is_list(hints, HintRecord::SIZE) {
         return Check::Refused(Refusal::Lengths);
     }
-    if !is_list(entries, 24) {
+    if !is_list(entries, Reloc::SIZE) {
         return Check::Refused(Refusal::Lengths);
     }
     Check::Fit
@@ -125,12 +126,12 @@ fn check_hints(len: usize, hints: &[u8], count: usize) -> Checked
         (checkTo len count (now (hints .entry)) (hintCount (now (hints .entry))))
         (grouped (objectAt (now (hints .entry))) (hintCount (now (hints .entry)))) ⌝ }
 {
-    let n = hints.len() / 64;
+    let n = hints.len() / HintRecord::SIZE;
     let mut grouped = true;
     let mut last = 0;
     let mut k = 0;
     while k < n {
-        let h = HintRecord::read(hints, 64 * k);
+        let h = HintRecord::read(hints, HintRecord::SIZE * k);
         match check_hint(len, count, h) {
             Check::Refused(x) => {
                 return Checked::Refused(x);
@@ -151,6 +152,6 @@ pub fn check_all(len: usize, hints: &[u8], entries: usize) -> Checked
 {
     match check_lists(hints.len(), entries) {
         Check::Refused(x) => Checked::Refused(x),
-        Check::Fit => check_hints(len, hints, entries / 24),
+        Check::Fit => check_hints(len, hints, entries / Reloc::SIZE),
     }
 }

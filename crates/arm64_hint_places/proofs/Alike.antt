@@ -13,7 +13,7 @@ use Rattle.util.specs.Word.{le}
 use Rattle.util.proofs.Word.{le-ext}
 use Rattle.util.proofs.Cases.{same-or}
 use Rattle.macho.specs.Record.{Field, _of_, unused}
-use Rattle.macho.specs.Hint.{insnAt, hintAt, wordCount, hintOf}
+use Rattle.macho.specs.Hint.{insnSize, hintSize, insnAt, hintAt, wordCount, hintOf}
 use Rattle.macho.specs.declared.hint.HintInsn.{HintInsn}
 use Rattle.macho.specs.declared.hint.HintRecord.{HintRecord}
 use Rattle.macho.proofs.RoundTrip.{value-ignores, value-ext, hint}
@@ -80,20 +80,21 @@ two-places h g skip n a b ne = go (isSkipped g) refl
 module _ (hints : List ℕ) (k i v : ℕ) where
   -- a byte of the list changed
   abbrev pub changed : List ℕ
-  changed = set hints (64 * k + i) v
+  changed = set hints (hintSize * k + i) v
 
   -- hints that the byte is not of are the same
-  pub elsewhere : i < 64 → Alike (hintOf changed k) (hintOf hints k) → (j : ℕ) → Alike (hintOf changed j) (hintOf hints j)
+  pub elsewhere : i < hintSize → Alike (hintOf changed k) (hintOf hints k) → (j : ℕ) → Alike (hintOf changed j) (hintOf hints j)
   elsewhere l own j =
       same-or j k (λ e. subst (λ (m : ℕ). Alike (hintOf changed m) (hintOf hints m)) (sym e) own)
       (λ ne. same-hint
-      (value-ext hint changed hints (64 * j) (64 * j) (λ m h. getD-set-other hints (64 * k + i) (64 * j + m) v 0 (λ e. ne (omega arith)))))
+      (value-ext hint changed hints (hintSize * j) (hintSize * j)
+      (λ m h. getD-set-other hints (hintSize * k + i) (hintSize * j + m) v 0 (λ e. ne (omega arith)))))
 
   -- the two bytes that no field has
   pub ignored-byte : (i ≡ 2) ⊎ (i ≡ 3) → Alike (hintOf changed k) (hintOf hints k)
   ignored-byte =
-      ⊎-elim (λ (e : i ≡ 2). at e (value-ignores hint (kind ∷ count ∷ []) _ hints (64 * k) v refl))
-      (λ (e : i ≡ 3). at e (value-ignores hint (kind ∷ count ∷ unused ∷ []) _ hints (64 * k) v refl))
+      ⊎-elim (λ (e : i ≡ 2). at e (value-ignores hint (kind ∷ count ∷ []) _ hints (hintSize * k) v refl))
+      (λ (e : i ≡ 3). at e (value-ignores hint (kind ∷ count ∷ unused ∷ []) _ hints (hintSize * k) v refl))
     where
       kind : Field
       kind = 1 of hintOf hints k .kind
@@ -101,8 +102,8 @@ module _ (hints : List ℕ) (k i v : ℕ) where
       count : Field
       count = 1 of hintOf hints k .n
 
-      at : {m : ℕ} → i ≡ m → hintOf (set hints (64 * k + m) v) k ≡ hintOf hints k → Alike (hintOf changed k) (hintOf hints k)
-      at {m} e q = same-hint (ap (λ (b : ℕ). hintOf (set hints (64 * k + b) v) k) e ∙ q)
+      at : {m : ℕ} → i ≡ m → hintOf (set hints (hintSize * k + m) v) k ≡ hintOf hints k → Alike (hintOf changed k) (hintOf hints k)
+      at {m} e q = same-hint (ap (λ (b : ℕ). hintOf (set hints (hintSize * k + b) v) k) e ∙ q)
 
   -- a place past the word count
   pub past-place : 48 ≤ i → (hintOf hints k .n ≡ 3 → ⊥) → Alike (hintOf changed k) (hintOf hints k)
@@ -110,27 +111,27 @@ module _ (hints : List ℕ) (k i v : ℕ) where
   past-place h ne = record {
     kind = kind;
     count = count;
-    object = before 4 (64 * k + 4) (omega arith);
-    start = before 4 (64 * k + 8) (omega arith);
-    len = before 4 (64 * k + 12) (omega arith);
+    object = before 4 (hintSize * k + 4) (omega arith);
+    start = before 4 (hintSize * k + 8) (omega arith);
+    len = before 4 (hintSize * k + 12) (omega arith);
     places = two-places (hintOf changed k) (hintOf hints k) skip count (place 16 (omega arith)) (place 32 (omega arith)) ne;
   }
     where
-      before : (n p : ℕ) → p + n ≤ 64 * k + i → le n changed p ≡ le n hints p
-      before n p l = le-set n hints p (64 * k + i) v (inl l)
+      before : (n p : ℕ) → p + n ≤ hintSize * k + i → le n changed p ≡ le n hints p
+      before n p l = le-set n hints p (hintSize * k + i) v (inl l)
 
-      kind : le 1 changed (64 * k) ≡ le 1 hints (64 * k)
-      kind = before 1 (64 * k) (omega arith)
+      kind : le 1 changed (hintSize * k) ≡ le 1 hints (hintSize * k)
+      kind = before 1 (hintSize * k) (omega arith)
 
-      count : le 1 changed (64 * k + 1) ≡ le 1 hints (64 * k + 1)
-      count = before 1 (64 * k + 1) (omega arith)
+      count : le 1 changed (hintSize * k + 1) ≡ le 1 hints (hintSize * k + 1)
+      count = before 1 (hintSize * k + 1) (omega arith)
 
       skip : isSkipped (hintOf changed k) ≡ isSkipped (hintOf hints k)
       skip = skip-by (hintOf changed k) (hintOf hints k) kind count
 
-      place : (o : ℕ) → o + 16 ≤ 48 → insnAt changed (64 * k + o) ≡ insnAt hints (64 * k + o)
+      place : (o : ℕ) → o + insnSize ≤ 48 → insnAt changed (hintSize * k + o) ≡ insnAt hints (hintSize * k + o)
       place o l =
-          let a = before 4 (64 * k + o) (omega arith) in
-          let b = before 4 (64 * k + o + 4) (omega arith) in
-          let c = before 8 (64 * k + o + 8) (omega arith) in
+          let a = before 4 (hintSize * k + o) (omega arith) in
+          let b = before 4 (hintSize * k + o + 4) (omega arith) in
+          let c = before 8 (hintSize * k + o + 8) (omega arith) in
           λ j. record { off = a j; rel = b j; addr = c j }

@@ -7,7 +7,7 @@ use Prim.Native.Nat.{ℕ, _+_, _*_, _/_, _≤_, _<_}
 use native.Mathlib.Omega.{arith}
 use lib.Dec.{eqb}
 use lib.ListN.{length, length-set}
-use Rattle.macho.specs.Hint.{hintAt, hintCount, hintOf}
+use Rattle.macho.specs.Hint.{hintSize, hintAt, hintCount, hintOf}
 use Rattle.macho.specs.declared.hint.HintInsn.{HintInsn}
 use Rattle.macho.specs.declared.hint.HintRecord.{HintRecord}
 use Rattle.macho.specs.declared.refusal.Check.{Check}
@@ -46,7 +46,7 @@ module _ (hints hints′ : List ℕ) (sized : length hints ≡ length hints′)
   same-order =
       own-same (objectAt hints) (objectAt hints′) (lateAt hints) (lateAt hints′) (hintCount hints) (λ k h. alike k h .object)
       (λ k h. ap (λ (n : ℕ). eqb n 1) (alike k h .kind))
-      ∙ ap (λ (n : ℕ). ownList (objectAt hints′) (lateAt hints′) (n / 64)) sized
+      ∙ ap (λ (n : ℕ). ownList (objectAt hints′) (lateAt hints′) (n / hintSize)) sized
 
   module _ (entries image : List ℕ) where
     same-step : (k : ℕ) → k < hintCount hints → (w : Work Tally) → stepOf (stepsOf hints entries) k w ≡ stepOf (stepsOf hints′ entries) k w
@@ -80,13 +80,13 @@ module _ (hints : List ℕ) (k i v : ℕ) (entries image : List ℕ) where
   Unchanged =
       (runOf image (changed hints k i v) entries ≡ runOf image hints entries) × (imageOf image (changed hints k i v) entries ≡ imageOf image hints entries)
 
-  unchanged : i < 64 → Alike (hintOf (changed hints k i v) k) (hintOf hints k) → Unchanged
-  unchanged l own = run-alike (changed hints k i v) hints (length-set hints (64 * k + i) v) (λ j h. elsewhere hints k i v l own j) entries image
+  unchanged : i < hintSize → Alike (hintOf (changed hints k i v) k) (hintOf hints k) → Unchanged
+  unchanged l own = run-alike (changed hints k i v) hints (length-set hints (hintSize * k + i) v) (λ j h. elsewhere hints k i v l own j) entries image
 
   -- the two ignored bytes of a hint
   pub ignored-bytes : (i ≡ 2) ⊎ (i ≡ 3) → Unchanged
   ignored-bytes e = unchanged (⊎-elim (λ w. omega arith) (λ w. omega arith) e) (ignored-byte hints k i v e)
 
   -- the places of a hint past its word count
-  pub past-count : 48 ≤ i → i < 64 → (hintOf hints k .n ≡ 3 → ⊥) → Unchanged
+  pub past-count : 48 ≤ i → i < hintSize → (hintOf hints k .n ≡ 3 → ⊥) → Unchanged
   past-count h l ne = unchanged l (past-place hints k i v h ne)

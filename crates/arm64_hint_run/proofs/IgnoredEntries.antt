@@ -14,7 +14,7 @@ use Rattle.util.specs.Word.{le}
 use Rattle.util.specs.All.{All, empty, more}
 use Rattle.util.proofs.Choice.{choose-true, choose-false}
 use Rattle.util.proofs.Cases.{less-or}
-use Rattle.macho.specs.Reloc.{relocAt}
+use Rattle.macho.specs.Reloc.{relocSize, relocAt}
 use Rattle.macho.specs.Hint.{noEntry, hintCount, hintOf}
 use Rattle.macho.specs.declared.hint.HintRecord.{HintRecord}
 use Rattle.macho.specs.declared.refusal.Check.{Check}
@@ -44,14 +44,14 @@ use Rattle.arm64_hint_run.specs.Run.{start, worked, answerBy, imageBy, r
 -- ---- lists of entries
 
 module _ (entries entries′ : List ℕ) (sized : length entries ≡ length entries′)
-    (alike : (k : ℕ) → k < length entries / 24 → AlikeEntry (relocAt entries (24 * k)) (relocAt entries′ (24 * k))) where
+    (alike : (k : ℕ) → k < length entries / relocSize → AlikeEntry (relocAt entries (relocSize * k)) (relocAt entries′ (relocSize * k))) where
   -- a number that names none, or one that is there
-  same-rel : (m : ℕ) → ((m ≡ noEntry → ⊥) → 24 * m + 24 ≤ length entries) → SameRel (relAt entries m) (relAt entries′ m)
+  same-rel : (m : ℕ) → ((m ≡ noEntry → ⊥) → relocSize * m + relocSize ≤ length entries) → SameRel (relAt entries m) (relAt entries′ m)
   unfolding relAt
   same-rel m there = go (eqb m noEntry) refl
     where
       named : List ℕ → Rel
-      named es = Entry (relocAt es (24 * m))
+      named es = Entry (relocAt es (relocSize * m))
 
       go : (t : Bool) → eqb m noEntry ≡ t → SameRel (relAt entries m) (relAt entries′ m)
       go true e = rw (choose-true (eqb m noEntry) Absent (named entries) e, choose-true (eqb m noEntry) Absent (named entries′) e) neither
@@ -59,7 +59,7 @@ module _ (entries entries′ : List ℕ) (sized : length entries ≡ length entr
           rw (choose-false (eqb m noEntry) Absent (named entries) e, choose-false (eqb m noEntry) Absent (named entries′) e)
           (both (alike m (let l = there (eqb-false m noEntry e) in omega arith)))
 
-  same-at : {l : List ℕ} → All (λ k. (k ≡ noEntry → ⊥) → 24 * k + 24 ≤ length entries) l → (i : ℕ)
+  same-at : {l : List ℕ} → All (λ k. (k ≡ noEntry → ⊥) → relocSize * k + relocSize ≤ length entries) l → (i : ℕ)
       → SameRel (relAt entries (getD l i noEntry)) (relAt entries′ (getD l i noEntry))
   same-at empty i = same-rel noEntry (λ ne. absurd (ne refl))
   same-at (more {k = m} h rest) zero = same-rel m h
@@ -118,21 +118,21 @@ module _ (entries entries′ : List ℕ) (sized : length entries ≡ length entr
 -- ---- one byte: the spare ones of an entry
 
 pub spare-bytes : (entries : List ℕ) (k i v : ℕ) → 12 ≤ i → i < 16 → (image hints : List ℕ)
-    → (runOf image hints (set entries (24 * k + i) v) ≡ runOf image hints entries)
-    × (imageOf image hints (set entries (24 * k + i) v) ≡ imageOf image hints entries)
+    → (runOf image hints (set entries (relocSize * k + i) v) ≡ runOf image hints entries)
+    × (imageOf image hints (set entries (relocSize * k + i) v) ≡ imageOf image hints entries)
 unfolding relocAt
 spare-bytes entries k i v h l =
-    run-alike-entries (set entries (24 * k + i) v) entries (length-set entries (24 * k + i) v)
+    run-alike-entries (set entries (relocSize * k + i) v) entries (length-set entries (relocSize * k + i) v)
     (λ j b. record {
       type = beside j 1 4 (lit≤ tt);
       target = beside j 4 8 (lit≤ tt);
       addend = after j;
     })
   where
-    beside : (j n o : ℕ) → o + n ≤ 12 → le n (set entries (24 * k + i) v) (24 * j + o) ≡ le n entries (24 * j + o)
+    beside : (j n o : ℕ) → o + n ≤ 12 → le n (set entries (relocSize * k + i) v) (relocSize * j + o) ≡ le n entries (relocSize * j + o)
     beside j n o b =
-        le-set n entries (24 * j + o) (24 * k + i) v (less-or k j (λ w. inr (omega arith)) (λ w. inl (omega arith)))
+        le-set n entries (relocSize * j + o) (relocSize * k + i) v (less-or k j (λ w. inr (omega arith)) (λ w. inl (omega arith)))
 
-    after : (j : ℕ) → le 8 (set entries (24 * k + i) v) (24 * j + 16) ≡ le 8 entries (24 * j + 16)
+    after : (j : ℕ) → le 8 (set entries (relocSize * k + i) v) (relocSize * j + 16) ≡ le 8 entries (relocSize * j + 16)
     after j =
-        le-set 8 entries (24 * j + 16) (24 * k + i) v (less-or j k (λ w. inl (omega arith)) (λ w. inr (omega arith)))
+        le-set 8 entries (relocSize * j + 16) (relocSize * k + i) v (less-or j k (λ w. inl (omega arith)) (λ w. inr (omega arith)))

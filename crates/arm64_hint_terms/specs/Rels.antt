@@ -4,16 +4,17 @@ use mathlib.Core.Bool.{Bool, true, false, _&&_, _||_, not}
 use mathlib.Core.List.{List}
 use lib.Dec.{eqb, ltb}
 use Rattle.util.specs.Choice.{choose}
-use Rattle.macho.specs.Reloc.{relocAt}
+use Rattle.macho.specs.Reloc.{relocSize, relocAt}
 use Rattle.macho.specs.Types.{ARM64-RELOC-PAGE21, ARM64-RELOC-GOT-LOAD-PAGE21, ARM64-RELOC-TLVP-LOAD-PAGE21}
 use Rattle.macho.specs.Types.{ARM64-RELOC-PAGEOFF12, ARM64-RELOC-GOT-LOAD-PAGEOFF12, ARM64-RELOC-TLVP-LOAD-PAGEOFF12}
+use Rattle.macho.specs.Hint.{noEntry}
 use Rattle.arm64_hint_terms.specs.declared.rels.Rel.{Rel}
 use Rattle.arm64_hint_terms.specs.declared.rels.Rel.the-variants.{Entry, Absent}
 use Rattle.arm64_hint_terms.specs.declared.rels.Rels.{Rels}
 
--- the entry that a number names in a list of entries; 0xffffffff names none
+-- the entry that a number names in a list of entries; noEntry names none
 unfoldable pub relAt : List ℕ → ℕ → Rel
-relAt entries number = choose (eqb number 0xffffffff) Absent (Entry (relocAt entries (24 * number)))
+relAt entries number = choose (eqb number noEntry) Absent (Entry (relocAt entries (relocSize * number)))
 
 -- whether an entry is the page half of a reference; with got, of a reference to a GOT slot or one relaxed from it
 unfoldable pub isPageRel : Rel → Bool → Bool

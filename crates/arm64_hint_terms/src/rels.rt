@@ -5,6 +5,8 @@ use macho::reloc::Reloc;
 ghost use mathlib.Core.Path.{_≡_};
 ghost use Prim.Native.Nat.{_+_, _*_, _≤_};
 ghost use lib.ListN.{length};
+ghost use Rattle.macho.specs.Hint.{noEntry};
+ghost use Rattle.macho.specs.Reloc.{relocSize};
 ghost use Rattle.arm64_hint_terms.specs.Rels.{relAt, isPageRel, isPageoffRel, sameReference, isAbsent, hasPagePair, bothPages};
 
 // The entry that a place names, or none.
@@ -20,15 +22,15 @@ pub struct Rels {
     pub r2: Rel,
 }
 
-// The entry that a number names; 0xffffffff names none.
+// The entry that a number names; NO_ENTRY names none.
 pub fn rel_at(entries: &[u8], number: u32) -> Rel
-    requires { ⌜ ((number ≡ 0xffffffff → ⊥) → 24 * number + 24 ≤ length (now entries)) ⌝ }
+    requires { ⌜ ((number ≡ noEntry → ⊥) → relocSize * number + relocSize ≤ length (now entries)) ⌝ }
     ensures { λ r. ⌜ r ≡ relAt (now (entries .entry)) number ⌝ }
 {
     if number == HintInsn::NO_ENTRY {
         return Rel::Absent;
     }
-    Rel::Entry(Reloc::read(entries, 24 * (number as usize)))
+    Rel::Entry(Reloc::read(entries, Reloc::SIZE * (number as usize)))
 }
 
 // Whether an entry is the page half of a reference; with `got`, of a reference to a GOT slot or one relaxed from it.

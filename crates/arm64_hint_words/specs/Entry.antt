@@ -5,6 +5,7 @@ use mathlib.Core.List.{List, map}
 use lib.ListN.{getD}
 use Rattle.util.specs.All.{All}
 use Rattle.macho.specs.Hint.{noEntry}
+use Rattle.macho.specs.Reloc.{relocSize}
 use Rattle.macho.specs.declared.hint.HintInsn.{HintInsn}
 use Rattle.arm64_hint_terms.specs.Rels.{relAt}
 use Rattle.arm64_hint_terms.specs.declared.rels.Rels.{Rels}
@@ -24,4 +25,4 @@ relsIn entries insns =
 
 -- they stand in a list of len bytes
 abbrev pub InEntries : ℕ → List HintInsn → Type 0
-InEntries len insns = All (λ k. (k ≡ noEntry → ⊥) → 24 * k + 24 ≤ len) (numbers insns)
+InEntries len insns = All (λ k. (k ≡ noEntry → ⊥) → relocSize * k + relocSize ≤ len) (numbers insns)

@@ -17,6 +17,7 @@ ghost use mathlib.Core.Path.{_≡_};
 ghost use Prim.Native.Nat.{_/_, _<_};
 ghost use lib.ListN.{length};
 ghost use Rattle.macho.specs.Hint.{hintCount, hintOf};
+ghost use Rattle.macho.specs.Reloc.{relocSize};
 ghost use Rattle.macho.specs.declared.refusal.Check.the-variants.{Fit};
 ghost use Rattle.image.specs.Steps.{answered, written};
 ghost use Rattle.arm64_hint_places.specs.Hint.{Inside};
@@ -46,11 +47,11 @@ fn apply(section: &mut [u8], h: HintRecord, r: Rels) -> Outcome
 
 // Works hint k on the image: lends its part to the rule of its kind.
 pub fn work(image: &mut [u8], hints: &[u8], entries: &[u8], k: usize) -> Outcome
-    requires { ⌜ (k < hintCount (now hints)) × (checkHint (length (now image)) (length (now entries) / 24) (hintOf (now hints) k) ≡ Fit) ⌝ }
+    requires { ⌜ (k < hintCount (now hints)) × (checkHint (length (now image)) (length (now entries) / relocSize) (hintOf (now hints) k) ≡ Fit) ⌝ }
     ensures outcome { λ o. ⌜ o ≡ answered (stepsOf (now (hints .entry)) (now (entries .entry))) k (now (image .entry)) ⌝ }
     ensures image { λ _. ⌜ now (image .exit) ≡ written (stepsOf (now (hints .entry)) (now (entries .entry))) k (now (image .entry)) ⌝ }
 {
-    let h = HintRecord::read(hints, 64 * k);
+    let h = HintRecord::read(hints, HintRecord::SIZE * k);
     if is_skipped(h) {
         return Outcome::Skipped;
     }

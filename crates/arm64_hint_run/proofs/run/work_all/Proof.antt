@@ -5,6 +5,7 @@ use native.Mathlib.Omega.{arith}
 use borrow.Author.Needs.{needs}
 use lib.ListN.{length}
 use Rattle.macho.specs.Hint.{hintOf}
+use Rattle.macho.specs.Reloc.{relocSize}
 use Rattle.macho.specs.declared.refusal.Check.the-variants.{Fit}
 use Rattle.arm64_hint_order.specs.Cursor.{rest}
 use Rattle.arm64_hint_order.proofs.Walk.{turn-count, turn-sound}
@@ -50,7 +51,7 @@ work-requires c κs =
     let s = n .before .before .before .before .before .before in
     let t = turn-sound _ _ _ _ (c .before .before .k .given .1) (n .next .ensures .1) in (
       t .0,
-      subst (λ (l : ℕ). checkHint l (length (s .args .entries .now) / 24) (hintOf (s .args .hints .now) (c .before .before .k .given .0 .0)) ≡ Fit)
+      subst (λ (l : ℕ). checkHint l (length (s .args .entries .now) / relocSize) (hintOf (s .args .hints .now) (c .before .before .k .given .0 .0)) ≡ Fit)
           (sym (p .inv .size)) (each-fit _ _ _ (s .pre .0) _ (t .0)),
     )
 
