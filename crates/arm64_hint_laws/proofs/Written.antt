@@ -17,6 +17,7 @@ use Rattle.arm64_insn.specs.Manual.{ADR}
 use Rattle.arm64_insn.specs.declared.ldst.LoadStore.{LoadStore}
 use Rattle.arm64_insn.proofs.Decoded.{decoded-add, decoded-load-store, literal-opc-lt, literal-v-lt}
 use Rattle.arm64_insn.proofs.Manual.{encode-lt}
+use Rattle.arm64_hint_terms.specs.Answer.{decisionNumber}
 use Rattle.arm64_hint_terms.specs.Plans.{rewritten}
 use Rattle.arm64_hint_laws.specs.Decide.{decide}
 use Rattle.arm64_hint_terms.specs.declared.answer.Insns.{Insns}
@@ -82,12 +83,12 @@ pub written : (kind : ℕ) (s : Insns) (r : Rels) → Written kind (decide kind 
 written kind s r = by-kind s r Written (each-writes s r) kind
 
 -- ADRP_ADD never answers nine
-pub add-never-nine : (s : Insns) (r : Rels) → decide MCLOH-AdrpAdd s r ≡ Nine → ⊥
-add-never-nine s r e = other (decide MCLOH-AdrpAdd s r) (written MCLOH-AdrpAdd s r) e
+pub add-never-nine : (s : Insns) (r : Rels) → decisionNumber (decide MCLOH-AdrpAdd s r) ≡ 0
+add-never-nine s r = other (decide MCLOH-AdrpAdd s r) (written MCLOH-AdrpAdd s r)
   where
-    other : (d : Decision) → Written MCLOH-AdrpAdd d → d ≡ Nine → ⊥
-    other d declines q = let z : _≡_ {A = ℕ} 0 1 = cc in omega arith
-    other d adr-7 q = let z : _≡_ {A = ℕ} 0 1 = cc in omega arith
+    other : (d : Decision) → Written MCLOH-AdrpAdd d → decisionNumber d ≡ 0
+    other d declines = refl
+    other d adr-7 = refl
 
 -- a new word has 32 bits
 abbrev pub Fits : NewWord → Type 0

@@ -5,6 +5,7 @@ use mathlib.Core.Option.{Option}
 use Rattle.util.specs.Choice.{choose}
 use Rattle.macho.specs.declared.hint.HintRecord.{HintRecord}
 use Rattle.image.specs.Words.{wordsAt, putWords}
+use Rattle.arm64_hint_terms.specs.Answer.{decisionNumber}
 use Rattle.arm64_hint_terms.specs.declared.answer.Decision.{Decision}
 use Rattle.arm64_hint_terms.specs.declared.answer.Decision.the-variants.{Declined, Nine, Rewritten}
 use Rattle.arm64_hint_terms.specs.declared.rels.Rels.{Rels}
@@ -21,6 +22,11 @@ ruled kind h r words = Worked (decide kind (insnsOf h words) r) (insnsOf h words
 -- a hint's outcome, by its own kind and the entries that it names
 unfoldable pub outcomeOf : List ℕ → HintRecord → List ℕ → Outcome
 outcomeOf entries h words = choose (isSkipped h) Skipped (ruled (h .kind) h (relsOf entries h) words)
+
+-- the number of an outcome: its decision's, and 0 where the hint is skipped
+abbrev pub outcomeNumber : Outcome → ℕ
+outcomeNumber Skipped = 0
+outcomeNumber (Worked d s) = decisionNumber d
 
 -- the new words of a decision, place by place
 abbrev pub newsIn : Decision → List (Option ℕ)

@@ -4,6 +4,7 @@
 use mathlib.Core.Path.{_≡_, refl, sym, ap, _∙_}
 use mathlib.Core.Bool.{Bool, true, false, _&&_, _||_, not}
 use mathlib.Core.List.{List, [], _∷_, map}
+use mathlib.Core.Option.{Option}
 use Prim.Native.Nat.{ℕ, _+_, _/_, _%_, _^_, _≤_}
 use native.Mathlib.Omega.{arith}
 use borrow.Author.Tests.{le-ltb}
@@ -13,12 +14,13 @@ use Rattle.util.specs.Choice.{choose}
 use Rattle.util.specs.Word.{le, put}
 use Rattle.util.proofs.Choice.{choose-false}
 use Rattle.macho.specs.Types.{MCLOH-AdrpAdrp}
-use Rattle.macho.specs.Hint.{wordCount, hintCount, hintOf}
+use Rattle.macho.specs.Hint.{hintSize, wordCount, hintCount, hintOf}
+use Rattle.macho.specs.Reloc.{relocSize}
 use Rattle.macho.specs.declared.hint.HintInsn.{HintInsn}
 use Rattle.macho.specs.declared.hint.HintRecord.{HintRecord}
 use Rattle.macho.specs.declared.refusal.Refusal.{Refusal}
-use Rattle.macho.specs.declared.refusal.Refusal.the-variants.{Lengths}
-use Rattle.macho.specs.Refusal.{checkNumber}
+use Rattle.macho.specs.declared.refusal.Refusal.the-variants.{Lengths, Overflow}
+use Rattle.macho.specs.Refusal.{numberOf, checkNumber}
 use Rattle.macho.specs.declared.refusal.Check.{Check}
 use Rattle.macho.specs.declared.refusal.Check.the-variants as C
 use Rattle.image.specs.Words.{wordsAt, putWords}
@@ -36,14 +38,14 @@ use Rattle.arm64_hint_laws.proofs.Hinted.{counts}
 use Rattle.arm64_hint_laws.proofs.Twice.{drops}
 use Rattle.arm64_hint_terms.specs.declared.answer.Insns.{Insns}
 use Rattle.arm64_hint_terms.specs.declared.answer.Decision.{Decision}
-use Rattle.arm64_hint_terms.specs.declared.answer.Decision.the-variants.{Nine}
+use Rattle.arm64_hint_terms.specs.declared.answer.Decision.the-variants.{Declined, Nine, Rewritten}
 use Rattle.arm64_hint_order.specs.Lists.{runList}
 use Rattle.arm64_hint_order.specs.Cursor.{orderOf}
 use Rattle.arm64_hint_order.proofs.Walk.{order-length}
 use Rattle.arm64_hint_places.specs.Hint.{isSkipped, insnsIn, insnsOf, relsOf}
 use Rattle.arm64_hint_places.proofs.Places.{insns-two, rels-two}
 use Rattle.arm64_hint_check.specs.Check.{isList, checkLists, first, checkTo, checkAll}
-use Rattle.arm64_hint_rules.specs.Rule.{outcomeOf, newsIn, newsOf}
+use Rattle.arm64_hint_rules.specs.Rule.{outcomeOf, outcomeNumber, newsIn, newsOf}
 use Rattle.arm64_hint_rules.specs.declared.outcome.Outcome.{Outcome}
 use Rattle.arm64_hint_rules.specs.declared.outcome.Outcome.the-variants.{Skipped, Worked}
 use Rattle.arm64_hint_work.specs.Step.{placesOf, addDecision, addOutcome, total, stepsOf}
@@ -67,22 +69,22 @@ skipped-kinds h = rw (counts (h .kind))
 
 module _ (image hints entries : List ℕ) where
   -- lists that are not whole records, or have more than 2^32 - 1, are number 1
-  pub not-lists : (isList (length hints) 64 && isList (length entries) 24) ≡ false → runOf image hints entries ≡ A.Refused Lengths
+  pub not-lists : (isList (length hints) hintSize && isList (length entries) relocSize) ≡ false → runOf image hints entries ≡ A.Refused Lengths
   unfolding runOf checkAll checkLists
   not-lists e =
-      ap (λ (c : Check). answerBy (first c (checkTo (length image) (length entries / 24) hints (hintCount hints)))
+      ap (λ (c : Check). answerBy (first c (checkTo (length image) (length entries / relocSize) hints (hintCount hints)))
       (worked image hints entries (orderOf hints) .tally))
-      (choose-false (isList (length hints) 64 && isList (length entries) 24) C.Fit (C.Refused Lengths) e)
+      (choose-false (isList (length hints) hintSize && isList (length entries) relocSize) C.Fit (C.Refused Lengths) e)
 
-  pub too-many-hints : 2 ^ 32 ≤ length hints / 64 → runOf image hints entries ≡ A.Refused Lengths
+  pub too-many-hints : 2 ^ 32 ≤ hintCount hints → runOf image hints entries ≡ A.Refused Lengths
   unfolding isList
   too-many-hints h =
-      not-lists (ap (λ (b : Bool). b && isList (length entries) 24) (both-fail (eqb (length hints % 64) 0) (le-ltb (length hints / 64) (2 ^ 32) h)))
+      not-lists (ap (λ (b : Bool). b && isList (length entries) relocSize) (both-fail (eqb (length hints % hintSize) 0) (le-ltb (hintCount hints) (2 ^ 32) h)))
 
-  pub too-many-entries : 2 ^ 32 ≤ length entries / 24 → runOf image hints entries ≡ A.Refused Lengths
+  pub too-many-entries : 2 ^ 32 ≤ length entries / relocSize → runOf image hints entries ≡ A.Refused Lengths
   unfolding isList
   too-many-entries h =
-      not-lists (both-fail (isList (length hints) 64) (both-fail (eqb (length entries % 24) 0) (le-ltb (length entries / 24) (2 ^ 32) h)))
+      not-lists (both-fail (isList (length hints) hintSize) (both-fail (eqb (length entries % relocSize) 0) (le-ltb (length entries / relocSize) (2 ^ 32) h)))
 
   -- the run's number is the check's
   pub number-is : runNumber (runOf image hints entries) ≡ checkNumber (checkAll (length image) hints (length entries))
@@ -135,14 +137,21 @@ module _ (image hints entries : List ℕ) where
 
 -- ---- a hint answered nine
 
-module _ (hints entries : List ℕ) (k : ℕ) (w : Work Tally) (s : Insns) (nine : answered (stepsOf hints entries) k (w .image) ≡ Worked Nine s) where
+-- writes no word, and is counted as turned down
+is-nine : (o : Outcome) → outcomeNumber o ≡ numberOf Overflow → (newsOf o ≡ []) × ((t : Tally) → addOutcome o t ≡ addDecision Nine t)
+is-nine Skipped e = absurd (omega arith)
+is-nine (Worked Declined s) e = absurd (omega arith)
+is-nine (Worked Nine s) e = (refl, λ t. refl)
+is-nine (Worked (Rewritten p) s) e = absurd (omega arith)
+
+module _ (hints entries : List ℕ) (k : ℕ) (w : Work Tally) (nine : outcomeNumber (answered (stepsOf hints entries) k (w .image)) ≡ numberOf Overflow) where
   -- leaves the image, and is counted
   pub nine-leaves : stepOf (stepsOf hints entries) k w ≡ record { image = w .image; tally = addDecision Nine (w .tally) }
   nine-leaves =
+      let o = is-nine (answered (stepsOf hints entries) k (w .image)) nine in
       let p : written (stepsOf hints entries) k (w .image) ≡ w .image =
-      ap (λ (o : Outcome). putWords (placesOf (hintOf hints k)) (newsOf o) (w .image)) nine ∙ sym (puts-none (placesOf (hintOf hints k)) (w .image)) in
-      let q : addOutcome (answered (stepsOf hints entries) k (w .image)) (w .tally) ≡ addDecision Nine (w .tally) =
-      ap (λ (o : Outcome). addOutcome o (w .tally)) nine in
+      ap (λ (l : List (Option ℕ)). putWords (placesOf (hintOf hints k)) l (w .image)) (o .0) ∙ sym (puts-none (placesOf (hintOf hints k)) (w .image)) in
+      let q : addOutcome (answered (stepsOf hints entries) k (w .image)) (w .tally) ≡ addDecision Nine (w .tally) = o .1 (w .tally) in
       λ i. record { image = p i; tally = q i }
 
   -- and the hints after it are worked on that

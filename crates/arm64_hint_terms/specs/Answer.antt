@@ -3,19 +3,27 @@ use Prim.Native.Nat.{ℕ, _+_, _%_, _^_}
 use mathlib.Core.Bool.{Bool, _&&_}
 use lib.Dec.{eqb, ltb}
 use Rattle.util.specs.Choice.{choose}
+use Rattle.macho.specs.Refusal.{numberOf}
+use Rattle.macho.specs.declared.refusal.Refusal.the-variants.{Overflow}
 use Rattle.arm64_insn.specs.Reach.{within1mb}
 use Rattle.arm64_insn.specs.Literal.{hasLiteralForm}
 use Rattle.arm64_insn.specs.declared.ldst.LoadStore.{LoadStore}
 use Rattle.arm64_hint_terms.specs.declared.answer.Sum.{Sum}
 use Rattle.arm64_hint_terms.specs.declared.answer.Sum.the-variants.{Of, Over}
 use Rattle.arm64_hint_terms.specs.declared.answer.Decision.{Decision}
-use Rattle.arm64_hint_terms.specs.declared.answer.Decision.the-variants.{Nine}
+use Rattle.arm64_hint_terms.specs.declared.answer.Decision.the-variants.{Declined, Nine, Rewritten}
+
+-- the number of a decision: that of an overflow where a sum is above 2^64 - 1, else 0
+abbrev pub decisionNumber : Decision → ℕ
+decisionNumber Declined = 0
+decisionNumber Nine = numberOf Overflow
+decisionNumber (Rewritten p) = 0
 
 -- a + b, or that it is above 2^64 - 1
 unfoldable pub sumOf : ℕ → ℕ → Sum
 sumOf a b = choose (ltb (a + b) (2 ^ 64)) (Of (a + b)) Over
 
--- number 9 for a sum above 2^64 - 1, else what is decided of the sum
+-- nine for a sum above 2^64 - 1, else what is decided of the sum
 abbrev pub summed : Sum → (ℕ → Decision) → Decision
 summed Over f = Nine
 summed (Of n) f = f n

@@ -36,7 +36,7 @@ pub struct Plan {
     pub w2: NewWord,
 }
 
-// A rule's answer: no rewrite, a sum above 2^64 - 1 (number 9), or a rewrite.
+// A rule's answer: no rewrite, a sum above 2^64 - 1 (decisionNumber, 9), or a rewrite.
 pub enum Decision {
     Declined,
     Nine,

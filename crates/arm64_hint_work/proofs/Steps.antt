@@ -4,19 +4,23 @@ use mathlib.Core.Bool.{true}
 use mathlib.Core.List.{List, map}
 use Prim.Native.Nat.{ℕ, _+_, _≤_}
 use native.Mathlib.Omega.{arith}
+use lib.Dec.{eqb}
 use lib.ListN.{length}
+use Rattle.util.specs.Choice.{choose}
 use Rattle.util.specs.Part.{part, splice}
 use Rattle.util.proofs.Choice.{choose-true, choose-false}
 use Rattle.util.proofs.Part.{length-part}
 use Rattle.macho.specs.declared.hint.HintRecord.{HintRecord}
 use Rattle.macho.specs.Hint.{hintOf}
+use Rattle.macho.specs.Refusal.{numberOf}
+use Rattle.macho.specs.declared.refusal.Refusal.the-variants.{Overflow}
 use Rattle.image.specs.Words.{wordsAt, putWords}
 use Rattle.image.specs.Steps.{answered, written}
 use Rattle.arm64_hint_terms.specs.declared.answer.Decision.the-variants.{Declined, Nine, Rewritten}
 use Rattle.arm64_hint_terms.specs.declared.rels.Rels.{Rels}
 use Rattle.arm64_hint_places.specs.Hint.{isSkipped, relsOf, Inside}
 use Rattle.arm64_hint_places.proofs.Places.{insns-none}
-use Rattle.arm64_hint_rules.specs.Rule.{outcomeOf, newsOf, ruled, ruledIn, sectionAfter}
+use Rattle.arm64_hint_rules.specs.Rule.{outcomeOf, outcomeNumber, newsOf, ruled, ruledIn, sectionAfter}
 use Rattle.arm64_hint_rules.specs.declared.outcome.Outcome.{Outcome}
 use Rattle.arm64_hint_rules.specs.declared.outcome.Outcome.the-variants.{Skipped, Worked}
 use Rattle.arm64_hint_work.specs.Step.{placesOf, addOutcome, total, stepsOf}
@@ -82,6 +86,15 @@ total-add Skipped t = omega arith
 total-add (Worked Declined s) t = omega arith
 total-add (Worked Nine s) t = omega arith
 total-add (Worked (Rewritten p) s) t = omega arith
+
+-- those of number 9 are turned down, and only they
+pub turned-down : (o : Outcome) (t : Tally)
+    → addOutcome o t .«turned_down» ≡ choose (eqb (outcomeNumber o) (numberOf Overflow)) (t .«turned_down» + 1) (t .«turned_down»)
+unfolding choose
+turned-down Skipped t = refl
+turned-down (Worked Declined s) t = refl
+turned-down (Worked Nine s) t = refl
+turned-down (Worked (Rewritten p) s) t = refl
 
 -- the order of two outcomes does not count
 pub add-swap : (a b : Outcome) (t : Tally) → addOutcome a (addOutcome b t) ≡ addOutcome b (addOutcome a t)
