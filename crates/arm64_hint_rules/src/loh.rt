@@ -1,4 +1,5 @@
 // The eight hint rules at work: each gets its section as the part of what is lent, reads its words there, and stores what is decided through it.
+// The run lends the hint's part itself, so that the part taken here starts at 0 and is all of it.
 use crate::outcome::Outcome;
 use crate::part::part;
 use crate::store::store;
