@@ -10,7 +10,7 @@ use Rattle.macho.specs.declared.reloc.Reloc.{Reloc}
 use Rattle.macho.specs.declared.resolved.Resolved.{Resolved}
 use Rattle.macho.specs.declared.refusal.Refusal.{Refusal}
 use Rattle.arm64_fixup_entry.specs.Target.{placeOf, widthOf}
-use Rattle.arm64_fixup_entry.specs.Check.{outside, misflagged, overflows, unsupported, subtracts, isLone, lacksSymbol, short, checkOf}
+use Rattle.arm64_fixup_entry.specs.Check.{outside, misflagged, overflows, unsupported, subtracts, lacksNext, lacksSymbol, short, checkOf}
 use Rattle.arm64_fixup_entry.specs.declared.target.Bases.{Bases}
 use Rattle.macho.specs.declared.refusal.Check.{Check}
 use Rattle.macho.specs.declared.refusal.Check.the-variants.{Fit, Refused}
@@ -20,7 +20,7 @@ pub record Sound (len : ℕ) (b : Bases) (e : Reloc) (t : Resolved) (last : Bool
   pub flags : misflagged t ≡ false
   pub place : placeOf b e < 2 ^ 64
   pub known : e .ty < 10
-  pub paired : isLone (e .ty) last ≡ false
+  pub paired : lacksNext (e .ty) last ≡ false
   pub symbol : lacksSymbol e t ≡ false
   pub inside : e .offset + widthOf e t ≤ len
 
@@ -37,7 +37,7 @@ sound len b e t last h =
     let p₂ = passed (misflagged t) _ _ (p₁ .1) in
     let p₃ = passed (overflows b e) _ _ (p₂ .1) in
     let p₄ = passed (unsupported (e .ty)) _ _ (p₃ .1) in
-    let p₅ = passed (isLone (e .ty) last) _ _ (p₄ .1) in
+    let p₅ = passed (lacksNext (e .ty) last) _ _ (p₄ .1) in
     let p₆ = passed (lacksSymbol e t) _ _ (p₅ .1) in
     let p₇ = passed (short len e t) _ _ (p₆ .1) in
     record {
@@ -56,6 +56,6 @@ followed len b e t i n h s l =
     let e : eqb (i + 1) n ≡ false = go (eqb (i + 1) n) (sound len b e t _ h .paired) in
     omega (arith, eqb-false (i + 1) n e)
   where
-    go : (last : Bool) → isLone (e .ty) last ≡ false → last ≡ false
+    go : (last : Bool) → lacksNext (e .ty) last ≡ false → last ≡ false
     go true p = absurd (true≢false (sym s ∙ p))
     go false p = refl

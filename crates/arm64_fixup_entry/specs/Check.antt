@@ -36,8 +36,8 @@ abbrev pub subtracts : ℕ → Bool
 subtracts ty = eqb ty ARM64-RELOC-SUBTRACTOR
 
 -- number 8: no entry after it
-abbrev pub isLone : ℕ → Bool → Bool
-isLone ty last = last && subtracts ty
+abbrev pub lacksNext : ℕ → Bool → Bool
+lacksNext ty last = last && subtracts ty
 
 -- the types that take a symbol's GOT slot, or its address where they are relaxed, GOT_LOAD_PAGE21 aside
 abbrev pub usesGot : ℕ → Bool
@@ -63,6 +63,6 @@ checkOf len b e t last =
     (choose (misflagged t) (Refused Flags)
     (choose (overflows b e) (Refused Overflow)
     (choose (unsupported (e .ty)) (Refused Unsupported)
-    (choose (isLone (e .ty) last) (Refused LoneSubtractor)
+    (choose (lacksNext (e .ty) last) (Refused LoneSubtractor)
     (choose (lacksSymbol e t) (Refused NeedsSymbol)
     (choose (short len e t) (Refused Bounds) Fit))))))

@@ -13,7 +13,7 @@ use macho::refusal::Refusal;
 use macho::reloc::Reloc;
 use macho::resolved::Resolved;
 ghost use mathlib.Core.Path.{_≡_};
-ghost use Rattle.arm64_fixup_entry.specs.Check.{overflows, unsupported, subtracts, usesGot, needsSymbol, isLone, lacksSymbol, checkOf};
+ghost use Rattle.arm64_fixup_entry.specs.Check.{overflows, unsupported, subtracts, usesGot, needsSymbol, lacksNext, lacksSymbol, checkOf};
 
 // Whether base plus offset passes 2^64 - 1.
 fn overflows(bases: Bases, e: Reloc) -> bool
@@ -66,8 +66,8 @@ fn needs_symbol(ty: u8, t: Resolved) -> bool
 }
 
 // Whether a SUBTRACTOR has no entry after it.
-fn is_lone(ty: u8, last: bool) -> bool
-    ensures { λ r. ⌜ r ≡ isLone ty last ⌝ }
+fn lacks_next(ty: u8, last: bool) -> bool
+    ensures { λ r. ⌜ r ≡ lacksNext ty last ⌝ }
 {
     if last {
         return subtracts(ty);
@@ -102,7 +102,7 @@ pub fn check_entry(len: usize, bases: Bases, e: Reloc, t: Resolved, last: bool) 
     if unsupported(e.ty) {
         return Check::Refused(Refusal::Unsupported);
     }
-    if is_lone(e.ty, last) {
+    if lacks_next(e.ty, last) {
         return Check::Refused(Refusal::LoneSubtractor);
     }
     if lacks_symbol(e, t) {

@@ -23,7 +23,7 @@ use Rattle.arm64_hint_laws.proofs.Cases as Cases
 use Rattle.arm64_hint_laws.proofs.Cases.{EachRule}
 use Rattle.arm64_machine.specs.Machine.{Placed, placed}
 use Rattle.arm64_machine.specs.SameRun.{SameRun}
-use Rattle.arm64_machine.specs.Premises.{Fair}
+use Rattle.arm64_machine.specs.Premises.{FairWords}
 use Rattle.arm64_machine.proofs.Rewrites.{unchanged}
 use Rattle.arm64_machine.proofs.Words as Words
 
@@ -66,7 +66,7 @@ reached : {s : Insns} {addr to : ℕ} {d : Add} {ls : LoadStore} (t : Adds s add
 reached {ls = ls} t a = a .made ∙ ap (λ (n : ℕ). n + ls .offset) (t .made)
 
 -- two words
-module _ (s : Insns) (at : Addressed s) (fair : Fair (placedOf 2 s)) where
+module _ (s : Insns) (at : Addressed s) (fair : FairWords (placedOf 2 s)) where
   drop : Cases.Drops s (Keeps 2 s)
   drop p = Words.second-dropped (p .first) (p .second) (p .register) (p .page)
 
@@ -78,7 +78,7 @@ module _ (s : Insns) (at : Addressed s) (fair : Fair (placedOf 2 s)) where
   adr-first d to m near = Words.adr-first fair (at .first) (at .second) (m .first) to (m .second) (m .source) (m .made) (m .below) near
 
 -- three words
-module _ (s : Insns) (at : Addressed s) (fair : Fair (placedOf 3 s)) where
+module _ (s : Insns) (at : Addressed s) (fair : FairWords (placedOf 3 s)) where
   slot-second : Cases.Slots s (Keeps 3 s)
   slot-second ld slot a =
       let l = a .load in
@@ -102,7 +102,7 @@ module _ (s : Insns) (at : Addressed s) (fair : Fair (placedOf 3 s)) where
 
 -- of a hint of a kind
 abbrev Law : Insns → ℕ → Decision → Type 0
-Law s kind d = Fair (placedOf (wordCount kind) s) → Keeps (wordCount kind) s d
+Law s kind d = FairWords (placedOf (wordCount kind) s) → Keeps (wordCount kind) s d
 
 each-rule : (s : Insns) (r : Rels) → Addressed s → EachRule s r (Law s)
 unfolding wordCount choose
@@ -129,5 +129,5 @@ each-rule s r at =
     same3 = unchanged (placedOf 3 s)
 
 -- THE LAW of the decisions: fair words run as what is decided of them, for every kind and whatever the entries say
-pub decided : (kind : ℕ) (s : Insns) (r : Rels) → Addressed s → Fair (placedOf (wordCount kind) s) → Keeps (wordCount kind) s (decide kind s r)
+pub decided : (kind : ℕ) (s : Insns) (r : Rels) → Addressed s → FairWords (placedOf (wordCount kind) s) → Keeps (wordCount kind) s (decide kind s r)
 decided kind s r at = Cases.by-kind s r (Law s) (each-rule s r at) kind

@@ -22,7 +22,7 @@ use Rattle.arm64_hint_terms.specs.declared.answer.Decision.the-variants.{Declin
 use Rattle.arm64_hint_laws.proofs.Written.{AllFit, all-fit}
 use Rattle.arm64_machine.specs.Machine.{Placed, placed}
 use Rattle.arm64_machine.specs.SameRun.{SameRun}
-use Rattle.arm64_machine.specs.Premises as Machine
+use Rattle.arm64_machine.specs.Premises.{FairWords}
 use Rattle.arm64_hint_places.specs.Hint.{isSkipped, insnsIn, addrsOf, insnsOf, relsOf}
 use Rattle.arm64_hint_places.proofs.Places.{count-is, count-two, insns-three, insns-two}
 use Rattle.arm64_hint_rules.specs.Rule.{ruled, outcomeOf, newsIn, newsOf}
@@ -112,4 +112,4 @@ step-same entries h e low x inside fair =
     let old = old-codes h e x in
     let new = new-codes h e d x (fair .disjoint) inside (all-fit (h .kind) s (relsOf entries h)) in
     rw (outcome-is h e entries words)
-    (subst₂ SameRun old new (decided (h .kind) s (relsOf entries h) (addressed h e low words) (subst Machine.Fair (sym old) (fair .words))))
+    (subst₂ SameRun old new (decided (h .kind) s (relsOf entries h) (addressed h e low words) (subst FairWords (sym old) (fair .words))))

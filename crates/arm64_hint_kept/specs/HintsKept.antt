@@ -15,8 +15,7 @@ use Rattle.arm64_hint_order.specs.Cursor.{objectAt, lateAt}
 use Rattle.arm64_hint_order.specs.Runs.{ObjectsApart}
 use Rattle.arm64_machine.specs.Machine.{Access, State, Placed, placed, Other, run}
 use Rattle.arm64_machine.specs.SameRun.{spared, Agree, SameRun}
-use Rattle.arm64_machine.specs.Premises as Machine
-use Rattle.arm64_machine.specs.Premises.{Each, touches}
+use Rattle.arm64_machine.specs.Premises.{Each, touches, FairWords, WordPremises}
 use Rattle.arm64_hint_places.specs.Hint.{isSkipped, insnsIn, addrsOf}
 use Rattle.arm64_hint_work.specs.Step.{placesOf}
 use Rattle.arm64_hint_work.specs.declared.tally.Tally.{Tally}
@@ -57,11 +56,11 @@ Alone hints = Runs.Alone (hintCount hints) (λ k. wordBytes (hintOf hints k))
 
 -- ---- the statement
 
--- what is supposed of a hint's words in an image: they share no byte, and are fair (arm64_machine, Fair: allocated, aligned, no-31-link,
+-- what is supposed of a hint's words in an image: they share no byte, and are fair (arm64_machine, FairWords: allocated, aligned, no-31-link,
 -- no-31-added, no-store)
 pub record Fair (h : HintRecord) (image : List ℕ) : Type 0 where
   pub disjoint : Disjoint (placesOf h)
-  pub words : Machine.Fair (codes h image)
+  pub words : FairWords (codes h image)
 
 -- a hint's words in a later image run as they do in this one, from every state and whatever other words do (arm64_machine, SameRun)
 abbrev pub Same : HintRecord → List ℕ → List ℕ → Type 0
@@ -81,11 +80,11 @@ pub record HintsKept (image hints entries l : List ℕ) (t : Tally) : Type 0 whe
 
 -- ---- the claim with every premise (RULES 1.9 to 1.13)
 
--- every premise (RULES 9.12 to 9.20) on a sequence and its run from state s, also those that Fair leaves out (arm64_machine, Premises: the five of
--- Fair, empty-at-first, none-data, no-sum-passes and no-vector-link)
+-- every premise (RULES 9.12 to 9.20) on a sequence and its run from state s, also those that Fair leaves out (arm64_machine, WordPremises: the
+-- five of FairWords, empty-at-first, none-data, no-sum-passes and no-vector-link)
 pub record Premises (h : HintRecord) (image : List ℕ) (o : Other) (s : State) : Type 0 where
   pub disjoint : Disjoint (placesOf h)
-  pub words : Machine.Premises (codes h image) o s
+  pub words : WordPremises (codes h image) o s
 
 -- the accesses touch no byte of a word at these addresses
 abbrev pub NoneData : List ℕ → List Access → Type 0

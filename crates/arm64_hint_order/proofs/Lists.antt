@@ -105,7 +105,7 @@ count-range lo (suc n) k h g =
     (λ e. count-here lo k (range (suc lo) n) e ∙ ap suc (count-none k (all-map (λ j r. omega arith) (all-range (suc lo) n))))
     (λ ne. count-there lo k (range (suc lo) n) ne ∙ count-range (suc lo) n k (omega arith) (omega arith))
 
--- a selection has all places of what passes
+-- a selection has all positions of what passes
 pub count-those-in : (p : ℕ → Bool) (k : ℕ) (l : List ℕ) → p k ≡ true → count k (those p l) ≡ count k l
 count-those-in p k [] h = refl
 count-those-in p k (j ∷ l) h =
@@ -128,7 +128,7 @@ once-of n l a h = record { each = h; none = λ k g. count-none k (all-map (λ j 
 pub once-range : (n : ℕ) → Once n (range 0 n)
 once-range n = once-of n (range 0 n) (all-map (λ k h. omega arith) (all-range 0 n)) (λ k h. count-range 0 n k (omega arith) (omega arith))
 
--- the places of k in a list are so many copies of k
+-- the positions of k in a list are so many copies of k
 those-same : (k : ℕ) (l : List ℕ) → those (λ j. eqb j k) l ≡ replicate (count k l) k
 those-same k [] = refl
 those-same k (j ∷ l) =

@@ -12,7 +12,7 @@ use Rattle.util.proofs.Choice.{split, both}
 use Rattle.util.proofs.All.{all-append, all-map, all-empty}
 use Rattle.util.proofs.Cases.{same-or, less-or}
 use Rattle.arm64_hint_order.specs.Lists.{range, those, count, ofObj, Once, sel, inPass, passes, order, bound, ownFrom, ownList}
-use Rattle.arm64_hint_order.specs.Rising.{Before, by-object, by-pass, by-place, Rising, last, first}
+use Rattle.arm64_hint_order.specs.Rising.{Before, by-object, by-pass, by-position, Rising, last, first}
 use Rattle.arm64_hint_order.specs.Runs.{Kept}
 use Rattle.arm64_hint_order.proofs.Lists.{all-those, all-range, those-append, those-all, those-none}
 use Rattle.arm64_hint_order.proofs.Lists.{count-append, count-here, count-there, all-count, count-none, count-range, count-those-in, once-inside, once-count}
@@ -63,7 +63,7 @@ module _ (obj : ℕ → ℕ) (late : ℕ → Bool) where
         rising-range (inPass obj late o b) 0 (n - 0) (λ i j lt s t.
         let x = pass-true o b i s in
         let y = pass-true o b j t in
-        by-place (x .0 ∙ sym (y .0)) (x .1 ∙ sym (y .1)) lt)
+        by-position (x .0 ∙ sym (y .0)) (x .1 ∙ sym (y .1)) lt)
 
     passes-rising : (o : ℕ) → Rising obj late (passes obj late n o)
     passes-rising o =
@@ -179,7 +179,7 @@ module _ (obj : ℕ → ℕ) (late : ℕ → Bool) (n : ℕ) where
   pub from-object : (k : ℕ) → k < n → ownFrom obj late n (obj k) ≡ passes obj late n (obj k) ++ ownFrom obj late n (suc (obj k))
   from-object k h = from-first (obj k) (bound-above obj n k h)
 
-  -- objects that no hint has take no place
+  -- objects that no hint has add nothing
   from-skip : (o d : ℕ) → ((k : ℕ) → k < n → o ≤ obj k → o + d ≤ obj k) → ownFrom obj late n o ≡ ownFrom obj late n (o + d)
   from-skip o zero h = ap (ownFrom obj late n) (let e : o ≡ o + 0 = omega arith in e)
   from-skip o (suc d) h =
@@ -203,13 +203,13 @@ module _ (obj : ℕ → ℕ) (late : ℕ → Bool) where
   never : (i j : ℕ) → Before obj late i j → Before obj late j i → ⊥
   never i j (by-object a) (by-object b) = omega arith
   never i j (by-object a) (by-pass e f g) = omega arith
-  never i j (by-object a) (by-place e f g) = omega arith
+  never i j (by-object a) (by-position e f g) = omega arith
   never i j (by-pass e f g) (by-object b) = omega arith
   never i j (by-pass e f g) (by-pass e′ f′ g′) = true≢false (sym g ∙ f′)
-  never i j (by-pass e f g) (by-place e′ f′ g′) = true≢false (sym g ∙ f′ ∙ f)
-  never i j (by-place e f g) (by-object b) = omega arith
-  never i j (by-place e f g) (by-pass e′ f′ g′) = true≢false (sym g′ ∙ f ∙ f′)
-  never i j (by-place e f g) (by-place e′ f′ g′) = omega arith
+  never i j (by-pass e f g) (by-position e′ f′ g′) = true≢false (sym g ∙ f′ ∙ f)
+  never i j (by-position e f g) (by-object b) = omega arith
+  never i j (by-position e f g) (by-pass e′ f′ g′) = true≢false (sym g′ ∙ f ∙ f′)
+  never i j (by-position e f g) (by-position e′ f′ g′) = omega arith
 
   pub rising-only : {l m : List ℕ} → Rising obj late l → Rising obj late m → ((k : ℕ) → count k l ≡ count k m) → l ≡ m
   rising-only last last e = refl

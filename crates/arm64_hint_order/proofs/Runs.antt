@@ -10,7 +10,7 @@ use Rattle.util.specs.All.{All, empty, more}
 use Rattle.util.proofs.All.{all-left}
 use Rattle.util.proofs.Cases.{same-or}
 use Rattle.image.specs.Words.{wordsAt}
-use Rattle.image.specs.Local.{Agree, Writes, Local}
+use Rattle.image.specs.Local.{SameBytes, Writes, Local}
 use Rattle.image.specs.Steps.{Work, stepBy, Steps, footOf, answered, written, stepOf}
 use Rattle.image.proofs.Local.{apart-sym, leaves, local-wide}
 use Rattle.image.proofs.Words.{words-read}
@@ -49,7 +49,7 @@ module _ {A T : Type 0} (write : ℕ → List ℕ → List ℕ) (out : ℕ → L
 module _ (write : ℕ → List ℕ → List ℕ) (foot : ℕ → ℕ → Bool) (n : ℕ) (writes : (k : ℕ) → k < n → Writes (foot k) (write k)) where
   module _ (k : ℕ) (hk : k < n) (alone : Alone n foot k) where
     -- steps of a list without k leave its bytes
-    untouched : {l : List ℕ} → All (λ j. j < n) l → count k l ≡ 0 → (x : List ℕ) → Agree (foot k) (runList write l x) x
+    untouched : {l : List ℕ} → All (λ j. j < n) l → count k l ≡ 0 → (x : List ℕ) → SameBytes (foot k) (runList write l x) x
     untouched empty c x b g = refl
     untouched (more {k = j} {l = l} h a) c x b g =
         same-or j k
@@ -58,7 +58,7 @@ module _ (write : ℕ → List ℕ → List ℕ) (foot : ℕ → ℕ → Bool) (
         untouched a (omega (arith, count-there j k l ne)) (write j x) b g
         ∙ leaves (foot k) (foot j) (apart-sym (alone j h ne)) (write j) (writes j h) x b g)
 
-    touched : {l : List ℕ} → All (λ j. j < n) l → count k l ≡ 1 → (x : List ℕ) → Agree (foot k) (runList write l x) (write k x)
+    touched : {l : List ℕ} → All (λ j. j < n) l → count k l ≡ 1 → (x : List ℕ) → SameBytes (foot k) (runList write l x) (write k x)
     touched empty c x b g = absurd (omega arith)
     touched (more {k = j} {l = l} h a) c x b g =
         same-or j k
@@ -68,11 +68,11 @@ module _ (write : ℕ → List ℕ → List ℕ) (foot : ℕ → ℕ → Bool) (
         ∙ writes k hk .makes (write j x) x (writes j h .size x) (leaves (foot k) (foot j) (apart-sym (alone j h ne)) (write j) (writes j h) x) b g)
 
     -- after any list of each hint once, hint k's bytes are what its own step makes of them in the first image
-    pub own-bytes : (l : List ℕ) → Once n l → (x : List ℕ) → Agree (foot k) (runList write l x) (write k x)
+    pub own-bytes : (l : List ℕ) → Once n l → (x : List ℕ) → SameBytes (foot k) (runList write l x) (write k x)
     own-bytes l once = touched (once-inside n l once) (once .each k hk)
 
     -- just before its turn they are those of the first image
-    pub own-turn : (a b : List ℕ) → Once n (a ++ k ∷ b) → (x : List ℕ) → Agree (foot k) (runList write a x) x
+    pub own-turn : (a b : List ℕ) → Once n (a ++ k ∷ b) → (x : List ℕ) → SameBytes (foot k) (runList write a x) x
     own-turn a b once =
         untouched (all-left a (k ∷ b) (once-inside n (a ++ k ∷ b) once))
         (omega (arith, count-append k a (k ∷ b), once .each k hk, count-here k k b refl))

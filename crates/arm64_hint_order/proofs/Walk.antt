@@ -1,4 +1,4 @@
--- The cursor's steps against the order of work. Carried by selections from a place on, and by the work of the objects from a number on.
+-- The cursor's steps against the order of work. Carried by selections from a position on, and by the work of the objects from a number on.
 use mathlib.Core.Path.{_≡_, refl, sym, ap, ap₂, _∙_, subst}
 use mathlib.Core.Bool.{Bool, true, false, _&&_, true≢false}
 use mathlib.Core.List.{List, [], _∷_, _++_, append-nil}
@@ -69,7 +69,7 @@ module _ (obj : ℕ → ℕ) where
 
 -- ---- the least object number
 
--- one hint more: a place r that is no worse than the best so far, nor than hint k
+-- one hint more: a position r that is no worse than the best so far, nor than hint k
 pub least-more : (s : List ℕ) (o k best r : ℕ) → Least s o k best → r ≤ hintCount s → (r < hintCount s → o ≤ objectAt s r)
     → (best < hintCount s → (r < hintCount s) × (objectAt s r ≤ objectAt s best)) → (o ≤ objectAt s k → (r < hintCount s) × (objectAt s r ≤ objectAt s k))
     → Least s o (k + 1) r

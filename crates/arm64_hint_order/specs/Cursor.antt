@@ -45,7 +45,7 @@ abbrev pub following : List ℕ → Next → List ℕ
 following s (At k c) = k ∷ rest s c
 following s Done = []
 
--- the object numbers never fall, and those from o on begin at place p
+-- the object numbers never fall, and those from o on begin at position p
 pub record Cut (s : List ℕ) (o p : ℕ) : Type 0 where
   pub rises : (i j : ℕ) → i ≤ j → j < hintCount s → objectAt s i ≤ objectAt s j
   pub below : (k : ℕ) → k < p → objectAt s k < o

@@ -9,7 +9,7 @@ use Rattle.util.specs.All.{All}
 pub data Before (obj : ℕ → ℕ) (late : ℕ → Bool) (i j : ℕ) : Type 0 where
   by-object : obj i < obj j → Before obj late i j
   by-pass : obj i ≡ obj j → late i ≡ false → late j ≡ true → Before obj late i j
-  by-place : obj i ≡ obj j → late i ≡ late j → i < j → Before obj late i j
+  by-position : obj i ≡ obj j → late i ≡ late j → i < j → Before obj late i j
 
 -- each member of a list is worked before all that follow it
 pub data Rising (obj : ℕ → ℕ) (late : ℕ → Bool) : List ℕ → Type 0 where

@@ -17,19 +17,19 @@ grouped obj zero = true
 grouped obj (suc zero) = true
 grouped obj (suc (suc n)) = grouped obj (suc n) && leb (obj n) (obj (suc n))
 
--- the object number of the hint before place k, 0 before the first
+-- the object number of the hint before position k, 0 before the first
 abbrev pub lastOf : (ℕ → ℕ) → ℕ → ℕ
 lastOf obj zero = 0
 lastOf obj (suc k) = obj k
 
--- p is a place of the least object number from o on among the first m hints, or past the list where there is none
+-- p is a position of the least object number from o on among the first m hints, or past the list where there is none
 pub record Least (s : List ℕ) (o m p : ℕ) : Type 0 where
   pub within : p ≤ hintCount s
   pub reached : p < hintCount s → o ≤ objectAt s p
   pub least : (k : ℕ) → k < m → o ≤ objectAt s k → (p < hintCount s) × (objectAt s p ≤ objectAt s k)
 
 -- the same among all, and where the list is taken as grouped the object's hints begin there
-pub record Placed (s : List ℕ) (grouped : Bool) (o p : ℕ) : Type 0 where
+pub record Positioned (s : List ℕ) (grouped : Bool) (o p : ℕ) : Type 0 where
   pub found : Least s o (hintCount s) p
   pub begins : grouped ≡ true → p < hintCount s → Cut s (objectAt s p) p
 
@@ -40,12 +40,12 @@ pub record GroupEnd (s : List ℕ) (p e : ℕ) : Type 0 where
   pub same : (k : ℕ) → p ≤ k → k < e → objectAt s k ≡ objectAt s p
   pub other : e < hintCount s → objectAt s e ≡ objectAt s p → ⊥
 
--- r is the first place of a pass from lo on, or hi or above where there is none below hi
+-- r is the first position of a pass from lo on, or hi or above where there is none below hi
 pub record Found (s : List ℕ) (o : ℕ) (b : Bool) (lo hi r : ℕ) : Type 0 where
   pub skipped : passOf s o b r hi ≡ passOf s o b lo hi
   pub stops : r < hi → inPass (objectAt s) (lateAt s) o b r ≡ true
 
--- c stands at the start of the object of place p
+-- c stands at the start of the object of position p
 pub record Entered (s : List ℕ) (p : ℕ) (c : Cursor) : Type 0 where
   pub object : c .object ≡ objectAt s p
   pub whole : leftIn s c ≡ passes (objectAt s) (lateAt s) (hintCount s) (objectAt s p)

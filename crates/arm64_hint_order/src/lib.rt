@@ -12,9 +12,9 @@ ghost use Prim.Native.Nat.{_+_, _≤_, _<_};
 ghost use Rattle.macho.specs.Hint.{hintCount};
 ghost use Rattle.arm64_hint_order.specs.Lists.{inPass};
 ghost use Rattle.arm64_hint_order.specs.Cursor.{objectAt, lateAt, orderOf, rest, following, Cut, Sound, SoundNext};
-ghost use Rattle.arm64_hint_order.specs.Walk.{grouped, Least, Placed, GroupEnd, Found, Entered, StepsIn};
+ghost use Rattle.arm64_hint_order.specs.Walk.{grouped, Least, Positioned, GroupEnd, Found, Entered, StepsIn};
 
-// Where a walk stands: in the object's pass (the second if late is set), before place at. The object's hints stand from lo up to hi.
+// Where a walk stands: in the object's pass (the second if late is set), before position at. The object's hints stand from lo up to hi.
 pub struct Cursor {
     pub grouped: bool,
     pub object: u32,
@@ -49,7 +49,7 @@ fn in_pass(hints: &[u8], o: u32, late: bool, k: usize) -> bool
     is_late(hints, k) == late
 }
 
-// The first place after p with another object, or the number of hints, in a grouped list. Where the last hint has p's object, nothing is walked.
+// The first position after p with another object, or the number of hints, in a grouped list. Where the last hint has p's object, nothing is walked.
 fn group_end(hints: &[u8], p: usize) -> usize
     requires { ⌜ (p < hintCount (now hints)) × Cut (now hints) (objectAt (now hints) p) p ⌝ }
     ensures { λ r. ⌜ GroupEnd (now (hints .entry)) p r ⌝ }
@@ -69,7 +69,7 @@ fn group_end(hints: &[u8], p: usize) -> usize
     k
 }
 
-// The better of two places for the least object number from o on: `best`, which may be none, or k.
+// The better of two positions for the least object number from o on: `best`, which may be none, or k.
 fn lesser(hints: &[u8], o: u64, best: usize, k: usize) -> usize
     requires { ⌜ (k < hintCount (now hints)) × Least (now hints) o k best ⌝ }
     ensures { λ r. ⌜ Least (now (hints .entry)) o (k + 1) r ⌝ }
@@ -87,7 +87,7 @@ fn lesser(hints: &[u8], o: u64, best: usize, k: usize) -> usize
     k
 }
 
-// A place of the least object number from o on, or the number of hints.
+// A position of the least object number from o on, or the number of hints.
 fn least_from(hints: &[u8], o: u64) -> usize
     ensures { λ r. ⌜ Least (now (hints .entry)) o (hintCount (now (hints .entry))) r ⌝ }
 {
@@ -101,10 +101,10 @@ fn least_from(hints: &[u8], o: u64) -> usize
     best
 }
 
-// The same, where the objects from o on begin at place p if the list is grouped.
-fn place_from(hints: &[u8], grouped: bool, p: usize, o: u64) -> usize
+// The same, where the objects from o on begin at position p if the list is grouped.
+fn position_from(hints: &[u8], grouped: bool, p: usize, o: u64) -> usize
     requires { ⌜ (p ≤ hintCount (now hints)) × (grouped ≡ true → Cut (now hints) o p) ⌝ }
-    ensures { λ r. ⌜ Placed (now (hints .entry)) grouped o r ⌝ }
+    ensures { λ r. ⌜ Positioned (now (hints .entry)) grouped o r ⌝ }
 {
     if grouped {
         return p;
@@ -112,7 +112,7 @@ fn place_from(hints: &[u8], grouped: bool, p: usize, o: u64) -> usize
     least_from(hints, o)
 }
 
-// The first place of a pass from a place on and below an end, or the end.
+// The first position of a pass from a position on and below an end, or the end.
 fn find(hints: &[u8], o: u32, late: bool, from: usize, to: usize) -> usize
     requires { ⌜ to ≤ hintCount (now hints) ⌝ }
     ensures { λ r. ⌜ Found (now (hints .entry)) o late from to r ⌝ }
@@ -127,7 +127,7 @@ fn find(hints: &[u8], o: u32, late: bool, from: usize, to: usize) -> usize
     k
 }
 
-// The cursor at the start of the object of place p.
+// The cursor at the start of the object of position p.
 fn enter(hints: &[u8], grouped: bool, p: usize) -> Cursor
     requires { ⌜ (p < hintCount (now hints)) × (grouped ≡ true → Cut (now hints) (objectAt (now hints) p) p) ⌝ }
     ensures { λ r. ⌜ Entered (now (hints .entry)) p r ⌝ }
@@ -161,7 +161,7 @@ impl Cursor {
         ensures all { λ r. ⌜ rest (now (hints .entry)) r ≡ orderOf (now (hints .entry)) ⌝ }
         ensures sound { λ r. ⌜ Sound (now (hints .entry)) r ⌝ }
     {
-        let p = place_from(hints, rises, 0, 0);
+        let p = position_from(hints, rises, 0, 0);
         if p < hints.len() / HintRecord::SIZE {
             return enter(hints, rises, p);
         }
@@ -227,7 +227,7 @@ impl Cursor {
                 return Next::At(k, c);
             }
             Next::Done => {
-                let p = place_from(hints, self.grouped, self.hi, (self.object as u64) + 1);
+                let p = position_from(hints, self.grouped, self.hi, (self.object as u64) + 1);
                 if p < hints.len() / HintRecord::SIZE {
                     return enter(hints, self.grouped, p).step_in(hints);
                 }

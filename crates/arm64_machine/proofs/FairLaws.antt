@@ -13,13 +13,13 @@ use Rattle.arm64_insn.specs.ManualTargets.{adrTarget, literalTarget, accessAddr
 use Rattle.arm64_insn.specs.Page.{adrpPage}
 use Rattle.arm64_machine.specs.Machine.{Action, adr, adrp, add, access, literal, nop, action, State, Placed, placed, Other}
 use Rattle.arm64_machine.specs.SameRun.{writesOr, SameRun}
-use Rattle.arm64_machine.specs.Premises.{reads, links31, adds31, storesOf, storesAny, storesMade, Fair, Premises}
+use Rattle.arm64_machine.specs.Premises.{reads, links31, adds31, storesOf, storesAny, storesMade, FairWords, WordPremises}
 use Rattle.arm64_machine.proofs.Actions.{ranged}
 use Rattle.arm64_machine.proofs.Rewrites as Rewrites
 use Rattle.arm64_machine.proofs.Rewrites.{Chain}
 
 -- all premises (RULES 9.12 to 9.20) give those that are needed
-pub fair : {ws : List Placed} {o : Other} {s : State} → Premises ws o s → Fair ws
+pub fair : {ws : List Placed} {o : Other} {s : State} → WordPremises ws o s → FairWords ws
 fair p =
     record { allocated = p .allocated; aligned = p .aligned; no-31-link = p .no-31-link; no-31-added = p .no-31-added; no-store = p .no-store }
 
@@ -59,21 +59,21 @@ of-neither (prefetch m) t f g p q = refl
 of-neither unallocated t f g p q = refl
 
 -- ADRP, load: NOP and a literal load
-pub load-literal : {a b n b′ p q d k t i j : ℕ} {row : Row} → Fair (placed a p ∷ placed b q ∷ []) → action a ≡ adrp d k → action b ≡ access row t d i
+pub load-literal : {a b n b′ p q d k t i j : ℕ} {row : Row} → FairWords (placed a p ∷ placed b q ∷ []) → action a ≡ adrp d k → action b ≡ access row t d i
     → action n ≡ nop → action b′ ≡ literal row t j → accessAddress row (adrpPage k p) i ≡ literalTarget j q
     → SameRun (placed a p ∷ placed b q ∷ []) (placed n p ∷ placed b′ q ∷ [])
 load-literal {a} {b} {d = d} h ea eb en el e =
     Rewrites.load-literal ea eb en el (linked-low a b d (h .no-31-link .0) ea (rw eb)) (ranged b eb .0) (unmade a b (h .no-store .0 .0) ea eb) e
 
 -- ADRP, ADD: ADR and NOP
-pub add-adr : {a b a′ n p q d k e i j : ℕ} → Fair (placed a p ∷ placed b q ∷ []) → action a ≡ adrp d k → action b ≡ add e d i
+pub add-adr : {a b a′ n p q d k e i j : ℕ} → FairWords (placed a p ∷ placed b q ∷ []) → action a ≡ adrp d k → action b ≡ add e d i
     → action a′ ≡ adr e j → action n ≡ nop → addValue 1 0 (adrpPage k p) i ≡ adrTarget j p
     → SameRun (placed a p ∷ placed b q ∷ []) (placed a′ p ∷ placed n q ∷ [])
 add-adr {a} {b} {d = d} h ea eb er en e =
     Rewrites.add-adr ea eb er en (linked-low a b d (h .no-31-link .0) ea (rw eb)) (added-low b (h .no-31-added .1 .0) eb) e
 
 -- ADRP, ADD and an access: what the rewrites of all three want
-pub chain : {a b c p q r d k e i t j : ℕ} {row : Row} → Fair (placed a p ∷ placed b q ∷ placed c r ∷ []) → action a ≡ adrp d k → action b ≡ add e d i
+pub chain : {a b c p q r d k e i t j : ℕ} {row : Row} → FairWords (placed a p ∷ placed b q ∷ placed c r ∷ []) → action a ≡ adrp d k → action b ≡ add e d i
     → action c ≡ access row t e j → Chain a b c d k e i t j row
 chain {a} {b} {c} {d = d} {e = e} {t = t} {row = row} h ea eb ec =
     record {
@@ -87,7 +87,7 @@ chain {a} {b} {c} {d = d} {e = e} {t = t} {row = row} h ea eb ec =
     }
 
 -- ADRP, a load of a GOT slot, and an access through what it loaded: NOP, a literal load of the slot, and the access as it was
-pub slot-literal : {a b c n b′ p q r d k e i l t j z : ℕ} {m : Mnemonic} {g : Widening} {row : Row} → Fair (placed a p ∷ placed b q ∷ placed c r ∷ [])
+pub slot-literal : {a b c n b′ p q r d k e i l t j z : ℕ} {m : Mnemonic} {g : Widening} {row : Row} → FairWords (placed a p ∷ placed b q ∷ placed c r ∷ [])
     → action a ≡ adrp d k → action b ≡ access (load m general z g) e d i → action c ≡ access row t e j → action n ≡ nop
     → action b′ ≡ literal (load m general z g) e l → accessAddress (load m general z g) (adrpPage k p) i ≡ literalTarget l q
     → SameRun (placed a p ∷ placed b q ∷ placed c r ∷ []) (placed n p ∷ placed b′ q ∷ placed c r ∷ [])

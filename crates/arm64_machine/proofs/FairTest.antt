@@ -8,7 +8,7 @@ use borrow.Author.Tests.{eqb-true, not-true}
 use Rattle.util.proofs.Choice.{both}
 use Rattle.arm64_insn.specs.Manual as Manual
 use Rattle.arm64_machine.specs.Machine.{Placed}
-use Rattle.arm64_machine.specs.Premises.{Each, Next, Later, links31, adds31, storesMade, Fair}
+use Rattle.arm64_machine.specs.Premises.{Each, Next, Later, links31, adds31, storesMade, FairWords}
 
 -- the tests of Each, Next and Later
 abbrev pub each : {A : Type 0} → (A → Bool) → List A → Bool
@@ -40,9 +40,9 @@ module _ (t : ℕ → ℕ → Bool) (P : ℕ → ℕ → Type 0) (h : (w u : ℕ
       let b = both (each (λ u. t (w .word) (u .word)) ws) (later t ws) e in
       (each-by _ _ (λ u. h (w .word) (u .word)) ws (b .0), later-by ws (b .1))
 
--- each premise of Fair as a test of the list
+-- each premise of FairWords as a test of the list
 pub fair-by : {ws : List Placed} → each (λ w. Manual.allocated (w .word)) ws ≡ true → each (λ w. eqb (w .address % 4) 0) ws ≡ true
-    → next (λ w u. not (links31 w u)) ws ≡ true → each (λ w. not (adds31 (w .word))) ws ≡ true → later (λ w u. not (storesMade w u)) ws ≡ true → Fair ws
+    → next (λ w u. not (links31 w u)) ws ≡ true → each (λ w. not (adds31 (w .word))) ws ≡ true → later (λ w u. not (storesMade w u)) ws ≡ true → FairWords ws
 fair-by {ws} a b c d e =
     record {
       allocated = each-by _ _ (λ w h. h) ws a;

@@ -30,7 +30,7 @@ use Rattle.arm64_insn.proofs.Encodes.{adr-made, nop-made}
 use Rattle.arm64_insn.proofs.Meaning.{adr-means, literal-means, add-value}
 use Rattle.arm64_machine.specs.Machine.{adr, adrp, add, access, literal, nop, action, placed}
 use Rattle.arm64_machine.specs.SameRun.{SameRun}
-use Rattle.arm64_machine.specs.Premises.{Fair}
+use Rattle.arm64_machine.specs.Premises.{FairWords}
 use Rattle.arm64_machine.proofs.Actions.{decoded, decoded-add, ranged}
 use Rattle.arm64_machine.proofs.Accessed.{Accessed, accessed, divides, general-load}
 use Rattle.arm64_machine.proofs.Rewrites as Rewrites
@@ -67,7 +67,8 @@ second-dropped {a} {b} {y = y} ea eb r h =
     Rewrites.second-dropped (adrp-does a ea) (adrp-does b eb ∙ ap (λ (n : ℕ). adrp n (y .imm)) (sym r)) nop-does h
 
 -- two words
-module _ {a b p q : ℕ} {x : A.Adrp} (fair : Fair (placed a p ∷ placed b q ∷ [])) (hp : p < 2 ^ 64) (hq : q < 2 ^ 64) (ea : adrpOf a ≡ AdrpWord.Adrp x) where
+module _ {a b p q : ℕ} {x : A.Adrp} (fair : FairWords (placed a p ∷ placed b q ∷ []))
+    (hp : p < 2 ^ 64) (hq : q < 2 ^ 64) (ea : adrpOf a ≡ AdrpWord.Adrp x) where
   -- the load becomes a literal load
   pub literal-second : {l : L.LoadStore} (to : ℕ) → loadStoreOf b ≡ LoadStoreWord.LoadStore l → l .base ≡ x .rd → hasLiteralForm l ≡ true
       → to ≡ adrpPage (x .imm) p + l .offset → to < 2 ^ 64 → to % 4 ≡ 0 → within1mb q to ≡ true
@@ -89,7 +90,7 @@ module _ {a b p q : ℕ} {x : A.Adrp} (fair : Fair (placed a p ∷ placed b q �
       (z ∙ sym (adr-means to p lt hp near))
 
 -- three words: ADRP, ADD on what it made, and an access through what ADD made
-module _ {a b c p q r : ℕ} {x : A.Adrp} {d : D.Add} {l : L.LoadStore} (fair : Fair (placed a p ∷ placed b q ∷ placed c r ∷ []))
+module _ {a b c p q r : ℕ} {x : A.Adrp} {d : D.Add} {l : L.LoadStore} (fair : FairWords (placed a p ∷ placed b q ∷ placed c r ∷ []))
     (ea : adrpOf a ≡ AdrpWord.Adrp x) (eb : addOf b ≡ AddWord.Add d) (ec : loadStoreOf c ≡ LoadStoreWord.LoadStore l)
     (first : d .rn ≡ x .rd) (second : l .base ≡ d .rd) where
   third : Accessed c l
@@ -139,7 +140,7 @@ module _ {a b c p q r : ℕ} {x : A.Adrp} {d : D.Add} {l : L.LoadStore} (fair : 
       (third .address _ ∙ z ∙ sym (third .based-address _ off g))
 
 -- three words: ADRP, a load of a GOT slot, and an access through what it loaded
-pub slot-second : {a b c p q r : ℕ} {x : A.Adrp} {g l : L.LoadStore} (slot : ℕ) → Fair (placed a p ∷ placed b q ∷ placed c r ∷ [])
+pub slot-second : {a b c p q r : ℕ} {x : A.Adrp} {g l : L.LoadStore} (slot : ℕ) → FairWords (placed a p ∷ placed b q ∷ placed c r ∷ [])
     → adrpOf a ≡ AdrpWord.Adrp x → loadStoreOf b ≡ LoadStoreWord.LoadStore g → loadStoreOf c ≡ LoadStoreWord.LoadStore l
     → g .base ≡ x .rd → l .base ≡ g .reg → g .«is_store» ≡ false → g .«is_float» ≡ false → hasLiteralForm g ≡ true
     → slot ≡ adrpPage (x .imm) p + g .offset → slot < 2 ^ 64 → slot % 4 ≡ 0 → q < 2 ^ 64 → within1mb q slot ≡ true

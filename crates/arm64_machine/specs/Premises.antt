@@ -1,4 +1,4 @@
--- The premises of RULES 9.13 to 9.21: tests of words, the premises that the theorems need (Fair), and all of them (Premises).
+-- The premises of RULES 9.13 to 9.21: tests of words, the premises that the theorems need (FairWords), and all of them (WordPremises).
 -- That the words share no image byte is said of a hint's places, above this crate.
 use Prim.Native.Nat.{ℕ, _+_, _*_, _%_, _^_}
 use mathlib.Core.Path.{_≡_}
@@ -81,7 +81,7 @@ unfoldable pub storesMade : ℕ → ℕ → Bool
 storesMade w u = storesAny (action u) (writesOr false (action w))
 
 -- what the theorems suppose of the words of a hint
-pub record Fair (ws : List Placed) : Type 0 where
+pub record FairWords (ws : List Placed) : Type 0 where
   pub allocated : Each (λ w. Manual.allocated (w .word) ≡ true) ws
   pub aligned : Each (λ w. w .address % 4 ≡ 0) ws
   pub no-31-link : Next (λ w u. links31 w u ≡ false) ws
@@ -134,7 +134,7 @@ unfoldable pub linksVector : ℕ → ℕ → ℕ → Bool
 linksVector d w u = makesVector (action w) d && reads (action u) d
 
 -- every premise (RULES 9.2, 9.13 to 9.20) that speaks of the words, of one run of them from state s
-pub record Premises (ws : List Placed) (o : Other) (s : State) : Type 0 where
+pub record WordPremises (ws : List Placed) (o : Other) (s : State) : Type 0 where
   pub empty-at-first : s .log ≡ []
   pub allocated : Each (λ w. Manual.allocated (w .word) ≡ true) ws
   pub none-data : Each (λ a. Each (λ w. Each (λ k. touches a (sum (w .address) k) ≡ false) (0 ∷ 1 ∷ 2 ∷ 3 ∷ [])) ws) ((run o ws s) .log)

@@ -5,7 +5,7 @@ use mathlib.Core.List.{List}
 use Prim.Native.Nat.{ℕ}
 use lib.ListN.{length, getD}
 use lib.Seq.{ext-getD}
-use Rattle.image.specs.Local.{Agree, Apart, Reads, Writes, Local}
+use Rattle.image.specs.Local.{SameBytes, Apart, Reads, Writes, Local}
 
 pub apart-sym : {foot foot′ : ℕ → Bool} → Apart foot foot′ → Apart foot′ foot
 apart-sym a b h g = a b g h
@@ -20,7 +20,7 @@ outside foot foot′ a b h = go (foot′ b) refl
 
 module _ (foot foot′ : ℕ → Bool) (apart : Apart foot foot′) where
   -- another step leaves the footprint's bytes
-  pub leaves : (write′ : List ℕ → List ℕ) → Writes foot′ write′ → (x : List ℕ) → Agree foot (write′ x) x
+  pub leaves : (write′ : List ℕ → List ℕ) → Writes foot′ write′ → (x : List ℕ) → SameBytes foot (write′ x) x
   leaves write′ w x b h = w .stays x b (outside foot foot′ apart b h)
 
 module _ (foot foot′ : ℕ → Bool) (write write′ : List ℕ → List ℕ) (w : Writes foot write) (w′ : Writes foot′ write′) (apart : Apart foot foot′) where
@@ -55,7 +55,7 @@ module _ (foot wide : ℕ → Bool) (sub : (b : ℕ) → foot b ≡ true → wid
       narrow b h true e = absurd (true≢false (sym (sub b e) ∙ h))
       narrow b h false e = e
 
-      at : (x y : List ℕ) → length x ≡ length y → Agree wide x y → (b : ℕ) → wide b ≡ true → (c : Bool) → foot b ≡ c
+      at : (x y : List ℕ) → length x ≡ length y → SameBytes wide x y → (b : ℕ) → wide b ≡ true → (c : Bool) → foot b ≡ c
           → getD (write x) b 0 ≡ getD (write y) b 0
       at x y l a b h true e = w .makes x y l (λ d g. a d (sub d g)) b e
       at x y l a b h false e = w .stays x b e ∙ a b h ∙ sym (w .stays y b e)

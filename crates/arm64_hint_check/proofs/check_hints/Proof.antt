@@ -1,4 +1,4 @@
--- `check_hints`: the hints before place k are fit, with whether their object numbers never fall; the first that is not fit ends the walk.
+-- `check_hints`: the hints before position k are fit, with whether their object numbers never fall; the first that is not fit ends the walk.
 use borrow.Author.Needs.{needs}
 use mathlib.Core.Path.{_≡_, refl, sym, ap, _∙_}
 use mathlib.Core.Logic.{⊎-elim}

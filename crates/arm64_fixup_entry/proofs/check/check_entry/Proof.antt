@@ -7,7 +7,7 @@ use Rattle.arm64_fixup_entry.proofs.check.check_entry.Statement.{statem
 use Rattle.arm64_fixup_entry.proofs.check.check_entry.Tie as tie
 use Rattle.arm64_fixup_entry.proofs.check.check_entry.Reads as reads
 use Rattle.arm64_fixup_entry.proofs.check.check_entry.Lts as lts
-use Rattle.arm64_fixup_entry.proofs.check.is_lone.Reads as is-lone-reads
+use Rattle.arm64_fixup_entry.proofs.check.lacks_next.Reads as lacks-next-reads
 use Rattle.arm64_fixup_entry.proofs.check.lacks_symbol.Reads as lacks-symbol-reads
 use Rattle.arm64_fixup_entry.proofs.check.overflows.Reads as overflows-reads
 use Rattle.arm64_fixup_entry.proofs.check.unsupported.Reads as unsupported-reads
@@ -67,8 +67,8 @@ returns-4 c =
       le-ltb _ _ (k2 .before .before .if1 .left),
     )
 
-is-lone-requires : tie.Need-is-lone-requires
-is-lone-requires c κs = search needs
+lacks-next-requires : tie.Need-lacks-next-requires
+lacks-next-requires c κs = search needs
 
 returns-5 : tie.Need-returns-5
 unfolding checkOf choose
@@ -78,7 +78,7 @@ returns-5 c =
     let k2 = k3 .before .before in
     simp (
       c .if5 .taken,
-      ← c .before .is-lone .ensures,
+      ← c .before .lacks-next .ensures,
       k4 .if4 .left,
       ← k4 .before .unsupported .ensures,
       k3 .if3 .left,
@@ -102,7 +102,7 @@ returns-6 c =
       c .if6 .taken,
       ← c .before .lacks-symbol .ensures,
       k5 .if5 .left,
-      ← k5 .before .is-lone .ensures,
+      ← k5 .before .lacks-next .ensures,
       k4 .if4 .left,
       ← k4 .before .unsupported .ensures,
       k3 .if3 .left,
@@ -129,7 +129,7 @@ returns-7 c =
       k6 .if6 .left,
       ← k6 .before .lacks-symbol .ensures,
       k5 .if5 .left,
-      ← k5 .before .is-lone .ensures,
+      ← k5 .before .lacks-next .ensures,
       k4 .if4 .left,
       ← k4 .before .unsupported .ensures,
       k3 .if3 .left,
@@ -153,7 +153,7 @@ returns-8 c =
       k6 .if6 .left,
       ← k6 .before .lacks-symbol .ensures,
       k5 .if5 .left,
-      ← k5 .before .is-lone .ensures,
+      ← k5 .before .lacks-next .ensures,
       k4 .if4 .left,
       ← k4 .before .unsupported .ensures,
       k3 .if3 .left,
@@ -175,7 +175,7 @@ check-entry-spec =
     returns-3
     unsupported-requires
     returns-4
-    is-lone-requires
+    lacks-next-requires
     returns-5
     lacks-symbol-requires
     returns-6

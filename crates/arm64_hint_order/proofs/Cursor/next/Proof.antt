@@ -24,17 +24,17 @@ returns c =
 enum-told : tie.Need-enum-told
 enum-told c = search needs
 
-cast-place-from : tie.Need-cast-place-from
-cast-place-from c = search needs
+cast-position-from : tie.Need-cast-position-from
+cast-position-from c = search needs
 
-add-place-from : tie.Need-add-place-from
-add-place-from c = search needs
+add-position-from : tie.Need-add-position-from
+add-position-from c = search needs
 
-place-from-requires : tie.Need-place-from-requires
-place-from-requires c κs = search needs
+position-from-requires : tie.Need-position-from-requires
+position-from-requires c κs = search needs
 
 enter-requires : tie.Need-enter-requires
-enter-requires c κs = (c .if1 .taken, λ e. c .before .place-from .ensures .begins e (c .if1 .taken))
+enter-requires c κs = (c .if1 .taken, λ e. c .before .position-from .ensures .begins e (c .if1 .taken))
 
 step-in-requires-2 : tie.Need-step-in-requires-2
 step-in-requires-2 c κs = search needs
@@ -43,7 +43,7 @@ returns-2 : tie.Need-returns-2
 returns-2 c =
     let t = c .before .before .before .before .before .before .before in
     let a = t .before .before .args in
-    let f = c .before .before .before .place-from in (
+    let f = c .before .before .before .position-from in (
       next-object (a .hints .now) (a .self) (c .before .enter .result) (f .result) (c .step-in2 .result)
           (subst (StepsIn (a .hints .now) (a .self)) (c .before .before .before .before .before .enum-told .given .1) (t .step-in .ensures .0))
           (f .ensures .found) (c .before .before .if1 .taken) (c .before .enter .ensures) (c .step-in2 .ensures .0),
@@ -54,7 +54,7 @@ returns-3 : tie.Need-returns-3
 returns-3 c =
     let t = c .before .before .before .before .before in
     let a = t .before .before .args in
-    let f = c .before .place-from in (
+    let f = c .before .position-from in (
       next-none (a .hints .now) (a .self) (f .result)
           (subst (StepsIn (a .hints .now) (a .self)) (c .before .before .before .enum-told .given .1) (t .step-in .ensures .0))
           (f .ensures .found) (c .if1 .left),
@@ -69,9 +69,9 @@ next-spec =
     enum-known-step
     returns
     enum-told
-    cast-place-from
-    add-place-from
-    place-from-requires
+    cast-position-from
+    add-position-from
+    position-from-requires
     enter-requires
     step-in-requires-2
     returns-2

@@ -1,10 +1,10 @@
--- `place_from` meets its contract: in a grouped list the objects from o on begin at p, else by `least_from`.
+-- `position_from` meets its contract: in a grouped list the objects from o on begin at p, else by `least_from`.
 use mathlib.Core.Path.{sym, _∙_}
 use mathlib.Core.Bool.{true≢false}
 use Rattle.arm64_hint_order.proofs.Walk.{cut-at, cut-least}
 use borrow.Author.Needs.{needs}
-use Rattle.arm64_hint_order.proofs.place_from.Statement.{statement}
-use Rattle.arm64_hint_order.proofs.place_from.Tie as tie
+use Rattle.arm64_hint_order.proofs.position_from.Statement.{statement}
+use Rattle.arm64_hint_order.proofs.position_from.Tie as tie
 
 returns : tie.Need-returns
 returns c =
@@ -18,5 +18,5 @@ least-from-requires c κs = search needs
 returns-2 : tie.Need-returns-2
 returns-2 c = record { found = c .least-from .ensures; begins = λ e. absurd (true≢false (sym e ∙ c .before .if1 .left)) }
 
-pub place-from-spec : {M : Type 1} → statement M
-place-from-spec = tie.close (tie.spec returns least-from-requires returns-2)
+pub position-from-spec : {M : Type 1} → statement M
+position-from-spec = tie.close (tie.spec returns least-from-requires returns-2)
