@@ -15,7 +15,7 @@ use Rattle.macho.specs.Resolved.{hasHelper, helperIsOwn, isProbe, isEnabled}
 use Rattle.macho.specs.declared.reloc.Reloc.{Reloc}
 use Rattle.macho.specs.declared.resolved.Resolved.{Resolved}
 use Rattle.macho.specs.declared.report.Report.{Report}
-use Rattle.arm64_insn.specs.Manual.{B, BL, NOP, MOVZ, form, decode}
+use Rattle.arm64_insn.specs.Manual.{B, BL, NOP, MOVZ, instruction, decode}
 use Rattle.arm64_insn.specs.Fix.{nopWord, isEnabledWord}
 use Rattle.arm64_insn.specs.ManualTargets as M
 use Rattle.arm64_insn.specs.Branch.{branchReaches, branchWord, helperWord}
@@ -68,13 +68,14 @@ module _ {section : List ℕ} {b : Bases} {entries targets slots : List ℕ} {f 
         ∙ mod-eq-of-lt (branch-word-lt (wordAt entries section k) (displacement (entryAt entries k) (targetAt targets k) (placeOf b (entryAt entries k))))
 
     -- a B stays a B, and a BL a BL
-    pub b-stays : (imm26 : ℕ) → decode (wordAt entries section k) ≡ form (B imm26)
-        → decode (wordAt entries (f .section) k) ≡ form (B (field (displacement (entryAt entries k) (targetAt targets k) (placeOf b (entryAt entries k))) 2 26))
+    pub b-stays : (imm26 : ℕ) → decode (wordAt entries section k) ≡ instruction (B imm26)
+        → decode (wordAt entries (f .section) k)
+        ≡ instruction (B (field (displacement (entryAt entries k) (targetAt targets k) (placeOf b (entryAt entries k))) 2 26))
     b-stays imm26 d = ap decode branch-word ∙ b-patched _ imm26 _ d
 
-    pub bl-stays : (imm26 : ℕ) → decode (wordAt entries section k) ≡ form (BL imm26)
+    pub bl-stays : (imm26 : ℕ) → decode (wordAt entries section k) ≡ instruction (BL imm26)
         → decode (wordAt entries (f .section) k)
-        ≡ form (BL (field (displacement (entryAt entries k) (targetAt targets k) (placeOf b (entryAt entries k))) 2 26))
+        ≡ instruction (BL (field (displacement (entryAt entries k) (targetAt targets k) (placeOf b (entryAt entries k))) 2 26))
     bl-stays imm26 d = ap decode branch-word ∙ bl-patched _ imm26 _ d
 
     -- in reach it goes to T, where place and T are multiples of 4
@@ -112,12 +113,12 @@ module _ {section : List ℕ} {b : Bases} {entries targets slots : List ℕ} {f 
         ∙ ap (λ (d : Traced). branchUnless d (branch (siteOf b k (entryAt entries k)) (entryAt entries k) (targetAt targets k) (wordAt entries section k))) d))
 
     -- a symbol's probe becomes NOP, is-enabled "movz x0, #0"
-    pub probe-site : isSymbol (entryAt entries k) ≡ true → isProbe (targetAt targets k) ≡ true → decode (wordAt entries (f .section) k) ≡ form NOP
+    pub probe-site : isSymbol (entryAt entries k) ≡ true → isProbe (targetAt targets k) ≡ true → decode (wordAt entries (f .section) k) ≡ instruction NOP
     unfolding dtraceSiteInsn choose
     probe-site s p = ap decode (site-word {w = nopWord} (rw (s, p))) ∙ nop-made
 
     pub is-enabled-site : isSymbol (entryAt entries k) ≡ true → isProbe (targetAt targets k) ≡ false → isEnabled (targetAt targets k) ≡ true
-        → decode (wordAt entries (f .section) k) ≡ form (MOVZ 1 0 0 0)
+        → decode (wordAt entries (f .section) k) ≡ instruction (MOVZ 1 0 0 0)
     unfolding dtraceSiteInsn choose
     is-enabled-site s p e = ap decode (site-word {w = isEnabledWord} (rw (s, p, e))) ∙ is-enabled-made
 
@@ -141,13 +142,13 @@ module _ {section : List ℕ} {b : Bases} {entries targets slots : List ℕ} {f 
         ∙ mod-eq-of-lt (helper-lt (helperIsOwn (targetAt targets k)) (diff (targetAt targets k .helper) (placeOf b (entryAt entries k))))
 
     pub helper-own : helperIsOwn (targetAt targets k) ≡ true
-        → decode (wordAt entries (f .section) k) ≡ form (B (field (diff (targetAt targets k .helper) (placeOf b (entryAt entries k))) 2 26))
+        → decode (wordAt entries (f .section) k) ≡ instruction (B (field (diff (targetAt targets k .helper) (placeOf b (entryAt entries k))) 2 26))
     helper-own o =
         ap decode (helper-word ∙ ap (λ (t : Bool). helperWord t (diff (targetAt targets k .helper) (placeOf b (entryAt entries k)))) o) ∙ helper-made _ .0
 
     pub helper-shared : helperIsOwn (targetAt targets k) ≡ false
         → decode (wordAt entries (f .section) k)
-        ≡ form (BL (field (diff (targetAt targets k .helper) (placeOf b (entryAt entries k))) 2 26))
+        ≡ instruction (BL (field (diff (targetAt targets k .helper) (placeOf b (entryAt entries k))) 2 26))
     helper-shared o =
         ap decode (helper-word ∙ ap (λ (t : Bool). helperWord t (diff (targetAt targets k .helper) (placeOf b (entryAt entries k)))) o) ∙ helper-made _ .1
 

@@ -16,7 +16,7 @@ use Rattle.util.proofs.Word.{le-lt}
 use Rattle.macho.specs.Resolved.{canRelaxGot}
 use Rattle.macho.specs.declared.reloc.Reloc.{Reloc}
 use Rattle.macho.specs.declared.resolved.Resolved.{Resolved}
-use Rattle.arm64_insn.specs.Manual.{ADRP, ADD, LDST, PRFM, InRange, form, decode, rdIn, rnIn}
+use Rattle.arm64_insn.specs.Manual.{ADRP, ADD, LDST, PRFM, InRange, instruction, decode, rdIn, rnIn}
 use Rattle.arm64_insn.specs.LoadStoreTable.{rowOf, movedBy}
 use Rattle.arm64_insn.specs.ManualTargets as M
 use Rattle.arm64_insn.specs.Page.{pageOf, adrpPage}
@@ -74,9 +74,9 @@ module _ {section : List ℕ} {b : Bases} {entries targets slots : List ℕ} {f 
 
   -- an ADRP is one of the old register; in reach, it makes the target's page
   pub page-means : {target : ℕ} → Page (entryAt entries k) (targetAt targets k) target
-      → (rd imm : ℕ) → decode (wordAt entries section k) ≡ form (ADRP rd imm)
+      → (rd imm : ℕ) → decode (wordAt entries section k) ≡ instruction (ADRP rd imm)
       → adrpReaches target (placeOf b (entryAt entries k)) ≡ true
-      → (decode (wordAt entries (f .section) k) ≡ form (ADRP rd (pageImm target (placeOf b (entryAt entries k)))))
+      → (decode (wordAt entries (f .section) k) ≡ instruction (ADRP rd (pageImm target (placeOf b (entryAt entries k)))))
       × (adrpPage (pageImm target (placeOf b (entryAt entries k))) (placeOf b (entryAt entries k)) ≡ pageOf target)
   page-means {target} r rd imm d near = (
     ap decode (page-word r) ∙ adrp-patched _ rd imm target _ (le-lt 4 section _) d,
@@ -106,18 +106,18 @@ module _ {section : List ℕ} {b : Bases} {entries targets slots : List ℕ} {f 
         (ap (λ (c : Change). c .write) (offset-does-it b k _ _ _ _ _ r ∙ ap (fitted (siteOf b k (entryAt entries k))) e))
 
     -- an ADD is the old one with the target's low 12 bits
-    pub offset-add : (sf sh rd rn imm12 : ℕ) → decode (wordAt entries section k) ≡ form (ADD sf sh rd rn imm12)
-        → decode (wordAt entries (f .section) k) ≡ form (ADD sf sh rd rn (field target 0 12))
+    pub offset-add : (sf sh rd rn imm12 : ℕ) → decode (wordAt entries section k) ≡ instruction (ADD sf sh rd rn imm12)
+        → decode (wordAt entries (f .section) k) ≡ instruction (ADD sf sh rd rn (field target 0 12))
     offset-add sf sh rd rn imm12 d =
         let i = decode-in-range _ (ADD sf sh rd rn imm12) d in
         let j : InRange (ADD sf sh rd rn (field target 0 12)) = (i .0, i .1, i .2, i .3, omega arith) in
         ap decode (fits (add-patched _ sf sh rd rn imm12 target d) ∙ mod-eq-of-lt (encode-lt (ADD sf sh rd rn (field target 0 12)) j))
         ∙ decode-encode (ADD sf sh rd rn (field target 0 12)) j
 
-    module _ (size v opc rt rn imm12 : ℕ) (d : decode (wordAt entries section k) ≡ form (LDST size v opc rt rn imm12)) where
+    module _ (size v opc rt rn imm12 : ℕ) (d : decode (wordAt entries section k) ≡ instruction (LDST size v opc rt rn imm12)) where
       -- a load or store is the old one with the target's low 12 bits in its unit
       pub offset-access : target % movedBy (rowOf size v opc) ≡ 0
-          → decode (wordAt entries (f .section) k) ≡ form (LDST size v opc rt rn (target % 2 ^ 12 / movedBy (rowOf size v opc)))
+          → decode (wordAt entries (f .section) k) ≡ instruction (LDST size v opc rt rn (target % 2 ^ 12 / movedBy (rowOf size v opc)))
       offset-access h =
           let i = decode-in-range _ (LDST size v opc rt rn imm12) d in
           let q = div-le-self (target % 2 ^ 12) (movedBy (rowOf size v opc)) in
@@ -132,8 +132,8 @@ module _ {section : List ℕ} {b : Bases} {entries targets slots : List ℕ} {f 
       offset-misaligned h = stays (load-store-patched _ size v opc rt rn imm12 target d ∙ choose-false _ _ _ (ne-eqb _ _ h))
 
     -- a prefetch is the old one with the target's low 12 bits in eights, where 8 divides the target
-    pub offset-prefetch : (rt rn imm12 : ℕ) → decode (wordAt entries section k) ≡ form (PRFM rt rn imm12) → target % 8 ≡ 0
-        → decode (wordAt entries (f .section) k) ≡ form (PRFM rt rn (target % 2 ^ 12 / 8))
+    pub offset-prefetch : (rt rn imm12 : ℕ) → decode (wordAt entries section k) ≡ instruction (PRFM rt rn imm12) → target % 8 ≡ 0
+        → decode (wordAt entries (f .section) k) ≡ instruction (PRFM rt rn (target % 2 ^ 12 / 8))
     offset-prefetch rt rn imm12 d h =
         let i = decode-in-range _ (PRFM rt rn imm12) d in
         let j : InRange (PRFM rt rn (target % 2 ^ 12 / 8)) = (i .0, i .1, omega arith) in
@@ -172,7 +172,8 @@ module _ {section : List ℕ} {b : Bases} {entries targets slots : List ℕ} {f 
     -- an LDR, for GOT also a 64-bit ADD, becomes the 64-bit ADD of its registers and the low 12 bits of S + A
     pub relaxed-means : canRelax (entryAt entries k .ty) (wordAt entries section k) ≡ true
         → decode (wordAt entries (f .section) k)
-        ≡ form (ADD 1 0 (rdIn (wordAt entries section k)) (rnIn (wordAt entries section k)) (field (targetOf (entryAt entries k) (targetAt targets k)) 0 12))
+        ≡ instruction (ADD 1 0 (rdIn (wordAt entries section k)) (rnIn (wordAt entries section k))
+        (field (targetOf (entryAt entries k) (targetAt targets k)) 0 12))
     unfolding relaxed relaxedWord
     relaxed-means h =
         let target = targetOf (entryAt entries k) (targetAt targets k) in
@@ -195,13 +196,13 @@ module _ {section : List ℕ} {b : Bases} {entries targets slots : List ℕ} {f 
 module _ {section : List ℕ} {b : Bases} {entries targets slots : List ℕ} {f : Fixed} {k m : ℕ}
     (l : Lone section b entries targets slots f k) (l′ : Lone section b entries targets slots f m)
     {target : ℕ} (r : Page (entryAt entries k) (targetAt targets k) target) (near : adrpReaches target (placeOf b (entryAt entries k)) ≡ true)
-    (rd imm : ℕ) (d : decode (wordAt entries section k) ≡ form (ADRP rd imm))
+    (rd imm : ℕ) (d : decode (wordAt entries section k) ≡ instruction (ADRP rd imm))
   where
     -- ADRP and an unshifted ADD of 64 bits make the target
     pub adrp-add : Offset (entryAt entries m) (targetAt targets m) target
-        → (rd′ rn imm12 : ℕ) → decode (wordAt entries section m) ≡ form (ADD 1 0 rd′ rn imm12)
-        → (decode (wordAt entries (f .section) k) ≡ form (ADRP rd (pageImm target (placeOf b (entryAt entries k)))))
-        × (decode (wordAt entries (f .section) m) ≡ form (ADD 1 0 rd′ rn (field target 0 12)))
+        → (rd′ rn imm12 : ℕ) → decode (wordAt entries section m) ≡ instruction (ADD 1 0 rd′ rn imm12)
+        → (decode (wordAt entries (f .section) k) ≡ instruction (ADRP rd (pageImm target (placeOf b (entryAt entries k)))))
+        × (decode (wordAt entries (f .section) m) ≡ instruction (ADD 1 0 rd′ rn (field target 0 12)))
         × (M.addValue 1 0 (adrpPage (pageImm target (placeOf b (entryAt entries k))) (placeOf b (entryAt entries k))) (field target 0 12) ≡ target)
     adrp-add r′ rd′ rn imm12 d′ = (
       page-means l r rd imm d near .0,
@@ -212,21 +213,22 @@ module _ {section : List ℕ} {b : Bases} {entries targets slots : List ℕ} {f 
     -- and so do ADRP and a relaxed load
     pub adrp-relaxed : Relaxed (entryAt entries m) (targetAt targets m) → targetOf (entryAt entries m) (targetAt targets m) ≡ target
         → canRelax (entryAt entries m .ty) (wordAt entries section m) ≡ true
-        → (decode (wordAt entries (f .section) k) ≡ form (ADRP rd (pageImm target (placeOf b (entryAt entries k)))))
-        × (decode (wordAt entries (f .section) m) ≡ form (ADD 1 0 (rdIn (wordAt entries section m)) (rnIn (wordAt entries section m)) (field target 0 12)))
+        → (decode (wordAt entries (f .section) k) ≡ instruction (ADRP rd (pageImm target (placeOf b (entryAt entries k)))))
+        × (decode (wordAt entries (f .section) m)
+        ≡ instruction (ADD 1 0 (rdIn (wordAt entries section m)) (rnIn (wordAt entries section m)) (field target 0 12)))
         × (M.addValue 1 0 (adrpPage (pageImm target (placeOf b (entryAt entries k))) (placeOf b (entryAt entries k))) (field target 0 12) ≡ target)
     adrp-relaxed r′ same h = (
       page-means l r rd imm d near .0,
       relaxed-means l′ r′ h
-          ∙ ap (λ (t : ℕ). form (ADD 1 0 (rdIn (wordAt entries section m)) (rnIn (wordAt entries section m)) (field t 0 12))) same,
+          ∙ ap (λ (t : ℕ). instruction (ADD 1 0 (rdIn (wordAt entries section m)) (rnIn (wordAt entries section m)) (field t 0 12))) same,
       add-means target (placeOf b (entryAt entries k)) (page-lt _ _ r) (passed l .place) near,
     )
 
     -- ADRP and a load or store, whose size divides the target, access it
     pub adrp-access : Offset (entryAt entries m) (targetAt targets m) target
-        → (size v opc rt rn imm12 : ℕ) → decode (wordAt entries section m) ≡ form (LDST size v opc rt rn imm12) → target % movedBy (rowOf size v opc) ≡ 0
-        → (decode (wordAt entries (f .section) k) ≡ form (ADRP rd (pageImm target (placeOf b (entryAt entries k)))))
-        × (decode (wordAt entries (f .section) m) ≡ form (LDST size v opc rt rn (target % 2 ^ 12 / movedBy (rowOf size v opc))))
+        → (size v opc rt rn imm12 : ℕ) → decode (wordAt entries section m) ≡ instruction (LDST size v opc rt rn imm12) → target % movedBy (rowOf size v opc) ≡ 0
+        → (decode (wordAt entries (f .section) k) ≡ instruction (ADRP rd (pageImm target (placeOf b (entryAt entries k)))))
+        × (decode (wordAt entries (f .section) m) ≡ instruction (LDST size v opc rt rn (target % 2 ^ 12 / movedBy (rowOf size v opc))))
         × (M.accessAddress (rowOf size v opc) (adrpPage (pageImm target (placeOf b (entryAt entries k))) (placeOf b (entryAt entries k)))
         (target % 2 ^ 12 / movedBy (rowOf size v opc))
         ≡ target)

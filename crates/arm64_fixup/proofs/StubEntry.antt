@@ -15,7 +15,7 @@ use Rattle.util.specs.Word.{le, put}
 use Rattle.util.proofs.Word.{length-put, getD-put-other, le-put, le-put-other}
 use Rattle.util.proofs.Choice.{choose-false}
 use Rattle.macho.specs.Refusal.{checkNumber}
-use Rattle.arm64_insn.specs.Manual.{ADRP, ADD, LDST, BR, InRange, form, decode}
+use Rattle.arm64_insn.specs.Manual.{ADRP, ADD, LDST, BR, InRange, instruction, decode}
 use Rattle.arm64_insn.specs.LoadStoreTable.{rowOf}
 use Rattle.arm64_insn.specs.ManualTargets as M
 use Rattle.arm64_insn.specs.Page.{adrpPage}
@@ -66,9 +66,9 @@ module _ (s : List ℕ) (w : Words3) (room : 12 ≤ length s) where
 
 -- the words of a stub: ADRP x16; LDR x16, [x16]; BR x16. In reach, of a pointer that is a multiple of 8, the load is from the pointer
 pub stub-entry : (s : List ℕ) (addr ptr : ℕ) → 12 ≤ length s
-    → (decode (le 4 (wordsIn s (stubWords addr ptr)) 0) ≡ form (ADRP 16 (pageImm ptr addr)))
-    × (decode (le 4 (wordsIn s (stubWords addr ptr)) 4) ≡ form (LDST 0b11 0 0b01 16 16 (field ptr 3 9)))
-    × (decode (le 4 (wordsIn s (stubWords addr ptr)) 8) ≡ form (BR 16))
+    → (decode (le 4 (wordsIn s (stubWords addr ptr)) 0) ≡ instruction (ADRP 16 (pageImm ptr addr)))
+    × (decode (le 4 (wordsIn s (stubWords addr ptr)) 4) ≡ instruction (LDST 0b11 0 0b01 16 16 (field ptr 3 9)))
+    × (decode (le 4 (wordsIn s (stubWords addr ptr)) 8) ≡ instruction (BR 16))
     × (addr < 2 ^ 64 → ptr < 2 ^ 64 → adrpReaches ptr addr ≡ true → ptr % 8 ≡ 0
     → M.accessAddress (rowOf 0b11 0 0b01) (adrpPage (pageImm ptr addr) addr) (field ptr 3 9) ≡ ptr)
 unfolding stubWords rowOf
@@ -89,9 +89,9 @@ stub-entry s addr ptr room =
 
 -- the words of a thunk: ADRP x16; ADD x16, x16; BR x16. In reach, the ADD makes the target, where the BR goes
 pub thunk-entry : (s : List ℕ) (addr target : ℕ) → 12 ≤ length s
-    → (decode (le 4 (wordsIn s (thunkWords addr target)) 0) ≡ form (ADRP 16 (pageImm target addr)))
-    × (decode (le 4 (wordsIn s (thunkWords addr target)) 4) ≡ form (ADD 1 0 16 16 (field target 0 12)))
-    × (decode (le 4 (wordsIn s (thunkWords addr target)) 8) ≡ form (BR 16))
+    → (decode (le 4 (wordsIn s (thunkWords addr target)) 0) ≡ instruction (ADRP 16 (pageImm target addr)))
+    × (decode (le 4 (wordsIn s (thunkWords addr target)) 4) ≡ instruction (ADD 1 0 16 16 (field target 0 12)))
+    × (decode (le 4 (wordsIn s (thunkWords addr target)) 8) ≡ instruction (BR 16))
     × (addr < 2 ^ 64 → target < 2 ^ 64 → adrpReaches target addr ≡ true
     → M.addValue 1 0 (adrpPage (pageImm target addr) addr) (field target 0 12) ≡ target)
 unfolding thunkWords

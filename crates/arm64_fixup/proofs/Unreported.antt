@@ -16,7 +16,7 @@ use Rattle.macho.specs.Types.{ARM64-RELOC-BRANCH26}
 use Rattle.macho.specs.Resolved.{canRelaxGot}
 use Rattle.macho.specs.declared.reloc.Reloc.{Reloc}
 use Rattle.macho.specs.declared.resolved.Resolved.{Resolved}
-use Rattle.arm64_insn.specs.Manual.{ADRP, ADD, LDST, B, BL, form, decode, rdIn, rnIn}
+use Rattle.arm64_insn.specs.Manual.{ADRP, ADD, LDST, B, BL, instruction, decode, rdIn, rnIn}
 use Rattle.arm64_insn.specs.LoadStoreTable.{rowOf, movedBy}
 use Rattle.arm64_insn.specs.ManualTargets as M
 use Rattle.arm64_insn.specs.Page.{adrpPage}
@@ -57,13 +57,13 @@ module _ {section : List ℕ} {b : Bases} {entries targets slots : List ℕ} {f 
     to-target = goes l ty plain (⊎-elim (λ h. h) (branch-in-reach l ty plain u) direct) t p
 
     -- a B or a BL that takes no thunk, since it reaches T or since none serves, goes from P to T
-    pub b-goes : (imm26 : ℕ) → decode (wordAt entries section k) ≡ form (B imm26)
-        → (decode (wordAt entries (f .section) k) ≡ form (B imm))
+    pub b-goes : (imm26 : ℕ) → decode (wordAt entries section k) ≡ instruction (B imm26)
+        → (decode (wordAt entries (f .section) k) ≡ instruction (B imm))
         × (M.branchTarget imm (placeOf b (entryAt entries k)) ≡ branchTarget (entryAt entries k) (targetAt targets k))
     b-goes imm26 d = (b-stays l ty plain imm26 d, to-target)
 
-    pub bl-goes : (imm26 : ℕ) → decode (wordAt entries section k) ≡ form (BL imm26)
-        → (decode (wordAt entries (f .section) k) ≡ form (BL imm))
+    pub bl-goes : (imm26 : ℕ) → decode (wordAt entries section k) ≡ instruction (BL imm26)
+        → (decode (wordAt entries (f .section) k) ≡ instruction (BL imm))
         × (M.branchTarget imm (placeOf b (entryAt entries k)) ≡ branchTarget (entryAt entries k) (targetAt targets k))
     bl-goes imm26 d = (bl-stays l ty plain imm26 d, to-target)
 
@@ -81,7 +81,7 @@ relaxed-silent s ty target word h = silent-test (canRelax ty word) _ _ _ refl h
 module _ {section : List ℕ} {b : Bases} {entries targets slots : List ℕ} {f : Fixed} {k : ℕ} (l : Lone section b entries targets slots f k) where
   -- the size of a load or store divides the target
   pub access-aligned : {target : ℕ} → Offset (entryAt entries k) (targetAt targets k) target → Unreported f k
-      → (size v opc rt rn imm12 : ℕ) → decode (wordAt entries section k) ≡ form (LDST size v opc rt rn imm12) → target % movedBy (rowOf size v opc) ≡ 0
+      → (size v opc rt rn imm12 : ℕ) → decode (wordAt entries section k) ≡ instruction (LDST size v opc rt rn imm12) → target % movedBy (rowOf size v opc) ≡ 0
   access-aligned {target} r u size v opc rt rn imm12 d =
       eqb-true (target % movedBy (rowOf size v opc)) 0
       (fitted-silent (siteOf b k (entryAt entries k)) (eqb (target % movedBy (rowOf size v opc)) 0) _ _
@@ -110,7 +110,7 @@ got-address e t h = choose-true (canRelaxGot t) _ _ h
 
 module _ {section : List ℕ} {b : Bases} {entries targets slots : List ℕ} {f : Fixed} {k m : ℕ}
     (l : Lone section b entries targets slots f k) (u : Unreported f k) (l′ : Lone section b entries targets slots f m)
-    (rd imm : ℕ) (d : decode (wordAt entries section k) ≡ form (ADRP rd imm))
+    (rd imm : ℕ) (d : decode (wordAt entries section k) ≡ instruction (ADRP rd imm))
   where
     -- the page of a target that the word at k makes
     abbrev pageTo : ℕ → ℕ
@@ -118,7 +118,7 @@ module _ {section : List ℕ} {b : Bases} {entries targets slots : List ℕ} {f 
 
     -- what k's word is then
     abbrev PageAt : ℕ → Type 0
-    PageAt target = decode (wordAt entries (f .section) k) ≡ form (ADRP rd (pageImm target (placeOf b (entryAt entries k))))
+    PageAt target = decode (wordAt entries (f .section) k) ≡ instruction (ADRP rd (pageImm target (placeOf b (entryAt entries k))))
 
     page-of : {page target : ℕ} → Page (entryAt entries k) (targetAt targets k) page → page ≡ target → Page (entryAt entries k) (targetAt targets k) target
     page-of r same = subst (λ (t : ℕ). Page (entryAt entries k) (targetAt targets k) t) same r
@@ -126,9 +126,9 @@ module _ {section : List ℕ} {b : Bases} {entries targets slots : List ℕ} {f 
     -- an unshifted ADD of 64 bits makes the target that both have: S + A of PAGE21 and PAGEOFF12
     pub pair-add : {page target : ℕ} → Page (entryAt entries k) (targetAt targets k) page → Offset (entryAt entries m) (targetAt targets m) target
         → page ≡ target
-        → (rd′ rn imm12 : ℕ) → decode (wordAt entries section m) ≡ form (ADD 1 0 rd′ rn imm12)
+        → (rd′ rn imm12 : ℕ) → decode (wordAt entries section m) ≡ instruction (ADD 1 0 rd′ rn imm12)
         → PageAt target
-        × (decode (wordAt entries (f .section) m) ≡ form (ADD 1 0 rd′ rn (field target 0 12)))
+        × (decode (wordAt entries (f .section) m) ≡ instruction (ADD 1 0 rd′ rn (field target 0 12)))
         × (M.addValue 1 0 (pageTo target) (field target 0 12) ≡ target)
     pair-add r r′ same = let p = page-of r same in adrp-add l l′ p (page-in-reach l p u) rd imm d r′
 
@@ -137,20 +137,20 @@ module _ {section : List ℕ} {b : Bases} {entries targets slots : List ℕ} {f 
         → canRelaxGot (targetAt targets k) ≡ false
         → canRelaxGot (targetAt targets m) ≡ false
         → slotOf (entryAt entries k) (targetAt targets k) ≡ slotOf (entryAt entries m) (targetAt targets m)
-        → (rd′ rn imm12 : ℕ) → decode (wordAt entries section m) ≡ form (ADD 1 0 rd′ rn imm12)
+        → (rd′ rn imm12 : ℕ) → decode (wordAt entries section m) ≡ instruction (ADD 1 0 rd′ rn imm12)
         → PageAt (slotOf (entryAt entries m) (targetAt targets m))
-        × (decode (wordAt entries (f .section) m) ≡ form (ADD 1 0 rd′ rn (field (slotOf (entryAt entries m) (targetAt targets m)) 0 12)))
+        × (decode (wordAt entries (f .section) m) ≡ instruction (ADD 1 0 rd′ rn (field (slotOf (entryAt entries m) (targetAt targets m)) 0 12)))
         × (M.addValue 1 0 (pageTo (slotOf (entryAt entries m) (targetAt targets m))) (field (slotOf (entryAt entries m) (targetAt targets m)) 0 12)
         ≡ slotOf (entryAt entries m) (targetAt targets m))
     got-add r g n n′ same = pair-add r (got-offset g n′) (got-slot _ _ n ∙ same)
 
-    module _ (size v opc rt rn imm12 : ℕ) (d′ : decode (wordAt entries section m) ≡ form (LDST size v opc rt rn imm12))
+    module _ (size v opc rt rn imm12 : ℕ) (d′ : decode (wordAt entries section m) ≡ instruction (LDST size v opc rt rn imm12))
         (u′ : Unreported f m)
       where
         -- what m's word is then, and where it loads or stores
         abbrev AccessAt : ℕ → Type 0
         AccessAt target =
-            (decode (wordAt entries (f .section) m) ≡ form (LDST size v opc rt rn (target % 2 ^ 12 / movedBy (rowOf size v opc))))
+            (decode (wordAt entries (f .section) m) ≡ instruction (LDST size v opc rt rn (target % 2 ^ 12 / movedBy (rowOf size v opc))))
             × (M.accessAddress (rowOf size v opc) (pageTo target) (target % 2 ^ 12 / movedBy (rowOf size v opc)) ≡ target)
 
         -- a load or store accesses the target that both have: S + A of PAGE21 and PAGEOFF12
@@ -179,7 +179,8 @@ module _ {section : List ℕ} {b : Bases} {entries targets slots : List ℕ} {f 
         → targetOf (entryAt entries k) (targetAt targets k) ≡ targetOf (entryAt entries m) (targetAt targets m)
         → PageAt (targetOf (entryAt entries m) (targetAt targets m))
         × (decode (wordAt entries (f .section) m)
-        ≡ form (ADD 1 0 (rdIn (wordAt entries section m)) (rnIn (wordAt entries section m)) (field (targetOf (entryAt entries m) (targetAt targets m)) 0 12)))
+        ≡ instruction (ADD 1 0 (rdIn (wordAt entries section m)) (rnIn (wordAt entries section m))
+        (field (targetOf (entryAt entries m) (targetAt targets m)) 0 12)))
         × (M.addValue 1 0 (pageTo (targetOf (entryAt entries m) (targetAt targets m))) (field (targetOf (entryAt entries m) (targetAt targets m)) 0 12)
         ≡ targetOf (entryAt entries m) (targetAt targets m))
     got-relaxed r r′ u′ x same =

@@ -10,7 +10,7 @@ use Rattle.util.specs.Choice.{choose}
 use Rattle.macho.specs.Types.{MCLOH-AdrpAdrp, MCLOH-AdrpLdr, MCLOH-AdrpAddLdr, MCLOH-AdrpLdrGotLdr}
 use Rattle.macho.specs.Types.{MCLOH-AdrpAddStr, MCLOH-AdrpLdrGotStr, MCLOH-AdrpAdd, MCLOH-AdrpLdrGot}
 use Rattle.arm64_insn.specs.LoadStoreTable.{rowOf, isStore}
-use Rattle.arm64_insn.specs.Manual.{ADRP, ADD, LDST, form, decode, allocated, sizeIn, vIn, opcIn}
+use Rattle.arm64_insn.specs.Manual.{ADRP, ADD, LDST, instruction, decode, allocated, sizeIn, vIn, opcIn}
 use Rattle.arm64_insn.specs.LoadStore.{takenAsLoad}
 use Rattle.arm64_hint_terms.specs.Rels.{isPageRel, isPageoffRel, isAbsent}
 use Rattle.arm64_hint_terms.specs.declared.rels.Rel.{Rel}
@@ -60,14 +60,14 @@ wordsOf n = wordsIn kinds n
 pub record IsAdrp (w : ℕ) : Type 0 where
   pub rd : ℕ
   pub imm21 : ℕ
-  pub is : decode w ≡ form (ADRP rd imm21)
+  pub is : decode w ≡ instruction (ADRP rd imm21)
 
 -- an ADD of 64 bits with an unshifted immediate
 pub record IsAdd (w : ℕ) : Type 0 where
   pub rd : ℕ
   pub rn : ℕ
   pub imm12 : ℕ
-  pub is : decode w ≡ form (ADD 1 0 rd rn imm12)
+  pub is : decode w ≡ instruction (ADD 1 0 rd rn imm12)
 
 -- a load, or a store, of the manual's table
 pub record IsAccess (w : ℕ) (stores : Bool) : Type 0 where
@@ -77,7 +77,7 @@ pub record IsAccess (w : ℕ) (stores : Bool) : Type 0 where
   pub rt : ℕ
   pub rn : ℕ
   pub imm12 : ℕ
-  pub is : decode w ≡ form (LDST size v opc rt rn imm12)
+  pub is : decode w ≡ instruction (LDST size v opc rt rn imm12)
   pub row : isStore (rowOf size v opc) ≡ stores
 
 -- an unallocated word that the rules take as a load (RULES 7.19)

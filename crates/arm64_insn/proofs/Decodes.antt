@@ -17,7 +17,7 @@ use Rattle.util.proofs.Below.{every}
 use Rattle.util.proofs.Diagram.{finer, fixed-field, matches-fill, matches-fields}
 use Rattle.arm64_insn.specs.Encoding.{adrp, add, addUnshifted, addImmediate, loadStore, ldrImmediate}
 use Rattle.arm64_insn.specs.LoadStoreTable.{Row, load, store, prefetch, unallocated, rowOf, movedBy, moves, isAllocated}
-use Rattle.arm64_insn.specs.Manual.{ADRP, ADD, LDST, form, none, loadStoreForm, decode, allocated}
+use Rattle.arm64_insn.specs.Manual.{ADRP, ADD, LDST, instruction, none, loadStoreForm, decode, allocated}
 use Rattle.arm64_insn.specs.Manual.{rdIn, rnIn, imm12In, sfIn, shIn, sizeIn, vIn, opcIn, rowIn}
 use Rattle.arm64_insn.specs.Adrp.{adrpOf}
 use Rattle.arm64_insn.specs.Add.{addOf}
@@ -38,20 +38,20 @@ use Rattle.arm64_insn.proofs.Manual.{decode-has, has-decode, encode-dec
 use Rattle.arm64_insn.proofs.ManualClasses.{by-class}
 
 -- `Adrp::decode` answers the manual's ADRP, and nothing else
-pub adrp-decodes : (w : ℕ) (a : A.Adrp) → adrpOf w ≡ AdrpWord.Adrp a → decode w ≡ form (ADRP (a .rd) (a .imm))
+pub adrp-decodes : (w : ℕ) (a : A.Adrp) → adrpOf w ≡ AdrpWord.Adrp a → decode w ≡ instruction (ADRP (a .rd) (a .imm))
 unfolding adrpOf
 adrp-decodes w a e =
     let q = choose-first (matches adrp w) _ AdrpWord.Other (AdrpWord.Adrp a) e (λ f. let z : _≡_ {A = ℕ} 0 1 = cc in omega arith) in
     by-class w 1 (lit< tt) (q .0) ∙ cc (q .1)
 
-pub decodes-adrp : (w rd imm : ℕ) → decode w ≡ form (ADRP rd imm) → adrpOf w ≡ AdrpWord.Adrp (record { rd = rd; imm = imm })
+pub decodes-adrp : (w rd imm : ℕ) → decode w ≡ instruction (ADRP rd imm) → adrpOf w ≡ AdrpWord.Adrp (record { rd = rd; imm = imm })
 unfolding adrpOf
 decodes-adrp w rd imm e =
     let m = decode-has w (ADRP rd imm) e .matched in
     choose-true (matches adrp w) _ _ m ∙ cc (by-class w 1 (lit< tt) m, e)
 
 -- `Add::decode` answers the manual's ADD of 64 bits with an unshifted immediate, and nothing else
-pub add-decodes : (w : ℕ) (a : D.Add) → addOf w ≡ AddWord.Add a → decode w ≡ form (ADD 1 0 (a .rd) (a .rn) (a .imm))
+pub add-decodes : (w : ℕ) (a : D.Add) → addOf w ≡ AddWord.Add a → decode w ≡ instruction (ADD 1 0 (a .rd) (a .rn) (a .imm))
 unfolding addOf
 add-decodes w a e =
     let q = choose-first (matches add w) _ AddWord.Other (AddWord.Add a) e (λ f. let z : _≡_ {A = ℕ} 0 1 = cc in omega arith) in
@@ -60,7 +60,7 @@ add-decodes w a e =
     let sh : shIn w ≡ 0 = fixed-field add w 22 1 0 refl refl refl refl (q .0) in
     by-class w 2 (lit< tt) m ∙ cc (q .1)
 
-pub decodes-add : (w rd rn imm : ℕ) → w < 2 ^ 32 → decode w ≡ form (ADD 1 0 rd rn imm) → addOf w ≡ AddWord.Add (record { rd = rd; rn = rn; imm = imm })
+pub decodes-add : (w rd rn imm : ℕ) → w < 2 ^ 32 → decode w ≡ instruction (ADD 1 0 rd rn imm) → addOf w ≡ AddWord.Add (record { rd = rd; rn = rn; imm = imm })
 unfolding addOf
 decodes-add w rd rn imm l e =
     let h = decode-has w (ADD 1 0 rd rn imm) e in
@@ -139,7 +139,7 @@ module _ (w : ℕ) where
   moved unallocated q h = absurd (false≢true h)
 
 -- `LoadStore::decode` answers every load and store of the manual, field by field
-pub decodes-load-store : (w size v opc rt rn imm12 : ℕ) → decode w ≡ form (LDST size v opc rt rn imm12)
+pub decodes-load-store : (w size v opc rt rn imm12 : ℕ) → decode w ≡ instruction (LDST size v opc rt rn imm12)
     → loadStoreOf w ≡ LoadStoreWord.LoadStore (loadStoreFrom w v rt rn imm12 (rowOf size v opc))
 decodes-load-store w size v opc rt rn imm12 e =
     let h = decode-has w (LDST size v opc rt rn imm12) e in
@@ -152,7 +152,7 @@ decodes-load-store w size v opc rt rn imm12 e =
 
 -- and, but for the words taken as loads, nothing else: not the prefetch, no unallocated word
 pub load-store-decodes : (w : ℕ) (l : L.LoadStore) → loadStoreOf w ≡ LoadStoreWord.LoadStore l → takenWord w ≡ false
-    → decode w ≡ form (LDST (sizeIn w) (vIn w) (opcIn w) (l .reg) (l .base) (imm12In w))
+    → decode w ≡ instruction (LDST (sizeIn w) (vIn w) (opcIn w) (l .reg) (l .base) (imm12In w))
 unfolding loadStoreOf
 load-store-decodes w l e t =
     let q = choose-first (matches loadStore w) _ LoadStoreWord.Other (LoadStoreWord.LoadStore l) e (λ f. let z : _≡_ {A = ℕ} 0 1 = cc in omega arith) in
@@ -161,7 +161,7 @@ load-store-decodes w l e t =
     ∙ go (rowIn w) (sym (ap (loadStoreWith w) (by-row w u)) ∙ q .1)
   where
     go : (r : Row) → loadStoreWith w (accessIn r) ≡ LoadStoreWord.LoadStore l
-        → loadStoreForm r w ≡ form (LDST (sizeIn w) (vIn w) (opcIn w) (l .reg) (l .base) (imm12In w))
+        → loadStoreForm r w ≡ instruction (LDST (sizeIn w) (vIn w) (opcIn w) (l .reg) (l .base) (imm12In w))
     go (load m g n x) f = cc
     go (store m g n) f = cc
     go (prefetch m) f = let z : _≡_ {A = ℕ} 0 1 = cc in absurd (omega arith)
@@ -181,12 +181,12 @@ taken-decodes w t =
     )
 
 -- `is_add_either` holds of the ADDs with an unshifted immediate
-pub add-either-decodes : (w : ℕ) → matches addUnshifted w ≡ true → decode w ≡ form (ADD (sfIn w) 0 (rdIn w) (rnIn w) (imm12In w))
+pub add-either-decodes : (w : ℕ) → matches addUnshifted w ≡ true → decode w ≡ instruction (ADD (sfIn w) 0 (rdIn w) (rnIn w) (imm12In w))
 add-either-decodes w e =
     let sh : shIn w ≡ 0 = fixed-field addUnshifted w 22 1 0 refl refl refl refl e in
     by-class w 2 (lit< tt) (finer addImmediate addUnshifted w refl refl refl refl e) ∙ cc
 
-pub decodes-add-either : (w sf rd rn imm12 : ℕ) → w < 2 ^ 32 → decode w ≡ form (ADD sf 0 rd rn imm12) → matches addUnshifted w ≡ true
+pub decodes-add-either : (w sf rd rn imm12 : ℕ) → w < 2 ^ 32 → decode w ≡ instruction (ADD sf 0 rd rn imm12) → matches addUnshifted w ≡ true
 decodes-add-either w sf rd rn imm12 l e =
     let r = decode-in-range w (ADD sf 0 rd rn imm12) e in
     ap (matches addUnshifted) (sym (encode-decode w (ADD sf 0 rd rn imm12) l e))
@@ -194,7 +194,7 @@ decodes-add-either w sf rd rn imm12 l e =
 
 -- `is_ldr_imm` holds of LDR of a W or X register: size 10 or 11, V 0, opc 01
 pub ldr-imm-decodes : (w : ℕ) → matches ldrImmediate w ≡ true
-    → (2 ≤ sizeIn w) × (decode w ≡ form (LDST (sizeIn w) 0 0b01 (rdIn w) (rnIn w) (imm12In w)))
+    → (2 ≤ sizeIn w) × (decode w ≡ instruction (LDST (sizeIn w) 0 0b01 (rdIn w) (rnIn w) (imm12In w)))
 ldr-imm-decodes w e =
     let o : opcIn w ≡ 1 = fixed-field ldrImmediate w 22 2 1 refl refl refl refl e in
     let v : vIn w ≡ 0 = fixed-field ldrImmediate w 26 1 0 refl refl refl refl e in
@@ -209,7 +209,7 @@ ldr-imm-decodes w e =
           }),
     )
 
-pub decodes-ldr-imm : (w size rt rn imm12 : ℕ) → w < 2 ^ 32 → 2 ≤ size → decode w ≡ form (LDST size 0 0b01 rt rn imm12) → matches ldrImmediate w ≡ true
+pub decodes-ldr-imm : (w size rt rn imm12 : ℕ) → w < 2 ^ 32 → 2 ≤ size → decode w ≡ instruction (LDST size 0 0b01 rt rn imm12) → matches ldrImmediate w ≡ true
 decodes-ldr-imm w size rt rn imm12 l h e =
     let r = decode-in-range w (LDST size 0 0b01 rt rn imm12) e in
     let f : fill ldrImmediate (rt ∷ rn ∷ imm12 ∷ (size - 2) ∷ []) ≡ w = omega arith ∙ encode-decode w (LDST size 0 0b01 rt rn imm12) l e in
@@ -236,7 +236,7 @@ unfolding rowOf every choose
 right-scale w = each-cell rightScale refl (sizeIn w) (vIn w) (opcIn w) (omega arith) (omega arith) (omega arith)
 
 -- the scale that `write_add_ldst_word` takes is that of the bytes that a load or store moves
-pub load-store-scale : (w size v opc rt rn imm12 : ℕ) → decode w ≡ form (LDST size v opc rt rn imm12) → 2 ^ scaleOf w ≡ movedBy (rowOf size v opc)
+pub load-store-scale : (w size v opc rt rn imm12 : ℕ) → decode w ≡ instruction (LDST size v opc rt rn imm12) → 2 ^ scaleOf w ≡ movedBy (rowOf size v opc)
 load-store-scale w size v opc rt rn imm12 e =
     let h = decode-has w (LDST size v opc rt rn imm12) e in
     let r : rowIn w ≡ rowOf size v opc = cc (h .fields) in

@@ -18,7 +18,7 @@ use Rattle.util.proofs.Below.{every}
 use Rattle.util.proofs.Diagram.{fixed-field, field-add}
 use Rattle.arm64_insn.specs.Encoding.{adrp, addImmediate, loadStore, branch}
 use Rattle.arm64_insn.specs.LoadStoreTable.{unallocated, unsignedImmediate, literal, rowOf, literalRowOf, movedBy, moves, isStore}
-use Rattle.arm64_insn.specs.Manual.{ADR, ADRP, ADD, LDST, PRFM, LDR-literal, B, BL, BR, NOP, MOVZ, encode, form, decode}
+use Rattle.arm64_insn.specs.Manual.{ADR, ADRP, ADD, LDST, PRFM, LDR-literal, B, BL, BR, NOP, MOVZ, encode, instruction, decode}
 use Rattle.arm64_insn.specs.Manual.{rdIn, rnIn, shIn, sfIn, sizeIn, vIn, opcIn, rowIn}
 use Rattle.arm64_insn.specs.Reach.{pageImm, pageOffset}
 use Rattle.arm64_insn.specs.Adrp.{adrWord}
@@ -42,12 +42,12 @@ unfolding pageImm
 page-imm-lt hi lo = omega arith
 
 -- what `adr` makes is an ADR
-pub adr-made : (rd target pc : ℕ) → rd < 32 → decode (adrWord rd target pc) ≡ form (ADR rd (field (diff target pc) 0 21))
+pub adr-made : (rd target pc : ℕ) → rd < 32 → decode (adrWord rd target pc) ≡ instruction (ADR rd (field (diff target pc) 0 21))
 unfolding adrWord
 adr-made rd target pc h = decode-encode (ADR rd (field (diff target pc) 0 21)) (h, omega arith)
 
 -- a patched ADRP is that ADRP with another immediate
-pub adrp-patched : (w rd imm hi lo : ℕ) → w < 2 ^ 32 → decode w ≡ form (ADRP rd imm) → decode (adrpWith w hi lo) ≡ form (ADRP rd (pageImm hi lo))
+pub adrp-patched : (w rd imm hi lo : ℕ) → w < 2 ^ 32 → decode w ≡ instruction (ADRP rd imm) → decode (adrpWith w hi lo) ≡ instruction (ADRP rd (pageImm hi lo))
 unfolding adrpWith pageOffset
 adrp-patched w rd imm hi lo l e =
     let h = decode-has w (ADRP rd imm) e in
@@ -87,7 +87,7 @@ module _ (w : ℕ) where
       ) (omega arith)
 
 -- an ADD with the page offset is that ADD with another immediate, and so it always fits
-pub add-patched : (w sf sh rd rn imm12 val : ℕ) → decode w ≡ form (ADD sf sh rd rn imm12)
+pub add-patched : (w sf sh rd rn imm12 val : ℕ) → decode w ≡ instruction (ADD sf sh rd rn imm12)
     → offsetWith w val ≡ Word (encode (ADD sf sh rd rn (field val 0 12)))
 unfolding offsetWith
 add-patched w sf sh rd rn imm12 val e =
@@ -101,7 +101,7 @@ add-patched w sf sh rd rn imm12 val e =
     (choose-true (eqb 0 0) _ _ refl ∙ ap Word (omega arith))
 
 -- a load or store with the page offset is that access with another immediate, where the access size divides the target
-pub load-store-patched : (w size v opc rt rn imm12 val : ℕ) → decode w ≡ form (LDST size v opc rt rn imm12)
+pub load-store-patched : (w size v opc rt rn imm12 val : ℕ) → decode w ≡ instruction (LDST size v opc rt rn imm12)
     → offsetWith w val
     ≡ choose (eqb (val % movedBy (rowOf size v opc)) 0)
     (Word (encode (LDST size v opc rt rn (val % 2 ^ 12 / movedBy (rowOf size v opc)))))
@@ -120,7 +120,7 @@ load-store-patched w size v opc rt rn imm12 val e =
     rw (load-store-scale w size v opc rt rn imm12 e, g)
 
 -- a prefetch with the page offset is that prefetch with another immediate, which counts eights, where 8 divides the target
-pub prefetch-patched : (w rt rn imm12 val : ℕ) → decode w ≡ form (PRFM rt rn imm12)
+pub prefetch-patched : (w rt rn imm12 val : ℕ) → decode w ≡ instruction (PRFM rt rn imm12)
     → offsetWith w val ≡ choose (eqb (val % 8) 0) (Word (encode (PRFM rt rn (val % 2 ^ 12 / 8)))) (Misaligned 8)
 unfolding offsetWith rowOf
 prefetch-patched w rt rn imm12 val e =
@@ -141,7 +141,7 @@ prefetch-patched w rt rn imm12 val e =
 top-branch : (w op : ℕ) → matches branch w ≡ true → sfIn w ≡ op → field w 26 6 ≡ op * 2 ^ 5 + 0b00101
 top-branch w op m e = rw (field-add w 26 1 5, fixed-field branch w 26 5 5 refl refl refl refl m, e)
 
-pub b-patched : (w imm26 d : ℕ) → decode w ≡ form (B imm26) → decode (branchWord w d) ≡ form (B (field d 2 26))
+pub b-patched : (w imm26 d : ℕ) → decode w ≡ instruction (B imm26) → decode (branchWord w d) ≡ instruction (B (field d 2 26))
 unfolding branchWord
 b-patched w imm26 d e =
     let h = decode-has w (B imm26) e in
@@ -149,7 +149,7 @@ b-patched w imm26 d e =
     let g : branchWord w d ≡ encode (B (field d 2 26)) = rw (top-branch w 0 (h .matched) s) (omega arith) in
     ap decode g ∙ decode-encode (B (field d 2 26)) (omega arith)
 
-pub bl-patched : (w imm26 d : ℕ) → decode w ≡ form (BL imm26) → decode (branchWord w d) ≡ form (BL (field d 2 26))
+pub bl-patched : (w imm26 d : ℕ) → decode w ≡ instruction (BL imm26) → decode (branchWord w d) ≡ instruction (BL (field d 2 26))
 unfolding branchWord
 bl-patched w imm26 d e =
     let h = decode-has w (BL imm26) e in
@@ -158,27 +158,27 @@ bl-patched w imm26 d e =
     ap decode g ∙ decode-encode (BL (field d 2 26)) (omega arith)
 
 -- a helper's word is a B or a BL
-pub helper-made : (d : ℕ) → (decode (helperWord true d) ≡ form (B (field d 2 26))) × (decode (helperWord false d) ≡ form (BL (field d 2 26)))
+pub helper-made : (d : ℕ) → (decode (helperWord true d) ≡ instruction (B (field d 2 26))) × (decode (helperWord false d) ≡ instruction (BL (field d 2 26)))
 unfolding helperWord choose
 helper-made d = (decode-encode (B (field d 2 26)) (omega arith), decode-encode (BL (field d 2 26)) (omega arith))
 
 -- a relaxed load is an ADD of 64 bits of its registers
-pub relaxed-made : (w target : ℕ) → decode (relaxedWord w target) ≡ form (ADD 1 0 (rdIn w) (rnIn w) (field target 0 12))
+pub relaxed-made : (w target : ℕ) → decode (relaxedWord w target) ≡ instruction (ADD 1 0 (rdIn w) (rnIn w) (field target 0 12))
 unfolding relaxedWord
 relaxed-made w target = decode-encode (ADD 1 0 (rdIn w) (rnIn w) (field target 0 12)) (omega arith)
 
 -- the words of probes
-pub nop-made : decode nopWord ≡ form NOP
+pub nop-made : decode nopWord ≡ instruction NOP
 nop-made = decode-encode NOP tt
 
-pub is-enabled-made : decode isEnabledWord ≡ form (MOVZ 1 0 0 0)
+pub is-enabled-made : decode isEnabledWord ≡ instruction (MOVZ 1 0 0 0)
 is-enabled-made = decode-encode (MOVZ 1 0 0 0) (lit< tt, lit< tt, lit< tt, lit< tt, refl)
 
 -- a stub: ADRP x16; LDR x16, [x16]; BR x16. A thunk has an ADD in the middle
 pub stub-made : (addr pointer : ℕ)
-    → (decode (stubWords addr pointer .first) ≡ form (ADRP 16 (pageImm pointer addr)))
-    × (decode (stubWords addr pointer .second) ≡ form (LDST 0b11 0 0b01 16 16 (field pointer 3 9)))
-    × (decode (stubWords addr pointer .third) ≡ form (BR 16))
+    → (decode (stubWords addr pointer .first) ≡ instruction (ADRP 16 (pageImm pointer addr)))
+    × (decode (stubWords addr pointer .second) ≡ instruction (LDST 0b11 0 0b01 16 16 (field pointer 3 9)))
+    × (decode (stubWords addr pointer .third) ≡ instruction (BR 16))
 unfolding stubWords rowOf
 stub-made addr pointer = (
   decode-encode (ADRP 16 (pageImm pointer addr)) (lit< tt, page-imm-lt pointer addr),
@@ -187,9 +187,9 @@ stub-made addr pointer = (
 )
 
 pub thunk-made : (addr target : ℕ)
-    → (decode (thunkWords addr target .first) ≡ form (ADRP 16 (pageImm target addr)))
-    × (decode (thunkWords addr target .second) ≡ form (ADD 1 0 16 16 (field target 0 12)))
-    × (decode (thunkWords addr target .third) ≡ form (BR 16))
+    → (decode (thunkWords addr target .first) ≡ instruction (ADRP 16 (pageImm target addr)))
+    × (decode (thunkWords addr target .second) ≡ instruction (ADD 1 0 16 16 (field target 0 12)))
+    × (decode (thunkWords addr target .third) ≡ instruction (BR 16))
 unfolding thunkWords
 thunk-made addr target = (
   decode-encode (ADRP 16 (pageImm target addr)) (lit< tt, page-imm-lt target addr),
@@ -205,9 +205,9 @@ based w base l offset e =
     let q = choose-first (matches loadStore w) _ LoadStoreWord.Other (LoadStoreWord.LoadStore l) e (λ f. let z : _≡_ {A = ℕ} 0 1 = cc in omega arith) in
     rw (decoded-load-store w l e .word, top-load-store w (q .0)) (omega arith)
 
-pub based-made : (w size v opc rt rn imm12 base offset : ℕ) (l : L.LoadStore) → decode w ≡ form (LDST size v opc rt rn imm12)
+pub based-made : (w size v opc rt rn imm12 base offset : ℕ) (l : L.LoadStore) → decode w ≡ instruction (LDST size v opc rt rn imm12)
     → loadStoreOf w ≡ LoadStoreWord.LoadStore l → Rebased l base offset
-    → decode (baseWord l base offset) ≡ form (LDST size v opc rt base (offset / l .size))
+    → decode (baseWord l base offset) ≡ instruction (LDST size v opc rt base (offset / l .size))
 based-made w size v opc rt rn imm12 base offset l e f b =
     let h = decode-has w (LDST size v opc rt rn imm12) e in
     let r = h .in-range in
@@ -231,7 +231,8 @@ literal-moves false false v sw = refl
 
 pub literal-made : (l : L.LoadStore) (target pc : ℕ) → l .reg < 32
     → decode (literalWord l target pc)
-    ≡ form (LDR-literal (literalOpc (l .size) (l .«is_float») (l .«is_ldrsw»)) (literalV (l .size) (l .«is_float»)) (l .reg) (field (diff target pc) 2 19))
+    ≡ instruction (LDR-literal (literalOpc (l .size) (l .«is_float») (l .«is_ldrsw»)) (literalV (l .size) (l .«is_float»)) (l .reg)
+    (field (diff target pc) 2 19))
 unfolding literalWord literalOpc literalV
 literal-made l target pc h =
     decode-encode
@@ -283,7 +284,7 @@ alike-cell size v opc hs hv ho h =
     (sym (choose-true (leb 4 (movedBy (rowOf size v opc)) && not (isStore (rowOf size v opc))) _ true h) ∙ each-cell alikeAt refl size v opc hs hv ho)
 
 -- and it loads what the load loaded: both rows have the same mnemonic, registers, bytes and widening
-pub literal-row : (w size v opc rt rn imm12 : ℕ) (l : L.LoadStore) → decode w ≡ form (LDST size v opc rt rn imm12)
+pub literal-row : (w size v opc rt rn imm12 : ℕ) (l : L.LoadStore) → decode w ≡ instruction (LDST size v opc rt rn imm12)
     → loadStoreOf w ≡ LoadStoreWord.LoadStore l → hasLiteralForm l ≡ true
     → literalRowOf (literalOpc (l .size) (l .«is_float») (l .«is_ldrsw»)) (literalV (l .size) (l .«is_float»)) ≡ rowOf size v opc
 unfolding hasLiteralForm

@@ -20,7 +20,7 @@ use Rattle.util.proofs.Diagram.{Room, freeAt, width, matches-fill, free-fill, f
 use Rattle.arm64_insn.specs.Encoding.{adr, adrp, addImmediate, loadStore, loadLiteral, branch, br, nop, movz}
 use Rattle.arm64_insn.specs.LoadStoreTable.{Mnemonic, Row, load, store, prefetch, unallocated, unsignedImmediate, literal}
 use Rattle.arm64_insn.specs.LoadStoreTable.{rowOf, literalRowOf, moves, isAllocated}
-use Rattle.arm64_insn.specs.Manual.{Insn, ADR, ADRP, ADD, LDST, PRFM, LDR-literal, B, BL, BR, NOP, MOVZ, Decoded, form, none}
+use Rattle.arm64_insn.specs.Manual.{Insn, ADR, ADRP, ADD, LDST, PRFM, LDR-literal, B, BL, BR, NOP, MOVZ, Decoded, instruction, none}
 use Rattle.arm64_insn.specs.Manual.{diagramOf, fieldsOf, encode, hasHalf, InRange, loadStoreForm, branchForm, classes, decode, allocated}
 use Rattle.arm64_insn.specs.Manual.{rdIn, rnIn, imm12In, imm19In, imm21In, imm26In, hwIn, opcIn, vIn, sizeIn, sfIn, rowIn}
 pub use Rattle.arm64_insn.proofs.ManualClasses.{classAt, diagramAt, one-class, by-class}
@@ -32,7 +32,7 @@ pub record Has (w : ℕ) (i : Insn) : Type 0 where
   pub in-range : InRange i
 
 HasForm : ℕ → Decoded → Type 0
-HasForm w (form i) = Has w i
+HasForm w (instruction i) = Has w i
 HasForm w none = Unit {0}
 
 -- the one row that is a prefetch
@@ -106,19 +106,19 @@ module _ (w : ℕ) where
       split (HasForm w) (matches movz w) _ _ has-movz (λ _. tt)))))))))
 
 -- a word that decodes to a form has it
-pub decode-has : (w : ℕ) (i : Insn) → decode w ≡ form i → Has w i
+pub decode-has : (w : ℕ) (i : Insn) → decode w ≡ instruction i → Has w i
 unfolding HasForm
 decode-has w i e = subst (HasForm w) e (has w)
 
 -- a load or store by its row
-moved : (w : ℕ) (r : Row) → moves r ≡ true → loadStoreForm r w ≡ form (LDST (sizeIn w) (vIn w) (opcIn w) (rdIn w) (rnIn w) (imm12In w))
+moved : (w : ℕ) (r : Row) → moves r ≡ true → loadStoreForm r w ≡ instruction (LDST (sizeIn w) (vIn w) (opcIn w) (rdIn w) (rnIn w) (imm12In w))
 moved w (load m g n x) h = refl
 moved w (store m g n) h = refl
 moved w (prefetch m) h = absurd (false≢true h)
 moved w unallocated h = absurd (false≢true h)
 
 -- a word that has a form decodes to it
-pub has-decode : (w : ℕ) (i : Insn) → Has w i → decode w ≡ form i
+pub has-decode : (w : ℕ) (i : Insn) → Has w i → decode w ≡ instruction i
 unfolding rowOf
 has-decode w (ADR rd imm) h = by-class w 0 (lit< tt) (h .matched) ∙ cc (h .fields, Pow.split imm 2)
 has-decode w (ADRP rd imm) h = by-class w 1 (lit< tt) (h .matched) ∙ cc (h .fields, Pow.split imm 2)
@@ -188,15 +188,15 @@ has-encode w i l h =
     ∙ div-one w
 
 -- decoding undoes encoding
-pub decode-encode : (i : Insn) → InRange i → decode (encode i) ≡ form i
+pub decode-encode : (i : Insn) → InRange i → decode (encode i) ≡ instruction i
 decode-encode i h = has-decode (encode i) i (encode-has i h)
 
 -- encoding undoes decoding
-pub encode-decode : (w : ℕ) (i : Insn) → w < 2 ^ 32 → decode w ≡ form i → encode i ≡ w
+pub encode-decode : (w : ℕ) (i : Insn) → w < 2 ^ 32 → decode w ≡ instruction i → encode i ≡ w
 encode-decode w i l e = has-encode w i l (decode-has w i e)
 
 -- what a word decodes to is in range
-pub decode-in-range : (w : ℕ) (i : Insn) → decode w ≡ form i → InRange i
+pub decode-in-range : (w : ℕ) (i : Insn) → decode w ≡ instruction i → InRange i
 decode-in-range w i e = decode-has w i e .in-range
 
 -- a row that moves is allocated
@@ -207,13 +207,13 @@ moves-allocated (prefetch m) e = refl
 moves-allocated unallocated e = e
 
 -- a choice between a form and none that is a form
-chose-form : (t : Bool) (x : Decoded) (i : Insn) → choose t x none ≡ form i → t ≡ true
+chose-form : (t : Bool) (x : Decoded) (i : Insn) → choose t x none ≡ instruction i → t ≡ true
 unfolding choose
 chose-form true x i e = refl
 chose-form false x i e = let z : _≡_ {A = ℕ} 0 1 = cc in absurd (omega arith)
 
 -- the manual has each word with a form in scope
-pub decode-allocated : (w : ℕ) (i : Insn) → decode w ≡ form i → allocated w ≡ true
+pub decode-allocated : (w : ℕ) (i : Insn) → decode w ≡ instruction i → allocated w ≡ true
 unfolding allocated
 decode-allocated w i e =
     split (λ t. t ≡ true) (matches loadStore w) _ _ (λ m. go (rowIn w) (sym (by-class w 3 (lit< tt) m) ∙ e))
@@ -221,14 +221,14 @@ decode-allocated w i e =
     (λ m. moves-allocated (literalRowOf (sizeIn w) (vIn w)) (chose-form _ _ i (sym (by-class w 4 (lit< tt) m) ∙ e)))
     (λ _. split (λ t. t ≡ true) (matches movz w) _ _ (λ m. chose-form _ _ i (sym (by-class w 8 (lit< tt) m) ∙ e)) (λ _. refl)))
   where
-    go : (r : Row) → loadStoreForm r w ≡ form i → isAllocated r ≡ true
+    go : (r : Row) → loadStoreForm r w ≡ instruction i → isAllocated r ≡ true
     go (load m g n x) q = refl
     go (store m g n) q = refl
     go (prefetch m) q = refl
     go unallocated q = let z : _≡_ {A = ℕ} 0 1 = cc in absurd (omega arith)
 
 -- a choice between a form and none that is none
-chose-none : (t : Bool) (i : Insn) → choose t (form i) none ≡ none → t ≡ false
+chose-none : (t : Bool) (i : Insn) → choose t (instruction i) none ≡ none → t ≡ false
 unfolding choose
 chose-none true i e = let z : _≡_ {A = ℕ} 0 1 = cc in absurd (omega arith)
 chose-none false i e = refl

@@ -5,7 +5,7 @@ use mathlib.Core.List.{List, [], _∷_, map}
 use Prim.Native.Nat.{ℕ}
 use Rattle.util.specs.Choice.{choose}
 use Rattle.arm64_insn.specs.LoadStoreTable.{rowOf, literalRowOf}
-use Rattle.arm64_insn.specs.Manual.{Insn, ADR, ADRP, ADD, LDST, PRFM, LDR-literal, B, BL, BR, NOP, MOVZ, encode, form, decode}
+use Rattle.arm64_insn.specs.Manual.{Insn, ADR, ADRP, ADD, LDST, PRFM, LDR-literal, B, BL, BR, NOP, MOVZ, encode, instruction, decode}
 
 -- a form and its word
 pub record Made : Type 0 where
@@ -401,6 +401,6 @@ assembled =
 pub encoded : map (λ (m : Made). encode (m .insn)) assembled ≡ map (λ (m : Made). m .word) assembled
 encoded = refl
 
-pub decoded : map (λ (m : Made). decode (m .word)) assembled ≡ map (λ (m : Made). form (m .insn)) assembled
+pub decoded : map (λ (m : Made). decode (m .word)) assembled ≡ map (λ (m : Made). instruction (m .insn)) assembled
 unfolding decode choose rowOf literalRowOf
 decoded = refl

@@ -14,7 +14,7 @@ use Rattle.util.specs.Bits.{field}
 use Rattle.util.specs.Wrap.{sum, diff, inRange}
 use Rattle.util.proofs.Range.{range-pos}
 use Rattle.arm64_insn.specs.LoadStoreTable.{rowOf, movedBy}
-use Rattle.arm64_insn.specs.Manual.{LDST, MOVZ, form, decode}
+use Rattle.arm64_insn.specs.Manual.{LDST, MOVZ, instruction, decode}
 use Rattle.arm64_insn.specs.ManualTargets.{adrTarget, literalTarget, branchTarget, accessAddress, addValue, movzValue}
 use Rattle.arm64_insn.specs.Page.{pageOf, adrpPage}
 use Rattle.arm64_insn.specs.Reach.{pageImm, adrpReaches, within1mb}
@@ -58,7 +58,7 @@ module _ (target pc : ℕ) (ht : target < 2 ^ 64) (hp : pc < 2 ^ 64) where
   add-means near = rw (adrp-means near, div-one) (omega arith)
 
   -- a load or store with the page offset accesses the target, which its size divides
-  pub access-means : (w size v opc rt rn imm12 : ℕ) → decode w ≡ form (LDST size v opc rt rn imm12) → adrpReaches target pc ≡ true
+  pub access-means : (w size v opc rt rn imm12 : ℕ) → decode w ≡ instruction (LDST size v opc rt rn imm12) → adrpReaches target pc ≡ true
       → target % movedBy (rowOf size v opc) ≡ 0
       → accessAddress (rowOf size v opc) (adrpPage (pageImm target pc) pc) (target % 2 ^ 12 / movedBy (rowOf size v opc)) ≡ target
   unfolding accessAddress pageOf
@@ -84,6 +84,6 @@ unfolding addValue choose
 add-value source imm12 = omega arith
 
 -- the word of an is-enabled probe makes 0 in x0
-pub is-enabled-means : (decode isEnabledWord ≡ form (MOVZ 1 0 0 0)) × (movzValue 0 0 ≡ 0)
+pub is-enabled-means : (decode isEnabledWord ≡ instruction (MOVZ 1 0 0 0)) × (movzValue 0 0 ≡ 0)
 unfolding movzValue
 is-enabled-means = (is-enabled-made, refl)

@@ -1,5 +1,5 @@
--- The A64 instructions in scope: their forms, how a form is encoded, and which form a word has (Arm Architecture Reference Manual, C4.1 and C6.2; RULES 7.8, 7.9).
--- A word with no form here may be any other instruction; of those nothing is said, but for the unallocated words of the classes in scope.
+-- The A64 instructions in scope, how one is encoded, and which one a word is (Arm Architecture Reference Manual, C4.1 and C6.2; RULES 7.8, 7.9).
+-- A word that is none of these may be any other instruction; of those nothing is said, but for the unallocated words of the classes in scope.
 use Prim.Native.Nat.{ℕ, zero, suc, _+_, _*_, _/_, _%_, _^_, _<_}
 use mathlib.Core.Path.{_≡_}
 use mathlib.Core.Bool.{Bool, true, false, _||_}
@@ -11,7 +11,7 @@ use Rattle.util.specs.Diagram.{Part, matches, fill}
 use Rattle.arm64_insn.specs.Encoding.{adr, adrp, addImmediate, loadStore, loadLiteral, branch, br, nop, movz}
 use Rattle.arm64_insn.specs.LoadStoreTable.{Row, load, store, prefetch, unallocated, rowOf, literalRowOf, moves, isAllocated}
 
--- a form with what its fields hold; the immediates of ADR and ADRP are immhi:immlo. LDST is a load or store register
+-- an instruction with what its fields hold; the immediates of ADR and ADRP are immhi:immlo. LDST is a load or store register
 -- (unsigned immediate), PRFM the prefetch of that table, LDR-literal a load register (literal); PRFM (literal) is not in scope
 pub data Insn : Type 0 where
   ADR : (rd imm21 : ℕ) → Insn
@@ -26,7 +26,7 @@ pub data Insn : Type 0 where
   NOP : Insn
   MOVZ : (sf hw rd imm16 : ℕ) → Insn
 
--- the encoding diagram of a form
+-- the encoding diagram of an instruction
 abbrev pub diagramOf : Insn → List Part
 diagramOf (ADR rd imm21) = adr
 diagramOf (ADRP rd imm21) = adrp
@@ -54,7 +54,7 @@ fieldsOf (BR rn) = rn ∷ []
 fieldsOf NOP = []
 fieldsOf (MOVZ sf hw rd imm16) = rd ∷ imm16 ∷ hw ∷ sf ∷ []
 
--- the word of a form
+-- the word of an instruction
 abbrev pub encode : Insn → ℕ
 encode i = fill (diagramOf i) (fieldsOf i)
 
@@ -62,7 +62,7 @@ encode i = fill (diagramOf i) (fieldsOf i)
 abbrev pub hasHalf : ℕ → ℕ → Bool
 hasHalf sf hw = eqb sf 1 || ltb hw 2
 
--- each field has room for what it holds, and the manual has the form
+-- each field has room for what it holds, and the manual has the instruction
 abbrev pub InRange : Insn → Type 0
 InRange (ADR rd imm21) = (rd < 2 ^ 5) × (imm21 < 2 ^ 21)
 InRange (ADRP rd imm21) = (rd < 2 ^ 5) × (imm21 < 2 ^ 21)
@@ -77,9 +77,9 @@ InRange (BR rn) = rn < 2 ^ 5
 InRange NOP = Unit {0}
 InRange (MOVZ sf hw rd imm16) = (sf < 2) × (hw < 2 ^ 2) × (rd < 2 ^ 5) × (imm16 < 2 ^ 16) × (hasHalf sf hw ≡ true)
 
--- a word's form, if it has one in scope
+-- a word's instruction, if it has one in scope
 pub data Decoded : Type 0 where
-  form : Insn → Decoded
+  instruction : Insn → Decoded
   none : Decoded
 
 -- Rd of a word, or Rt
@@ -138,11 +138,11 @@ sfIn w = field w 31 1
 abbrev pub rowIn : ℕ → Row
 rowIn w = rowOf (sizeIn w) (vIn w) (opcIn w)
 
--- the form of a word of that class by its row
+-- the instruction of a word of that class by its row
 abbrev pub loadStoreForm : Row → ℕ → Decoded
-loadStoreForm (load m r n g) w = form (LDST (sizeIn w) (vIn w) (opcIn w) (rdIn w) (rnIn w) (imm12In w))
-loadStoreForm (store m r n) w = form (LDST (sizeIn w) (vIn w) (opcIn w) (rdIn w) (rnIn w) (imm12In w))
-loadStoreForm (prefetch m) w = form (PRFM (rdIn w) (rnIn w) (imm12In w))
+loadStoreForm (load m r n g) w = instruction (LDST (sizeIn w) (vIn w) (opcIn w) (rdIn w) (rnIn w) (imm12In w))
+loadStoreForm (store m r n) w = instruction (LDST (sizeIn w) (vIn w) (opcIn w) (rdIn w) (rnIn w) (imm12In w))
+loadStoreForm (prefetch m) w = instruction (PRFM (rdIn w) (rnIn w) (imm12In w))
 loadStoreForm unallocated w = none
 
 -- B or BL by op
@@ -150,36 +150,36 @@ abbrev pub branchForm : ℕ → ℕ → Insn
 branchForm zero imm26 = B imm26
 branchForm (suc op) imm26 = BL imm26
 
--- a class of words: a diagram, and the form of a word that matches it
+-- a class of words: a diagram, and the instruction of a word that matches it
 pub record Class : Type 0 where
   pub diagram : List Part
   pub formOf : ℕ → Decoded
 
--- the class of a diagram and forms
+-- the class of a diagram and instructions
 abbrev pub class : List Part → (ℕ → Decoded) → Class
 class d f = record { diagram = d; formOf = f }
 
 -- the classes in scope; no word matches two of them
 abbrev pub classes : List Class
 classes =
-    class adr (λ w. form (ADR (rdIn w) (imm21In w)))
-    ∷ class adrp (λ w. form (ADRP (rdIn w) (imm21In w)))
-    ∷ class addImmediate (λ w. form (ADD (sfIn w) (shIn w) (rdIn w) (rnIn w) (imm12In w)))
+    class adr (λ w. instruction (ADR (rdIn w) (imm21In w)))
+    ∷ class adrp (λ w. instruction (ADRP (rdIn w) (imm21In w)))
+    ∷ class addImmediate (λ w. instruction (ADD (sfIn w) (shIn w) (rdIn w) (rnIn w) (imm12In w)))
     ∷ class loadStore (λ w. loadStoreForm (rowIn w) w)
     ∷ class loadLiteral
-    (λ w. choose (moves (literalRowOf (sizeIn w) (vIn w))) (form (LDR-literal (sizeIn w) (vIn w) (rdIn w) (imm19In w))) none)
-    ∷ class branch (λ w. form (branchForm (sfIn w) (imm26In w)))
-    ∷ class br (λ w. form (BR (rnIn w)))
-    ∷ class nop (λ w. form NOP)
-    ∷ class movz (λ w. choose (hasHalf (sfIn w) (hwIn w)) (form (MOVZ (sfIn w) (hwIn w) (rdIn w) (imm16In w))) none)
+    (λ w. choose (moves (literalRowOf (sizeIn w) (vIn w))) (instruction (LDR-literal (sizeIn w) (vIn w) (rdIn w) (imm19In w))) none)
+    ∷ class branch (λ w. instruction (branchForm (sfIn w) (imm26In w)))
+    ∷ class br (λ w. instruction (BR (rnIn w)))
+    ∷ class nop (λ w. instruction NOP)
+    ∷ class movz (λ w. choose (hasHalf (sfIn w) (hwIn w)) (instruction (MOVZ (sfIn w) (hwIn w) (rdIn w) (imm16In w))) none)
     ∷ []
 
--- the form of a word by the first class that it matches
+-- the instruction of a word by the first class that it matches
 abbrev pub formBy : List Class → ℕ → Decoded
 formBy [] w = none
 formBy (c ∷ cs) w = choose (matches (c .diagram) w) (c .formOf w) (formBy cs w)
 
--- the form of a word
+-- the instruction of a word
 unfoldable pub decode : ℕ → Decoded
 decode w = formBy classes w
 

@@ -9,7 +9,7 @@ use Rattle.util.specs.Choice.{choose}
 use Rattle.util.specs.Wrap.{sum}
 use Rattle.arm64_insn.specs.LoadStoreTable as Table
 use Rattle.arm64_insn.specs.LoadStoreTable.{Row, Registers, general, vector, widened, rowOf, literalRowOf}
-use Rattle.arm64_insn.specs.Manual.{ADR, ADRP, ADD, LDST, PRFM, LDR-literal, B, BL, BR, NOP, MOVZ, Decoded, form, none, decode}
+use Rattle.arm64_insn.specs.Manual.{ADR, ADRP, ADD, LDST, PRFM, LDR-literal, B, BL, BR, NOP, MOVZ, Decoded, instruction, none, decode}
 use Rattle.arm64_insn.specs.ManualTargets.{adrTarget, literalTarget, accessAddress, addValue}
 use Rattle.arm64_insn.specs.Page.{adrpPage}
 
@@ -42,7 +42,7 @@ pub record Placed : Type 0 where
 abbrev pub placed : ℕ → ℕ → Placed
 placed w p = record { word = w; address = p }
 
--- what a word does: the forms that RULES 9.5 and 9.6 name, a load or store with its row of the manual's tables, and any other word
+-- what a word does: the instructions that RULES 9.5 and 9.6 name, a load or store with its row of the manual's tables, and any other word
 pub data Action : Type 0 where
   adr : (rd imm21 : ℕ) → Action
   adrp : (rd imm21 : ℕ) → Action
@@ -52,19 +52,19 @@ pub data Action : Type 0 where
   nop : Action
   other : Action
 
--- what a form does; the machine names ADD of 64 bits, unshifted, only
+-- what an instruction does; the machine names ADD of 64 bits, unshifted, only
 abbrev pub actionOf : Decoded → Action
-actionOf (form (ADR rd imm21)) = adr rd imm21
-actionOf (form (ADRP rd imm21)) = adrp rd imm21
-actionOf (form (ADD sf sh rd rn imm12)) = choose (eqb sf 1 && eqb sh 0) (add rd rn imm12) other
-actionOf (form (LDST size v opc rt rn imm12)) = access (rowOf size v opc) rt rn imm12
-actionOf (form (PRFM rt rn imm12)) = other
-actionOf (form (LDR-literal opc v rt imm19)) = literal (literalRowOf opc v) rt imm19
-actionOf (form (B imm26)) = other
-actionOf (form (BL imm26)) = other
-actionOf (form (BR rn)) = other
-actionOf (form NOP) = nop
-actionOf (form (MOVZ sf hw rd imm16)) = other
+actionOf (instruction (ADR rd imm21)) = adr rd imm21
+actionOf (instruction (ADRP rd imm21)) = adrp rd imm21
+actionOf (instruction (ADD sf sh rd rn imm12)) = choose (eqb sf 1 && eqb sh 0) (add rd rn imm12) other
+actionOf (instruction (LDST size v opc rt rn imm12)) = access (rowOf size v opc) rt rn imm12
+actionOf (instruction (PRFM rt rn imm12)) = other
+actionOf (instruction (LDR-literal opc v rt imm19)) = literal (literalRowOf opc v) rt imm19
+actionOf (instruction (B imm26)) = other
+actionOf (instruction (BL imm26)) = other
+actionOf (instruction (BR rn)) = other
+actionOf (instruction NOP) = nop
+actionOf (instruction (MOVZ sf hw rd imm16)) = other
 actionOf none = other
 
 -- what a word does

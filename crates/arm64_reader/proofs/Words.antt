@@ -29,18 +29,18 @@ add-is w l = go (matches addUnshifted w) refl
   where
     other : (d : M.Decoded) → M.decode w ≡ d → matches addUnshifted w ≡ false → isUnshiftedAdd d ≡ false
     other M.none e m = refl
-    other (M.form (M.ADR rd imm21)) e m = refl
-    other (M.form (M.ADRP rd imm21)) e m = refl
-    other (M.form (M.ADD sf zero rd rn imm12)) e m = no (sym (decodes-add-either w sf rd rn imm12 l e) ∙ m)
-    other (M.form (M.ADD sf (suc sh) rd rn imm12)) e m = eqb·suc-zero sh
-    other (M.form (M.LDST size v opc rt rn imm12)) e m = refl
-    other (M.form (M.PRFM rt rn imm12)) e m = refl
-    other (M.form (M.LDR-literal opc v rt imm19)) e m = refl
-    other (M.form (M.B imm26)) e m = refl
-    other (M.form (M.BL imm26)) e m = refl
-    other (M.form (M.BR rn)) e m = refl
-    other (M.form M.NOP) e m = refl
-    other (M.form (M.MOVZ sf hw rd imm16)) e m = refl
+    other (M.instruction (M.ADR rd imm21)) e m = refl
+    other (M.instruction (M.ADRP rd imm21)) e m = refl
+    other (M.instruction (M.ADD sf zero rd rn imm12)) e m = no (sym (decodes-add-either w sf rd rn imm12 l e) ∙ m)
+    other (M.instruction (M.ADD sf (suc sh) rd rn imm12)) e m = eqb·suc-zero sh
+    other (M.instruction (M.LDST size v opc rt rn imm12)) e m = refl
+    other (M.instruction (M.PRFM rt rn imm12)) e m = refl
+    other (M.instruction (M.LDR-literal opc v rt imm19)) e m = refl
+    other (M.instruction (M.B imm26)) e m = refl
+    other (M.instruction (M.BL imm26)) e m = refl
+    other (M.instruction (M.BR rn)) e m = refl
+    other (M.instruction M.NOP) e m = refl
+    other (M.instruction (M.MOVZ sf hw rd imm16)) e m = refl
 
     go : (t : Bool) → matches addUnshifted w ≡ t → t ≡ isUnshiftedAdd (M.decode w)
     go true e = ap isUnshiftedAdd (sym (add-either-decodes w e))
@@ -53,20 +53,20 @@ loaded-is w = go (takenWord w) refl (loadStoreOf w) refl
   where
     other : (d : M.Decoded) → M.decode w ≡ d → loadStoreOf w ≡ Other → 0 ≡ loadedBy d
     other M.none e m = refl
-    other (M.form (M.ADR rd imm21)) e m = refl
-    other (M.form (M.ADRP rd imm21)) e m = refl
-    other (M.form (M.ADD sf sh rd rn imm12)) e m = refl
-    other (M.form (M.LDST size v opc rt rn imm12)) e m =
+    other (M.instruction (M.ADR rd imm21)) e m = refl
+    other (M.instruction (M.ADRP rd imm21)) e m = refl
+    other (M.instruction (M.ADD sf sh rd rn imm12)) e m = refl
+    other (M.instruction (M.LDST size v opc rt rn imm12)) e m =
         let h = decodes-load-store w size v opc rt rn imm12 e in
         let z : _≡_ {A = ℕ} 0 1 = cc in
         absurd (omega arith)
-    other (M.form (M.PRFM rt rn imm12)) e m = refl
-    other (M.form (M.LDR-literal opc v rt imm19)) e m = refl
-    other (M.form (M.B imm26)) e m = refl
-    other (M.form (M.BL imm26)) e m = refl
-    other (M.form (M.BR rn)) e m = refl
-    other (M.form M.NOP) e m = refl
-    other (M.form (M.MOVZ sf hw rd imm16)) e m = refl
+    other (M.instruction (M.PRFM rt rn imm12)) e m = refl
+    other (M.instruction (M.LDR-literal opc v rt imm19)) e m = refl
+    other (M.instruction (M.B imm26)) e m = refl
+    other (M.instruction (M.BL imm26)) e m = refl
+    other (M.instruction (M.BR rn)) e m = refl
+    other (M.instruction M.NOP) e m = refl
+    other (M.instruction (M.MOVZ sf hw rd imm16)) e m = refl
 
     go : (t : Bool) → takenWord w ≡ t → (d : LoadStoreWord) → loadStoreOf w ≡ d → loadedIn (loadStoreOf w) ≡ choose t (2 ^ M.sizeIn w) (loadedBy (M.decode w))
     go true t d e = ap loadedIn (taken-decodes w t .2)
