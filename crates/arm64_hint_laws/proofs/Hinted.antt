@@ -32,7 +32,7 @@ use Rattle.arm64_insn.specs.declared.ldst.LoadStoreWord.{LoadStoreWord}
 use Rattle.arm64_insn.specs.declared.ldst.LoadStoreWord.the-variants as L
 use Rattle.arm64_hint_terms.specs.Rels.{isPageRel, isPageoffRel, isAbsent, sameReference, hasPagePair, bothPages}
 use Rattle.arm64_hint_terms.specs.Answer.{sumOf, summed}
-use Rattle.arm64_hint_adrp.specs.Two.{adrpAdrpWith, adrpAdrp, adrpLdr, adrpAddWith, adrpAdd}
+use Rattle.arm64_hint_adrp.specs.Two.{adrpAdrp, adrpLdr, adrpAdd}
 use Rattle.arm64_hint_adrp.specs.Three.{through, adrOrFold, adrpAddLdrWith, adrpAddLdr, adrpAddStrWith, adrpAddStr}
 use Rattle.arm64_hint_got.specs.Got.{gotLoad, adrpLdrGotWith, adrpLdrGot, gotLdrBy, gotLdrWith, adrpLdrGotLdr, gotStrBy, gotStrWith, adrpLdrGotStr}
 use Rattle.arm64_hint_laws.specs.Decide.{decide}
@@ -51,7 +51,7 @@ use Rattle.arm64_hint_got.specs.declared.GotLoad.the-variants as G
 use Rattle.arm64_hint_adrp.proofs.Adds.{Adds, adds}
 use Rattle.arm64_hint_got.proofs.Loads.{Loads, Makes, Got, got, eight-bytes}
 use Rattle.arm64_hint_laws.proofs.Cases as Cases
-use Rattle.arm64_hint_laws.proofs.Cases.{Literal, EachRule, by-kind}
+use Rattle.arm64_hint_laws.proofs.Cases.{Literal, by-kind}
 
 never : {P : Type 0} → _≡_ {A = ℕ} 0 1 → P
 never z = absurd (omega arith)

@@ -1,13 +1,11 @@
 -- What a decision writes. The rewrites of each kind, with the places that they write and keep; that each new word has 32 bits. By cases on the rules.
 use mathlib.Core.Path.{_≡_, refl}
-use mathlib.Core.List.{List, [], _∷_}
-use Prim.Native.Nat.{ℕ, _+_, _*_, _/_, _^_, _<_}
+use Prim.Native.Nat.{ℕ, _^_, _<_}
 use native.Mathlib.Nat.{div-le-self}
 use native.Mathlib.Omega.{arith}
 use lib.Dec.{lit<}
 use Rattle.util.specs.Bits.{field}
 use Rattle.util.specs.Wrap.{diff}
-use Rattle.macho.specs.Hint.{wordCount}
 use Rattle.macho.specs.Types.{MCLOH-AdrpAdrp, MCLOH-AdrpLdr, MCLOH-AdrpAddLdr, MCLOH-AdrpLdrGotLdr}
 use Rattle.macho.specs.Types.{MCLOH-AdrpAddStr, MCLOH-AdrpLdrGotStr, MCLOH-AdrpAdd, MCLOH-AdrpLdrGot}
 use Rattle.arm64_insn.specs.Adrp.{adrWord}

@@ -7,7 +7,7 @@ use mathlib.Core.List.{List, [], _∷_}
 use lib.Dec.{eqb}
 use lib.ListN.{take}
 use Rattle.util.specs.Choice.{choose}
-use Rattle.macho.specs.Hint.{wordCount, hintOf}
+use Rattle.macho.specs.Hint.{wordCount}
 use Rattle.macho.specs.declared.hint.HintInsn.{HintInsn}
 use Rattle.macho.specs.declared.hint.HintRecord.{HintRecord}
 use Rattle.arm64_hint_terms.specs.declared.answer.Insns.{Insns}

@@ -1,6 +1,6 @@
 -- A masked test is the test of a diagram's fixed fields, a masked word the sum of those kept; computed tests show each mask to be its diagram's own.
 use mathlib.Core.Path.{_≡_, refl, sym, ap, ap₂, _∙_}
-use mathlib.Core.Bool.{Bool, true, false, _&&_}
+use mathlib.Core.Bool.{Bool, true, _&&_}
 use mathlib.Core.List.{List, [], _∷_}
 use Prim.Native.Nat.{ℕ, _-_, _^_, _<_}
 use borrow.Author.Tests.{eqb-true}

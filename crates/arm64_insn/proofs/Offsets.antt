@@ -1,7 +1,7 @@
 -- What divides pages and offsets: a page is a multiple of 4,096, an access size from 4 up is a multiple of 4. By arithmetic, and one computed test
 -- of the cells of loads and stores.
 use mathlib.Core.Path.{_≡_, refl, subst}
-use mathlib.Core.Bool.{Bool, true, false, _||_}
+use mathlib.Core.Bool.{Bool, true, _||_}
 use Prim.Native.Nat.{ℕ, _+_, _*_, _/_, _%_, _^_, _≤_, _<_}
 use native.Mathlib.Omega.{arith}
 use borrow.Author.Tests.{leb-true, eqb-true, le-ltb}

@@ -8,7 +8,6 @@ use native.Mathlib.Omega.{arith}
 use lib.Dec.{eqb, ltb}
 use borrow.Author.Tests.{eqb-false}
 use Rattle.arm64_insn.specs.LoadStoreTable.{Row, load, store, prefetch, unallocated, Mnemonic, general, vector, Widening}
-use Rattle.arm64_insn.specs.Manual as Manual
 use Rattle.arm64_insn.specs.ManualTargets.{adrTarget, literalTarget, accessAddress, addValue}
 use Rattle.arm64_insn.specs.Page.{adrpPage}
 use Rattle.arm64_machine.specs.Machine.{Action, adr, adrp, add, access, literal, nop, action, State, Placed, placed, Other}

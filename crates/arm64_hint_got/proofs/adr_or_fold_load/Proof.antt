@@ -5,11 +5,6 @@ use Rattle.arm64_hint_got.specs.Got.{adrOrFoldLoad}
 use borrow.Author.Needs.{needs}
 use Rattle.arm64_hint_got.proofs.adr_or_fold_load.Statement.{statement}
 use Rattle.arm64_hint_got.proofs.adr_or_fold_load.Tie as tie
-use Rattle.arm64_hint_got.proofs.adr_or_fold_load.Reads as reads
-use Rattle.arm64_hint_got.proofs.adr_or_fold_load.Lts as lts
-use Rattle.arm64_insn.proofs.page.within_1mb.Reads as within-1mb-reads
-use Rattle.arm64_hint_got.proofs.fold_load.Reads as fold-load-reads
-use Rattle.arm64_hint_terms.proofs.plans.adr_first.Reads as adr-first-reads
 
 within-1mb-requires : tie.Need-within-1mb-requires
 within-1mb-requires c κs = search needs

@@ -6,12 +6,6 @@ use Rattle.arm64_hint_got.proofs.Loads.{slot-register, relaxed-add}
 use borrow.Author.Needs.{needs}
 use Rattle.arm64_hint_got.proofs.adrp_ldr_got.Statement.{statement}
 use Rattle.arm64_hint_got.proofs.adrp_ldr_got.Tie as tie
-use Rattle.arm64_hint_got.proofs.adrp_ldr_got.Reads as reads
-use Rattle.arm64_hint_got.proofs.adrp_ldr_got.Lts as lts
-use Rattle.arm64_insn.proofs.page.within_1mb.Reads as within-1mb-reads
-use Rattle.arm64_hint_got.proofs.got_load.Reads as got-load-reads
-use Rattle.arm64_hint_terms.proofs.plans.literal_second.Reads as literal-second-reads
-use Rattle.arm64_hint_adrp.proofs.two.adr_to.Reads as adr-to-reads
 
 got-load-requires : tie.Need-got-load-requires
 got-load-requires c κs = search needs

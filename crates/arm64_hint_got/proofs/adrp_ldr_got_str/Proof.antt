@@ -6,12 +6,6 @@ use Rattle.arm64_hint_got.proofs.Loads.{slot-register, relaxed-operands
 use borrow.Author.Needs.{needs}
 use Rattle.arm64_hint_got.proofs.adrp_ldr_got_str.Statement.{statement}
 use Rattle.arm64_hint_got.proofs.adrp_ldr_got_str.Tie as tie
-use Rattle.arm64_hint_got.proofs.adrp_ldr_got_str.Reads as reads
-use Rattle.arm64_hint_got.proofs.adrp_ldr_got_str.Lts as lts
-use Rattle.arm64_insn.proofs.ldst.LoadStore.decode.Reads as decode-reads
-use Rattle.arm64_hint_got.proofs.got_literal.Reads as got-literal-reads
-use Rattle.arm64_hint_got.proofs.got_load.Reads as got-load-reads
-use Rattle.arm64_hint_got.proofs.relaxed_str.Reads as relaxed-str-reads
 
 decode-requires : tie.Need-decode-requires
 decode-requires c κs = search needs

@@ -7,9 +7,6 @@ use Rattle.arm64_hint_terms.proofs.Ways.{rebased}
 use borrow.Author.Needs.{needs}
 use Rattle.arm64_hint_got.proofs.fold_load.Statement.{statement}
 use Rattle.arm64_hint_got.proofs.fold_load.Tie as tie
-use Rattle.arm64_hint_got.proofs.fold_load.Reads as reads
-use Rattle.arm64_hint_got.proofs.fold_load.Lts as lts
-use Rattle.arm64_hint_terms.proofs.plans.fold.Reads as fold-reads
 
 rem-if1 : tie.Need-rem-if1
 rem-if1 c = search needs

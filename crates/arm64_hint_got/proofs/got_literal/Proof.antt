@@ -5,11 +5,6 @@ use Rattle.arm64_hint_got.specs.Got.{gotLiteral, slotTo}
 use borrow.Author.Needs.{needs}
 use Rattle.arm64_hint_got.proofs.got_literal.Statement.{statement}
 use Rattle.arm64_hint_got.proofs.got_literal.Tie as tie
-use Rattle.arm64_hint_got.proofs.got_literal.Reads as reads
-use Rattle.arm64_hint_got.proofs.got_literal.Lts as lts
-use Rattle.arm64_insn.proofs.page.within_1mb.Reads as within-1mb-reads
-use Rattle.arm64_hint_terms.proofs.answer.sum_of.Reads as sum-of-reads
-use Rattle.arm64_hint_terms.proofs.plans.literal_second.Reads as literal-second-reads
 
 sum-of-requires : tie.Need-sum-of-requires
 sum-of-requires c κs = search needs

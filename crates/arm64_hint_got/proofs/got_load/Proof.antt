@@ -5,13 +5,6 @@ use Rattle.arm64_hint_got.specs.Got.{gotLoad}
 use borrow.Author.Needs.{needs}
 use Rattle.arm64_hint_got.proofs.got_load.Statement.{statement}
 use Rattle.arm64_hint_got.proofs.got_load.Tie as tie
-use Rattle.arm64_hint_got.proofs.got_load.Reads as reads
-use Rattle.arm64_hint_got.proofs.got_load.Lts as lts
-use Rattle.arm64_insn.proofs.add.Add.decode.Reads as add-Add-decode-reads
-use Rattle.arm64_insn.proofs.adrp.Adrp.decode.Reads as adrp-Adrp-decode-reads
-use Rattle.arm64_insn.proofs.ldst.LoadStore.decode.Reads as ldst-LoadStore-decode-reads
-use Rattle.arm64_hint_got.proofs.relaxed_load.Reads as relaxed-load-reads
-use Rattle.arm64_hint_got.proofs.slot_load.Reads as slot-load-reads
 
 returns : tie.Need-returns
 unfolding gotLoad choose

@@ -8,8 +8,6 @@ use Rattle.arm64_insn.specs.declared.ldst.LoadStore.{LoadStore}
 use Rattle.arm64_hint_got.specs.Got.{loadsSlot}
 use Rattle.arm64_hint_got.proofs.loads_slot.Statement.{statement}
 use Rattle.arm64_hint_got.proofs.loads_slot.Tie as tie
-use Rattle.arm64_hint_got.proofs.loads_slot.Reads as reads
-use Rattle.arm64_hint_got.proofs.loads_slot.Lts as lts
 
 -- the last test decides
 whole : (ld : LoadStore) (rd : ℕ) → ld .size ≡ 8 → ld .«is_float» ≡ false → ld .«is_store» ≡ false → eqb (ld .base) rd ≡ loadsSlot ld rd

@@ -5,13 +5,6 @@ use Rattle.arm64_hint_got.specs.Got.{relaxedLdr, relaxedTo}
 use borrow.Author.Needs.{needs}
 use Rattle.arm64_hint_got.proofs.relaxed_ldr.Statement.{statement}
 use Rattle.arm64_hint_got.proofs.relaxed_ldr.Tie as tie
-use Rattle.arm64_hint_got.proofs.relaxed_ldr.Reads as reads
-use Rattle.arm64_hint_got.proofs.relaxed_ldr.Lts as lts
-use Rattle.arm64_insn.proofs.ldst.LoadStore.has_literal_form.Reads as has-literal-form-reads
-use Rattle.arm64_insn.proofs.page.within_1mb.Reads as within-1mb-reads
-use Rattle.arm64_hint_terms.proofs.answer.sum_of.Reads as sum-of-reads
-use Rattle.arm64_hint_got.proofs.adr_or_fold_load.Reads as adr-or-fold-load-reads
-use Rattle.arm64_hint_terms.proofs.plans.literal_third.Reads as literal-third-reads
 
 has-literal-form-requires : tie.Need-has-literal-form-requires
 has-literal-form-requires c κs = search needs

@@ -5,10 +5,6 @@ use Rattle.arm64_hint_got.specs.Got.{relaxedLoad}
 use borrow.Author.Needs.{needs}
 use Rattle.arm64_hint_got.proofs.relaxed_load.Statement.{statement}
 use Rattle.arm64_hint_got.proofs.relaxed_load.Tie as tie
-use Rattle.arm64_hint_got.proofs.relaxed_load.Reads as reads
-use Rattle.arm64_hint_got.proofs.relaxed_load.Lts as lts
-use Rattle.arm64_insn.proofs.adrp.Adrp.page.Reads as page-reads
-use Rattle.arm64_hint_terms.proofs.answer.sum_of.Reads as sum-of-reads
 
 returns : tie.Need-returns
 unfolding relaxedLoad choose

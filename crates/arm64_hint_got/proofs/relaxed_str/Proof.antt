@@ -5,11 +5,6 @@ use Rattle.arm64_hint_got.specs.Got.{relaxedStr}
 use borrow.Author.Needs.{needs}
 use Rattle.arm64_hint_got.proofs.relaxed_str.Statement.{statement}
 use Rattle.arm64_hint_got.proofs.relaxed_str.Tie as tie
-use Rattle.arm64_hint_got.proofs.relaxed_str.Reads as reads
-use Rattle.arm64_hint_got.proofs.relaxed_str.Lts as lts
-use Rattle.arm64_insn.proofs.page.within_1mb.Reads as within-1mb-reads
-use Rattle.arm64_hint_terms.proofs.plans.adr_first.Reads as adr-first-reads
-use Rattle.arm64_hint_adrp.proofs.three.fold_third.Reads as fold-third-reads
 
 within-1mb-requires : tie.Need-within-1mb-requires
 within-1mb-requires c κs = search needs

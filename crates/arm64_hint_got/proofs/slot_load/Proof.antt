@@ -5,11 +5,6 @@ use Rattle.arm64_hint_got.specs.Got.{slotLoad}
 use borrow.Author.Needs.{needs}
 use Rattle.arm64_hint_got.proofs.slot_load.Statement.{statement}
 use Rattle.arm64_hint_got.proofs.slot_load.Tie as tie
-use Rattle.arm64_hint_got.proofs.slot_load.Reads as reads
-use Rattle.arm64_hint_got.proofs.slot_load.Lts as lts
-use Rattle.arm64_insn.proofs.adrp.Adrp.page.Reads as page-reads
-use Rattle.arm64_hint_terms.proofs.answer.sum_of.Reads as sum-of-reads
-use Rattle.arm64_hint_got.proofs.loads_slot.Reads as loads-slot-reads
 
 loads-slot-requires : tie.Need-loads-slot-requires
 loads-slot-requires c κs = search needs

@@ -5,10 +5,6 @@ use Rattle.arm64_hint_adrp.specs.Three.{addAccess}
 use borrow.Author.Needs.{needs}
 use Rattle.arm64_hint_adrp.proofs.three.add_access.Statement.{statement}
 use Rattle.arm64_hint_adrp.proofs.three.add_access.Tie as tie
-use Rattle.arm64_hint_adrp.proofs.three.add_access.Reads as reads
-use Rattle.arm64_hint_adrp.proofs.three.add_access.Lts as lts
-use Rattle.arm64_insn.proofs.adrp.Adrp.page.Reads as page-reads
-use Rattle.arm64_hint_terms.proofs.answer.sum_of.Reads as sum-of-reads
 
 returns : tie.Need-returns
 unfolding addAccess choose

@@ -7,11 +7,6 @@ use Rattle.arm64_hint_terms.proofs.Ways.{rebased}
 use borrow.Author.Needs.{needs}
 use Rattle.arm64_hint_adrp.proofs.three.adr_or_fold.Statement.{statement}
 use Rattle.arm64_hint_adrp.proofs.three.adr_or_fold.Tie as tie
-use Rattle.arm64_hint_adrp.proofs.three.adr_or_fold.Reads as reads
-use Rattle.arm64_hint_adrp.proofs.three.adr_or_fold.Lts as lts
-use Rattle.arm64_insn.proofs.page.within_1mb.Reads as within-1mb-reads
-use Rattle.arm64_hint_terms.proofs.plans.adr_third.Reads as adr-third-reads
-use Rattle.arm64_hint_adrp.proofs.three.fold_third.Reads as fold-third-reads
 
 within-1mb-requires : tie.Need-within-1mb-requires
 within-1mb-requires c κs = search needs

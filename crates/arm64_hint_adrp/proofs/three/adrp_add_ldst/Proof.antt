@@ -5,12 +5,6 @@ use Rattle.arm64_hint_adrp.specs.Three.{through}
 use borrow.Author.Needs.{needs}
 use Rattle.arm64_hint_adrp.proofs.three.adrp_add_ldst.Statement.{statement}
 use Rattle.arm64_hint_adrp.proofs.three.adrp_add_ldst.Tie as tie
-use Rattle.arm64_hint_adrp.proofs.three.adrp_add_ldst.Reads as reads
-use Rattle.arm64_hint_adrp.proofs.three.adrp_add_ldst.Lts as lts
-use Rattle.arm64_insn.proofs.add.Add.decode.Reads as add-Add-decode-reads
-use Rattle.arm64_insn.proofs.adrp.Adrp.decode.Reads as adrp-Adrp-decode-reads
-use Rattle.arm64_insn.proofs.ldst.LoadStore.decode.Reads as ldst-LoadStore-decode-reads
-use Rattle.arm64_hint_adrp.proofs.three.add_access.Reads as add-access-reads
 
 returns : tie.Need-returns
 unfolding through choose

@@ -6,11 +6,6 @@ use Rattle.arm64_hint_adrp.proofs.Adds.{adds-operands}
 use borrow.Author.Needs.{needs}
 use Rattle.arm64_hint_adrp.proofs.three.adrp_add_str.Statement.{statement}
 use Rattle.arm64_hint_adrp.proofs.three.adrp_add_str.Tie as tie
-use Rattle.arm64_hint_adrp.proofs.three.adrp_add_str.Reads as reads
-use Rattle.arm64_hint_adrp.proofs.three.adrp_add_str.Lts as lts
-use Rattle.arm64_hint_terms.proofs.answer.sum_of.Reads as sum-of-reads
-use Rattle.arm64_hint_adrp.proofs.three.adr_or_fold.Reads as adr-or-fold-reads
-use Rattle.arm64_hint_adrp.proofs.three.adrp_add_ldst.Reads as adrp-add-ldst-reads
 
 adrp-add-ldst-requires : tie.Need-adrp-add-ldst-requires
 adrp-add-ldst-requires c κs = search needs

@@ -6,9 +6,6 @@ use Rattle.arm64_hint_terms.proofs.Ways.{rebased}
 use borrow.Author.Needs.{needs}
 use Rattle.arm64_hint_adrp.proofs.three.fold_third.Statement.{statement}
 use Rattle.arm64_hint_adrp.proofs.three.fold_third.Tie as tie
-use Rattle.arm64_hint_adrp.proofs.three.fold_third.Reads as reads
-use Rattle.arm64_hint_adrp.proofs.three.fold_third.Lts as lts
-use Rattle.arm64_hint_terms.proofs.plans.fold.Reads as fold-reads
 
 rem-if1 : tie.Need-rem-if1
 rem-if1 c = search needs

@@ -5,11 +5,6 @@ use Rattle.arm64_hint_adrp.specs.Two.{addAtPage}
 use borrow.Author.Needs.{needs}
 use Rattle.arm64_hint_adrp.proofs.two.add_at_page.Statement.{statement}
 use Rattle.arm64_hint_adrp.proofs.two.add_at_page.Tie as tie
-use Rattle.arm64_hint_adrp.proofs.two.add_at_page.Reads as reads
-use Rattle.arm64_hint_adrp.proofs.two.add_at_page.Lts as lts
-use Rattle.arm64_insn.proofs.adrp.Adrp.page.Reads as page-reads
-use Rattle.arm64_hint_terms.proofs.answer.sum_of.Reads as sum-of-reads
-use Rattle.arm64_hint_adrp.proofs.two.adr_to.Reads as adr-to-reads
 
 returns : tie.Need-returns
 unfolding addAtPage choose

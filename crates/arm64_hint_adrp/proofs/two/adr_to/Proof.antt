@@ -5,10 +5,6 @@ use Rattle.arm64_hint_adrp.specs.Two.{adrTo}
 use borrow.Author.Needs.{needs}
 use Rattle.arm64_hint_adrp.proofs.two.adr_to.Statement.{statement}
 use Rattle.arm64_hint_adrp.proofs.two.adr_to.Tie as tie
-use Rattle.arm64_hint_adrp.proofs.two.adr_to.Reads as reads
-use Rattle.arm64_hint_adrp.proofs.two.adr_to.Lts as lts
-use Rattle.arm64_insn.proofs.page.within_1mb.Reads as within-1mb-reads
-use Rattle.arm64_hint_terms.proofs.plans.adr_first.Reads as adr-first-reads
 
 within-1mb-requires : tie.Need-within-1mb-requires
 within-1mb-requires c κs = search needs

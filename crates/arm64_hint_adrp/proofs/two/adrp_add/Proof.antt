@@ -7,11 +7,6 @@ use Rattle.arm64_hint_adrp.specs.Two.{adrpAdd}
 use borrow.Author.Needs.{needs}
 use Rattle.arm64_hint_adrp.proofs.two.adrp_add.Statement.{statement}
 use Rattle.arm64_hint_adrp.proofs.two.adrp_add.Tie as tie
-use Rattle.arm64_hint_adrp.proofs.two.adrp_add.Reads as reads
-use Rattle.arm64_hint_adrp.proofs.two.adrp_add.Lts as lts
-use Rattle.arm64_insn.proofs.add.Add.decode.Reads as add-Add-decode-reads
-use Rattle.arm64_insn.proofs.adrp.Adrp.decode.Reads as adrp-Adrp-decode-reads
-use Rattle.arm64_hint_adrp.proofs.two.add_at_page.Reads as add-at-page-reads
 
 returns : tie.Need-returns
 unfolding adrpAdd choose

@@ -5,10 +5,6 @@ use Rattle.arm64_hint_adrp.specs.Two.{adrpAdrp}
 use borrow.Author.Needs.{needs}
 use Rattle.arm64_hint_adrp.proofs.two.adrp_adrp.Statement.{statement}
 use Rattle.arm64_hint_adrp.proofs.two.adrp_adrp.Tie as tie
-use Rattle.arm64_hint_adrp.proofs.two.adrp_adrp.Reads as reads
-use Rattle.arm64_hint_adrp.proofs.two.adrp_adrp.Lts as lts
-use Rattle.arm64_insn.proofs.adrp.Adrp.decode.Reads as decode-reads
-use Rattle.arm64_hint_adrp.proofs.two.same_page.Reads as same-page-reads
 
 returns : tie.Need-returns
 unfolding adrpAdrp choose

@@ -7,11 +7,6 @@ use Rattle.arm64_hint_adrp.specs.Two.{adrpLdr}
 use borrow.Author.Needs.{needs}
 use Rattle.arm64_hint_adrp.proofs.two.adrp_ldr.Statement.{statement}
 use Rattle.arm64_hint_adrp.proofs.two.adrp_ldr.Tie as tie
-use Rattle.arm64_hint_adrp.proofs.two.adrp_ldr.Reads as reads
-use Rattle.arm64_hint_adrp.proofs.two.adrp_ldr.Lts as lts
-use Rattle.arm64_insn.proofs.adrp.Adrp.decode.Reads as adrp-Adrp-decode-reads
-use Rattle.arm64_insn.proofs.ldst.LoadStore.decode.Reads as ldst-LoadStore-decode-reads
-use Rattle.arm64_hint_adrp.proofs.two.ldr_at_page.Reads as ldr-at-page-reads
 
 returns : tie.Need-returns
 unfolding adrpLdr choose

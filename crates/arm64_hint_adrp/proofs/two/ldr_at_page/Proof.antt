@@ -5,12 +5,6 @@ use Rattle.arm64_hint_adrp.specs.Two.{ldrAtPage, ldrSecond}
 use borrow.Author.Needs.{needs}
 use Rattle.arm64_hint_adrp.proofs.two.ldr_at_page.Statement.{statement}
 use Rattle.arm64_hint_adrp.proofs.two.ldr_at_page.Tie as tie
-use Rattle.arm64_hint_adrp.proofs.two.ldr_at_page.Reads as reads
-use Rattle.arm64_hint_adrp.proofs.two.ldr_at_page.Lts as lts
-use Rattle.arm64_insn.proofs.adrp.Adrp.page.Reads as page-reads
-use Rattle.arm64_hint_terms.proofs.answer.fits_literal.Reads as fits-literal-reads
-use Rattle.arm64_hint_terms.proofs.answer.sum_of.Reads as sum-of-reads
-use Rattle.arm64_hint_terms.proofs.plans.literal_second.Reads as literal-second-reads
 
 returns : tie.Need-returns
 unfolding ldrAtPage ldrSecond choose

@@ -5,10 +5,6 @@ use Rattle.arm64_hint_adrp.specs.Two.{samePage}
 use borrow.Author.Needs.{needs}
 use Rattle.arm64_hint_adrp.proofs.two.same_page.Statement.{statement}
 use Rattle.arm64_hint_adrp.proofs.two.same_page.Tie as tie
-use Rattle.arm64_hint_adrp.proofs.two.same_page.Reads as reads
-use Rattle.arm64_hint_adrp.proofs.two.same_page.Lts as lts
-use Rattle.arm64_insn.proofs.adrp.Adrp.page.Reads as page-reads
-use Rattle.arm64_hint_terms.proofs.plans.drop_second.Reads as drop-second-reads
 
 returns : tie.Need-returns
 unfolding samePage choose

@@ -4,10 +4,6 @@ use Rattle.arm64_hint_terms.specs.Answer.{fitsLiteral}
 use borrow.Author.Needs.{needs}
 use Rattle.arm64_hint_terms.proofs.answer.fits_literal.Statement.{statement}
 use Rattle.arm64_hint_terms.proofs.answer.fits_literal.Tie as tie
-use Rattle.arm64_hint_terms.proofs.answer.fits_literal.Reads as reads
-use Rattle.arm64_hint_terms.proofs.answer.fits_literal.Lts as lts
-use Rattle.arm64_insn.proofs.ldst.LoadStore.has_literal_form.Reads as has-literal-form-reads
-use Rattle.arm64_insn.proofs.page.within_1mb.Reads as within-1mb-reads
 
 has-literal-form-requires : tie.Need-has-literal-form-requires
 has-literal-form-requires c κs = search needs

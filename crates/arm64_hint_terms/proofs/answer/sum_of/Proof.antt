@@ -7,8 +7,6 @@ use Rattle.arm64_hint_terms.specs.Answer.{sumOf}
 use borrow.Author.Needs.{needs}
 use Rattle.arm64_hint_terms.proofs.answer.sum_of.Statement.{statement}
 use Rattle.arm64_hint_terms.proofs.answer.sum_of.Tie as tie
-use Rattle.arm64_hint_terms.proofs.answer.sum_of.Reads as reads
-use Rattle.arm64_hint_terms.proofs.answer.sum_of.Lts as lts
 
 sub-if1 : tie.Need-sub-if1
 sub-if1 c = search needs

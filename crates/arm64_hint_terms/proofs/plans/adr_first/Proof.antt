@@ -2,10 +2,6 @@
 use borrow.Author.Needs.{needs}
 use Rattle.arm64_hint_terms.proofs.plans.adr_first.Statement.{statement}
 use Rattle.arm64_hint_terms.proofs.plans.adr_first.Tie as tie
-use Rattle.arm64_hint_terms.proofs.plans.adr_first.Reads as reads
-use Rattle.arm64_hint_terms.proofs.plans.adr_first.Lts as lts
-use Rattle.arm64_insn.proofs.adrp.adr.Reads as adr-reads
-use Rattle.arm64_hint_terms.proofs.plans.rewritten.Reads as rewritten-reads
 
 adr-requires : tie.Need-adr-requires
 adr-requires c κs = search needs

@@ -2,11 +2,6 @@
 use borrow.Author.Needs.{needs}
 use Rattle.arm64_hint_terms.proofs.plans.adr_third.Statement.{statement}
 use Rattle.arm64_hint_terms.proofs.plans.adr_third.Tie as tie
-use Rattle.arm64_hint_terms.proofs.plans.adr_third.Reads as reads
-use Rattle.arm64_hint_terms.proofs.plans.adr_third.Lts as lts
-use Rattle.arm64_insn.proofs.adrp.adr.Reads as adr-reads
-use Rattle.arm64_insn.proofs.ldst.LoadStore.with_base.Reads as with-base-reads
-use Rattle.arm64_hint_terms.proofs.plans.rewritten.Reads as rewritten-reads
 
 adr-requires : tie.Need-adr-requires
 adr-requires c κs = search needs

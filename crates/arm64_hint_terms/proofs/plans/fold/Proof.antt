@@ -2,10 +2,6 @@
 use borrow.Author.Needs.{needs}
 use Rattle.arm64_hint_terms.proofs.plans.fold.Statement.{statement}
 use Rattle.arm64_hint_terms.proofs.plans.fold.Tie as tie
-use Rattle.arm64_hint_terms.proofs.plans.fold.Reads as reads
-use Rattle.arm64_hint_terms.proofs.plans.fold.Lts as lts
-use Rattle.arm64_insn.proofs.ldst.LoadStore.with_base.Reads as with-base-reads
-use Rattle.arm64_hint_terms.proofs.plans.rewritten.Reads as rewritten-reads
 
 with-base-requires : tie.Need-with-base-requires
 with-base-requires c κs = search needs

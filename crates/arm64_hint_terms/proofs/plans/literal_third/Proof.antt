@@ -2,10 +2,6 @@
 use borrow.Author.Needs.{needs}
 use Rattle.arm64_hint_terms.proofs.plans.literal_third.Statement.{statement}
 use Rattle.arm64_hint_terms.proofs.plans.literal_third.Tie as tie
-use Rattle.arm64_hint_terms.proofs.plans.literal_third.Reads as reads
-use Rattle.arm64_hint_terms.proofs.plans.literal_third.Lts as lts
-use Rattle.arm64_insn.proofs.ldst.LoadStore.to_literal.Reads as to-literal-reads
-use Rattle.arm64_hint_terms.proofs.plans.rewritten.Reads as rewritten-reads
 
 to-literal-requires : tie.Need-to-literal-requires
 to-literal-requires c κs = search needs

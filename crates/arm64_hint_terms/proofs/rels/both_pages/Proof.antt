@@ -3,9 +3,6 @@ use Rattle.arm64_hint_terms.specs.Rels.{bothPages}
 use borrow.Author.Needs.{needs}
 use Rattle.arm64_hint_terms.proofs.rels.both_pages.Statement.{statement}
 use Rattle.arm64_hint_terms.proofs.rels.both_pages.Tie as tie
-use Rattle.arm64_hint_terms.proofs.rels.both_pages.Reads as reads
-use Rattle.arm64_hint_terms.proofs.rels.both_pages.Lts as lts
-use Rattle.arm64_hint_terms.proofs.rels.is_page_rel.Reads as is-page-rel-reads
 
 is-page-rel-requires : tie.Need-is-page-rel-requires
 is-page-rel-requires c κs = search needs

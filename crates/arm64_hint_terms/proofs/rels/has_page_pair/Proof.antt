@@ -4,12 +4,6 @@ use Rattle.arm64_hint_terms.specs.Rels.{hasPagePair}
 use borrow.Author.Needs.{needs}
 use Rattle.arm64_hint_terms.proofs.rels.has_page_pair.Statement.{statement}
 use Rattle.arm64_hint_terms.proofs.rels.has_page_pair.Tie as tie
-use Rattle.arm64_hint_terms.proofs.rels.has_page_pair.Reads as reads
-use Rattle.arm64_hint_terms.proofs.rels.has_page_pair.Lts as lts
-use Rattle.arm64_hint_terms.proofs.rels.is_absent.Reads as is-absent-reads
-use Rattle.arm64_hint_terms.proofs.rels.is_page_rel.Reads as is-page-rel-reads
-use Rattle.arm64_hint_terms.proofs.rels.is_pageoff_rel.Reads as is-pageoff-rel-reads
-use Rattle.arm64_hint_terms.proofs.rels.same_reference.Reads as same-reference-reads
 
 is-page-rel-requires : tie.Need-is-page-rel-requires
 is-page-rel-requires c κs = search needs

@@ -3,8 +3,6 @@ use Rattle.arm64_hint_terms.specs.Rels.{isAbsent}
 use borrow.Author.Needs.{needs}
 use Rattle.arm64_hint_terms.proofs.rels.is_absent.Statement.{statement}
 use Rattle.arm64_hint_terms.proofs.rels.is_absent.Tie as tie
-use Rattle.arm64_hint_terms.proofs.rels.is_absent.Reads as reads
-use Rattle.arm64_hint_terms.proofs.rels.is_absent.Lts as lts
 
 enum-told : tie.Need-enum-told
 enum-told c = search needs

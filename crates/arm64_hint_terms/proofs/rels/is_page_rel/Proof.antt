@@ -5,8 +5,6 @@ use Rattle.arm64_hint_terms.specs.Rels.{isPageRel}
 use borrow.Author.Needs.{needs}
 use Rattle.arm64_hint_terms.proofs.rels.is_page_rel.Statement.{statement}
 use Rattle.arm64_hint_terms.proofs.rels.is_page_rel.Tie as tie
-use Rattle.arm64_hint_terms.proofs.rels.is_page_rel.Reads as reads
-use Rattle.arm64_hint_terms.proofs.rels.is_page_rel.Lts as lts
 
 enum-told : tie.Need-enum-told
 enum-told c = search needs

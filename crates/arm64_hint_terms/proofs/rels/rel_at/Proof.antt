@@ -6,9 +6,6 @@ use Rattle.arm64_hint_terms.specs.Rels.{relAt}
 use borrow.Author.Needs.{needs}
 use Rattle.arm64_hint_terms.proofs.rels.rel_at.Statement.{statement}
 use Rattle.arm64_hint_terms.proofs.rels.rel_at.Tie as tie
-use Rattle.arm64_hint_terms.proofs.rels.rel_at.Reads as reads
-use Rattle.arm64_hint_terms.proofs.rels.rel_at.Lts as lts
-use Rattle.macho.proofs.reloc.Reloc.read.Reads as read-reads
 
 returns : tie.Need-returns
 unfolding relAt choose

@@ -4,9 +4,6 @@ use Rattle.arm64_hint_terms.specs.Rels.{sameReference, isAbsent}
 use borrow.Author.Needs.{needs}
 use Rattle.arm64_hint_terms.proofs.rels.same_reference.Statement.{statement}
 use Rattle.arm64_hint_terms.proofs.rels.same_reference.Tie as tie
-use Rattle.arm64_hint_terms.proofs.rels.same_reference.Reads as reads
-use Rattle.arm64_hint_terms.proofs.rels.same_reference.Lts as lts
-use Rattle.arm64_hint_terms.proofs.rels.is_absent.Reads as is-absent-reads
 
 enum-known-a : tie.Need-enum-known-a
 enum-known-a c = search needs

@@ -4,8 +4,6 @@ use Rattle.util.proofs.Diagram.{mask-matches}
 use Rattle.arm64_insn.specs.Encoding.{add}
 use Rattle.arm64_insn.proofs.add.is_add.Statement.{statement}
 use Rattle.arm64_insn.proofs.add.is_add.Tie as tie
-use Rattle.arm64_insn.proofs.add.is_add.Reads as reads
-use Rattle.arm64_insn.proofs.add.is_add.Lts as lts
 
 returns : tie.Need-returns
 returns c = mask-matches add (c .args .insn) refl

@@ -4,8 +4,6 @@ use Rattle.util.proofs.Diagram.{mask-matches}
 use Rattle.arm64_insn.specs.Encoding.{addUnshifted}
 use Rattle.arm64_insn.proofs.add.is_add_either.Statement.{statement}
 use Rattle.arm64_insn.proofs.add.is_add_either.Tie as tie
-use Rattle.arm64_insn.proofs.add.is_add_either.Reads as reads
-use Rattle.arm64_insn.proofs.add.is_add_either.Lts as lts
 
 returns : tie.Need-returns
 returns c = mask-matches addUnshifted (c .args .insn) refl

@@ -5,9 +5,6 @@ use Rattle.arm64_insn.specs.Adrp.{adrWord}
 use borrow.Author.Needs.{needs}
 use Rattle.arm64_insn.proofs.adrp.adr.Statement.{statement}
 use Rattle.arm64_insn.proofs.adrp.adr.Tie as tie
-use Rattle.arm64_insn.proofs.adrp.adr.Reads as reads
-use Rattle.arm64_insn.proofs.adrp.adr.Lts as lts
-use Rattle.util.proofs.wrapping_sub.Reads as wrapping-sub-reads
 
 wrapping-sub-requires : tie.Need-wrapping-sub-requires
 wrapping-sub-requires c κs = search needs

@@ -3,10 +3,6 @@ use Rattle.arm64_insn.specs.Branch.{branchReaches}
 use borrow.Author.Needs.{needs}
 use Rattle.arm64_insn.proofs.branch.branch_reaches.Statement.{statement}
 use Rattle.arm64_insn.proofs.branch.branch_reaches.Tie as tie
-use Rattle.arm64_insn.proofs.branch.branch_reaches.Reads as reads
-use Rattle.arm64_insn.proofs.branch.branch_reaches.Lts as lts
-use Rattle.util.proofs.in_range.Reads as in-range-reads
-use Rattle.util.proofs.wrapping_sub.Reads as wrapping-sub-reads
 
 wrapping-sub-requires : tie.Need-wrapping-sub-requires
 wrapping-sub-requires c κs = search needs

@@ -6,8 +6,6 @@ use Rattle.arm64_insn.proofs.Kept.{besideImm26}
 use borrow.Author.Needs.{needs}
 use Rattle.arm64_insn.proofs.branch.branch_word.Statement.{statement}
 use Rattle.arm64_insn.proofs.branch.branch_word.Tie as tie
-use Rattle.arm64_insn.proofs.branch.branch_word.Reads as reads
-use Rattle.arm64_insn.proofs.branch.branch_word.Lts as lts
 
 cast-result : tie.Need-cast-result
 cast-result c = search needs

@@ -5,8 +5,6 @@ use Rattle.arm64_insn.specs.Branch.{helperWord}
 use borrow.Author.Needs.{needs}
 use Rattle.arm64_insn.proofs.branch.helper_word.Statement.{statement}
 use Rattle.arm64_insn.proofs.branch.helper_word.Tie as tie
-use Rattle.arm64_insn.proofs.branch.helper_word.Reads as reads
-use Rattle.arm64_insn.proofs.branch.helper_word.Lts as lts
 
 cast-imm : tie.Need-cast-imm
 cast-imm c = search needs

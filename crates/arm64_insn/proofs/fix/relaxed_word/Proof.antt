@@ -5,8 +5,6 @@ use Rattle.arm64_insn.specs.Fix.{relaxedWord}
 use borrow.Author.Needs.{needs}
 use Rattle.arm64_insn.proofs.fix.relaxed_word.Statement.{statement}
 use Rattle.arm64_insn.proofs.fix.relaxed_word.Tie as tie
-use Rattle.arm64_insn.proofs.fix.relaxed_word.Reads as reads
-use Rattle.arm64_insn.proofs.fix.relaxed_word.Lts as lts
 
 add-result : tie.Need-add-result
 add-result c = search needs

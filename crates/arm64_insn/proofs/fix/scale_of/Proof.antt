@@ -6,8 +6,6 @@ use Rattle.arm64_insn.specs.Encoding.{loadStore}
 use Rattle.arm64_insn.specs.Fix.{scaleOf, quad}
 use Rattle.arm64_insn.proofs.fix.scale_of.Statement.{statement}
 use Rattle.arm64_insn.proofs.fix.scale_of.Tie as tie
-use Rattle.arm64_insn.proofs.fix.scale_of.Reads as reads
-use Rattle.arm64_insn.proofs.fix.scale_of.Lts as lts
 
 returns : tie.Need-returns
 unfolding scaleOf choose

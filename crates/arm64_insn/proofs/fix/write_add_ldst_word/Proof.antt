@@ -14,9 +14,6 @@ use Rattle.arm64_insn.proofs.Kept.{besideImm12}
 use borrow.Author.Needs.{needs}
 use Rattle.arm64_insn.proofs.fix.write_add_ldst_word.Statement.{statement}
 use Rattle.arm64_insn.proofs.fix.write_add_ldst_word.Tie as tie
-use Rattle.arm64_insn.proofs.fix.write_add_ldst_word.Reads as reads
-use Rattle.arm64_insn.proofs.fix.write_add_ldst_word.Lts as lts
-use Rattle.arm64_insn.proofs.fix.scale_of.Reads as scale-of-reads
 
 scale-of-requires : tie.Need-scale-of-requires
 scale-of-requires c κs = search needs

@@ -7,9 +7,6 @@ use Rattle.arm64_insn.proofs.Kept.{besidePage}
 use borrow.Author.Needs.{needs}
 use Rattle.arm64_insn.proofs.fix.write_adrp_word.Statement.{statement}
 use Rattle.arm64_insn.proofs.fix.write_adrp_word.Tie as tie
-use Rattle.arm64_insn.proofs.fix.write_adrp_word.Reads as reads
-use Rattle.arm64_insn.proofs.fix.write_adrp_word.Lts as lts
-use Rattle.arm64_insn.proofs.page.page_offset.Reads as page-offset-reads
 
 page-offset-requires : tie.Need-page-offset-requires
 page-offset-requires c κs = search needs

@@ -4,8 +4,6 @@ use Rattle.util.proofs.Diagram.{mask-matches}
 use Rattle.arm64_insn.specs.Encoding.{ldrImmediate}
 use Rattle.arm64_insn.proofs.ldst.is_ldr_imm.Statement.{statement}
 use Rattle.arm64_insn.proofs.ldst.is_ldr_imm.Tie as tie
-use Rattle.arm64_insn.proofs.ldst.is_ldr_imm.Reads as reads
-use Rattle.arm64_insn.proofs.ldst.is_ldr_imm.Lts as lts
 
 returns : tie.Need-returns
 returns c = mask-matches ldrImmediate (c .args .insn) refl

@@ -4,8 +4,6 @@ use Rattle.util.specs.Choice.{choose}
 use Rattle.arm64_insn.specs.Literal.{literalOpc, literalV}
 use Rattle.arm64_insn.proofs.ldst.literal_op.Statement.{statement}
 use Rattle.arm64_insn.proofs.ldst.literal_op.Tie as tie
-use Rattle.arm64_insn.proofs.ldst.literal_op.Reads as reads
-use Rattle.arm64_insn.proofs.ldst.literal_op.Lts as lts
 
 returns : tie.Need-returns
 unfolding literalOpc literalV choose

@@ -3,11 +3,6 @@ use Rattle.arm64_insn.specs.Reach.{adrpReaches}
 use borrow.Author.Needs.{needs}
 use Rattle.arm64_insn.proofs.page.adrp_reaches.Statement.{statement}
 use Rattle.arm64_insn.proofs.page.adrp_reaches.Tie as tie
-use Rattle.arm64_insn.proofs.page.adrp_reaches.Reads as reads
-use Rattle.arm64_insn.proofs.page.adrp_reaches.Lts as lts
-use Rattle.arm64_insn.proofs.page.page.Reads as page-reads
-use Rattle.util.proofs.in_range.Reads as in-range-reads
-use Rattle.util.proofs.wrapping_sub.Reads as wrapping-sub-reads
 
 page-requires : tie.Need-page-requires
 page-requires c κs = search needs

@@ -4,8 +4,6 @@ use lib.Bits.{and-high}
 use Rattle.arm64_insn.specs.Page.{pageOf}
 use Rattle.arm64_insn.proofs.page.page.Statement.{statement}
 use Rattle.arm64_insn.proofs.page.page.Tie as tie
-use Rattle.arm64_insn.proofs.page.page.Reads as reads
-use Rattle.arm64_insn.proofs.page.page.Lts as lts
 
 returns : tie.Need-returns
 unfolding pageOf

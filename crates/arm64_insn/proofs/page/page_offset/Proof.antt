@@ -3,10 +3,6 @@ use Rattle.arm64_insn.specs.Reach.{pageOffset, pageImm}
 use borrow.Author.Needs.{needs}
 use Rattle.arm64_insn.proofs.page.page_offset.Statement.{statement}
 use Rattle.arm64_insn.proofs.page.page_offset.Tie as tie
-use Rattle.arm64_insn.proofs.page.page_offset.Reads as reads
-use Rattle.arm64_insn.proofs.page.page_offset.Lts as lts
-use Rattle.arm64_insn.proofs.page.page.Reads as page-reads
-use Rattle.util.proofs.wrapping_sub.Reads as wrapping-sub-reads
 
 page-requires : tie.Need-page-requires
 page-requires c κs = search needs

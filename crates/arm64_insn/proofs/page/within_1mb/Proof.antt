@@ -3,10 +3,6 @@ use Rattle.arm64_insn.specs.Reach.{within1mb}
 use borrow.Author.Needs.{needs}
 use Rattle.arm64_insn.proofs.page.within_1mb.Statement.{statement}
 use Rattle.arm64_insn.proofs.page.within_1mb.Tie as tie
-use Rattle.arm64_insn.proofs.page.within_1mb.Reads as reads
-use Rattle.arm64_insn.proofs.page.within_1mb.Lts as lts
-use Rattle.util.proofs.in_range.Reads as in-range-reads
-use Rattle.util.proofs.wrapping_sub.Reads as wrapping-sub-reads
 
 wrapping-sub-requires : tie.Need-wrapping-sub-requires
 wrapping-sub-requires c κs = search needs

@@ -7,9 +7,6 @@ use Rattle.arm64_insn.proofs.Three.{three}
 use borrow.Author.Needs.{needs}
 use Rattle.arm64_insn.proofs.stub.stub_words.Statement.{statement}
 use Rattle.arm64_insn.proofs.stub.stub_words.Tie as tie
-use Rattle.arm64_insn.proofs.stub.stub_words.Reads as reads
-use Rattle.arm64_insn.proofs.stub.stub_words.Lts as lts
-use Rattle.arm64_insn.proofs.page.page_offset.Reads as page-offset-reads
 
 page-offset-requires : tie.Need-page-offset-requires
 page-offset-requires c κs = search needs

@@ -8,8 +8,6 @@ use Rattle.arm64_insn.specs.Add.{addOf}
 use borrow.Author.Needs.{needs}
 use Rattle.arm64_insn.proofs.add.Add.decode.Statement.{statement}
 use Rattle.arm64_insn.proofs.add.Add.decode.Tie as tie
-use Rattle.arm64_insn.proofs.add.Add.decode.Reads as reads
-use Rattle.arm64_insn.proofs.add.Add.decode.Lts as lts
 
 cast-t10 : tie.Need-cast-t10
 cast-t10 c = search needs

@@ -8,8 +8,6 @@ use Rattle.arm64_insn.specs.Adrp.{adrpOf}
 use borrow.Author.Needs.{needs}
 use Rattle.arm64_insn.proofs.adrp.Adrp.decode.Statement.{statement}
 use Rattle.arm64_insn.proofs.adrp.Adrp.decode.Tie as tie
-use Rattle.arm64_insn.proofs.adrp.Adrp.decode.Reads as reads
-use Rattle.arm64_insn.proofs.adrp.Adrp.decode.Lts as lts
 
 mul-t8 : tie.Need-mul-t8
 mul-t8 c = search needs

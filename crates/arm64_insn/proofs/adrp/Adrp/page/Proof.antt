@@ -3,11 +3,6 @@ use Rattle.arm64_insn.specs.Page.{adrpPage}
 use borrow.Author.Needs.{needs}
 use Rattle.arm64_insn.proofs.adrp.Adrp.page.Statement.{statement}
 use Rattle.arm64_insn.proofs.adrp.Adrp.page.Tie as tie
-use Rattle.arm64_insn.proofs.adrp.Adrp.page.Reads as reads
-use Rattle.arm64_insn.proofs.adrp.Adrp.page.Lts as lts
-use Rattle.arm64_insn.proofs.page.page.Reads as page-reads
-use Rattle.util.proofs.sign_extend.Reads as sign-extend-reads
-use Rattle.util.proofs.wrapping_add.Reads as wrapping-add-reads
 
 cast-imm : tie.Need-cast-imm
 cast-imm c = search needs

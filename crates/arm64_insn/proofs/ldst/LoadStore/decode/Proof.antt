@@ -11,9 +11,6 @@ use Rattle.arm64_insn.proofs.Decoded.{access-le}
 use borrow.Author.Needs.{needs}
 use Rattle.arm64_insn.proofs.ldst.LoadStore.decode.Statement.{statement}
 use Rattle.arm64_insn.proofs.ldst.LoadStore.decode.Tie as tie
-use Rattle.arm64_insn.proofs.ldst.LoadStore.decode.Reads as reads
-use Rattle.arm64_insn.proofs.ldst.LoadStore.decode.Lts as lts
-use Rattle.arm64_insn.proofs.ldst.access_of.Reads as access-of-reads
 
 returns : tie.Need-returns
 unfolding loadStoreOf choose

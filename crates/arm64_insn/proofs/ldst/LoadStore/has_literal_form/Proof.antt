@@ -3,8 +3,6 @@ use borrow.Author.Tests.{le-leb, lt-leb}
 use Rattle.arm64_insn.specs.Literal.{hasLiteralForm}
 use Rattle.arm64_insn.proofs.ldst.LoadStore.has_literal_form.Statement.{statement}
 use Rattle.arm64_insn.proofs.ldst.LoadStore.has_literal_form.Tie as tie
-use Rattle.arm64_insn.proofs.ldst.LoadStore.has_literal_form.Reads as reads
-use Rattle.arm64_insn.proofs.ldst.LoadStore.has_literal_form.Lts as lts
 
 returns : tie.Need-returns
 unfolding hasLiteralForm

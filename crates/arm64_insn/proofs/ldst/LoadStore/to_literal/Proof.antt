@@ -5,10 +5,6 @@ use Rattle.arm64_insn.proofs.Decoded.{literal-opc-lt, literal-v-lt}
 use borrow.Author.Needs.{needs}
 use Rattle.arm64_insn.proofs.ldst.LoadStore.to_literal.Statement.{statement}
 use Rattle.arm64_insn.proofs.ldst.LoadStore.to_literal.Tie as tie
-use Rattle.arm64_insn.proofs.ldst.LoadStore.to_literal.Reads as reads
-use Rattle.arm64_insn.proofs.ldst.LoadStore.to_literal.Lts as lts
-use Rattle.arm64_insn.proofs.ldst.literal_op.Reads as literal-op-reads
-use Rattle.util.proofs.wrapping_sub.Reads as wrapping-sub-reads
 
 literal-op-requires : tie.Need-literal-op-requires
 literal-op-requires c κs = search needs

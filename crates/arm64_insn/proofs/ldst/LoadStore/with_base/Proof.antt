@@ -6,8 +6,6 @@ use Rattle.arm64_insn.proofs.Kept.{besideAddress}
 use borrow.Author.Needs.{needs}
 use Rattle.arm64_insn.proofs.ldst.LoadStore.with_base.Statement.{statement}
 use Rattle.arm64_insn.proofs.ldst.LoadStore.with_base.Tie as tie
-use Rattle.arm64_insn.proofs.ldst.LoadStore.with_base.Reads as reads
-use Rattle.arm64_insn.proofs.ldst.LoadStore.with_base.Lts as lts
 
 div-imm : tie.Need-div-imm
 div-imm c = search needs
