@@ -33,21 +33,25 @@ object-at-requires-2 c κs = search needs
 
 returns-3 : tie.Need-returns-3
 returns-3 c =
-    let k = c .before .before .before .before .object-at .ensures in
-    let r = c .before .before .before .before .before .before in
+    let object-at2 = c .before in
+    let object-at = object-at2 .before .before .before in
+    let k = object-at .object-at .ensures in
+    let r = object-at .before .before in
     let a = r .args in
     let l = r .pre .1 in
     least-more _ (a .o) (a .k) (a .best) (a .best) l (l .within) (l .reached)
     (λ h. (h, omega arith))
-    (λ h. (omega (arith, l .within), omega (arith, k, c .before .object-at2 .ensures)))
+    (λ h. (omega (arith, l .within), omega (arith, k, object-at2 .object-at2 .ensures)))
 
 returns-4 : tie.Need-returns-4
 returns-4 c =
-    let k = c .before .before .before .before .object-at .ensures in
-    let r = c .before .before .before .before .before .before in
+    let object-at2 = c .before in
+    let object-at = object-at2 .before .before .before in
+    let k = object-at .object-at .ensures in
+    let r = object-at .before .before in
     let a = r .args in
     least-more _ (a .o) (a .k) (a .best) (a .k) (r .pre .1) (omega arith) (λ h. omega (arith, k))
-    (λ h. (omega arith, omega (arith, k, c .before .object-at2 .ensures)))
+    (λ h. (omega arith, omega (arith, k, object-at2 .object-at2 .ensures)))
     (λ h. (omega arith, omega arith))
 
 pub lesser-spec : {M : Type 1} → statement M

@@ -46,7 +46,10 @@ fits-literal-requires c κs = search needs
 
 adr-or-fold-requires : tie.Need-adr-or-fold-requires
 adr-or-fold-requires c κs =
-    let addr = c .before .before .before .before .before .before .before in
+    let fits-literal = c .before in
+    let target = fits-literal .before .before in
+    let sum-of = target .before .before in
+    let addr = sum-of .before .before in
     let adrp-add-ldst = addr .before .before in
     adds-operands _ _ _ _ _ _ (adrp-add-ldst .adrp-add-ldst .ensures) (addr .addr .given .1)
 
@@ -71,7 +74,10 @@ returns-2 c =
 
 literal-third-requires : tie.Need-literal-third-requires
 literal-third-requires c κs =
-    let addr = c .before .before .before .before .before .before .before in
+    let fits-literal = c .before in
+    let target = fits-literal .before .before in
+    let sum-of = target .before .before in
+    let addr = sum-of .before .before in
     let adrp-add-ldst = addr .before .before in
     (adds-operands _ _ _ _ _ _ (adrp-add-ldst .adrp-add-ldst .ensures) (addr .addr .given .1)) .register
 

@@ -56,7 +56,10 @@ returns-2 c =
 
 adr-or-fold-requires : tie.Need-adr-or-fold-requires
 adr-or-fold-requires c κs =
-    let addr = c .before .before .before .before .before .before .before in
+    let target = c .before in
+    let sum-of = target .before .before in
+    let if1 = sum-of .before in
+    let addr = if1 .before .before .before in
     let adrp-add-ldst = addr .before .before in
     adds-operands _ _ _ _ _ _ (adrp-add-ldst .adrp-add-ldst .ensures) (addr .addr .given .1)
 

@@ -41,12 +41,16 @@ step-in-requires-2 c κs = search needs
 
 returns-2 : tie.Need-returns-2
 returns-2 c =
-    let t = c .before .before .before .before .before .before .before in
+    let enter = c .before in
+    let if1 = enter .before in
+    let position-from = if1 .before in
+    let told = position-from .before .before in
+    let t = told .before .before in
     let a = t .before .before .args in
-    let f = c .before .before .before .position-from in (
-      next-object (a .hints .now) (a .self) (c .before .enter .result) (f .result) (c .step-in2 .result)
-          (subst (StepsIn (a .hints .now) (a .self)) (c .before .before .before .before .before .enum-told .given .1) (t .step-in .ensures .0))
-          (f .ensures .found) (c .before .before .if1 .taken) (c .before .enter .ensures) (c .step-in2 .ensures .0),
+    let f = position-from .position-from in (
+      next-object (a .hints .now) (a .self) (enter .enter .result) (f .result) (c .step-in2 .result)
+          (subst (StepsIn (a .hints .now) (a .self)) (told .enum-told .given .1) (t .step-in .ensures .0))
+          (f .ensures .found) (if1 .if1 .taken) (enter .enter .ensures) (c .step-in2 .ensures .0),
       c .step-in2 .ensures .1,
     )
 

@@ -31,20 +31,25 @@ add-t8 c = search needs
 
 returns-3 : tie.Need-returns-3
 returns-3 c =
-    let f = c .before .before .before .before .before .before in
-    let m = c .before .before in
-    let r = f .before .before in (
-      take-second _ (r .args .self) (f .find .result) (m .find2 .result) (f .find .ensures) (m .before .before .if1 .left) (m .before .if2 .left)
-          (m .find2 .ensures) (c .if3 .taken),
+    let find2 = c .before .before in
+    let if2 = find2 .before in
+    let if1 = if2 .before in
+    let find = if1 .before .before in
+    let r = find .before .before in (
+      take-second _ (r .args .self) (find .find .result) (find2 .find2 .result) (find .find .ensures) (if1 .if1 .left) (if2 .if2 .left)
+          (find2 .find2 .ensures) (c .if3 .taken),
       (omega (arith, r .pre .ends), record { ends = r .pre .ends; holds = r .pre .holds; cut = r .pre .cut }),
     )
 
 returns-4 : tie.Need-returns-4
 returns-4 c =
-    let f = c .before .before .before .before .before .before in
-    let m = c .before .before in (
-      ended-both _ (f .before .before .args .self) (f .find .result) (m .find2 .result) (f .find .ensures) (m .before .before .if1 .left)
-          (m .before .if2 .left) (m .find2 .ensures) (c .if3 .left),
+    let find2 = c .before .before in
+    let if2 = find2 .before in
+    let if1 = if2 .before in
+    let find = if1 .before .before in
+    let r = find .before .before in (
+      ended-both _ (r .args .self) (find .find .result) (find2 .find2 .result) (find .find .ensures) (if1 .if1 .left) (if2 .if2 .left)
+          (find2 .find2 .ensures) (c .if3 .left),
       tt,
     )
 

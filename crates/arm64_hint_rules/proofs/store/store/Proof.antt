@@ -34,7 +34,8 @@ cast-set-words c = search needs
 set-words-requires : tie.Need-set-words-requires
 set-words-requires c κs =
     let i = c .before in
-    let s = i .before .before .before .before .before .before in
+    let d = i .before .before .before in
+    let s = d .before .before .before in
     held-inside (s .args .h) (i .insns-all .ensures) (s .pre)
 
 returns : tie.Need-returns
@@ -54,8 +55,9 @@ returns-3 : tie.Need-returns-3
 returns-3 c =
     let w = c .before .before in
     let i = w .before .before in
-    let s = i .before .before .before .before .before .before in
-    puts-by (offsOf (s .args .h)) (s .args .section .now) (i .before .before .before .d .given .1)
+    let d = i .before .before .before in
+    let s = d .before .before .before in
+    puts-by (offsOf (s .args .h)) (s .args .section .now) (d .d .given .1)
     (held-stored (s .args .h) (i .insns-all .ensures) (s .pre .worked) (s .args .section .now) _ (w .set-words .ensures))
 
 pub store-spec : {M : Type 1} → statement M

@@ -46,41 +46,50 @@ enum-known-k c = search needs
 
 work-requires : tie.Need-work-requires Inv-loop μ-loop
 work-requires c κs =
-    let n = c .before .before .before .before in
-    let p = n .before .loop in
-    let s = n .before .before .before .before .before .before in
-    let t = turn-sound _ _ _ _ (c .before .before .k .given .1) (n .next .ensures .1) in (
+    let k = c .before .before in
+    let next = k .before .before in
+    let loop = next .before in
+    let first = loop .before in
+    let start = first .before .before .before .before in
+    let t = turn-sound _ _ _ _ (k .k .given .1) (next .next .ensures .1) in (
       t .0,
-      subst (λ (l : ℕ). checkHint l (length (s .args .entries .now) / relocSize) (hintOf (s .args .hints .now) (c .before .before .k .given .0 .0)) ≡ Fit)
-          (sym (p .inv .size)) (each-fit _ _ _ (s .pre .0) _ (t .0)),
+      subst (λ (l : ℕ). checkHint l (length (start .args .entries .now) / relocSize) (hintOf (start .args .hints .now) (k .k .given .0 .0)) ≡ Fit)
+          (sym (loop .loop .inv .size)) (each-fit _ _ _ (start .pre .0) _ (t .0)),
     )
 
 add-requires : tie.Need-add-requires Inv-loop μ-loop
 add-requires c κs =
-    let n = c .before .before .before .before .before .before .before in
-    let p = n .before .loop in
-    let s = n .before .before .before .before .before .before in
+    let work = c .before .before in
+    let k = work .before .before .before in
+    let next = k .before .before in
+    let loop = next .before in
+    let first = loop .before in
+    let start = first .before .before .before .before in
+    let p = loop .loop in
     omega (
       arith,
-      room _ _ _ (p .image) (p .c) (p .tally) _ (p .inv) (n .next .ensures .0) _ _ (c .before .before .before .before .before .k .given .1),
-      few-hints _ _ _ (s .pre .0),
+      room _ _ _ (p .image) (p .c) (p .tally) _ (p .inv) (next .next .ensures .0) _ _ (k .k .given .1),
+      few-hints _ _ _ (start .pre .0),
     )
 
 loop-less : tie.Need-loop-less Inv-loop μ-loop
 loop-less c =
-    let n = c .before .before .before .before .before .before .before .before in
-    let s = n .before .before .before .before .before .before in
-    let e = c .before .before .before .before .before .before .k .given .1 in
-    omega (arith, turn-count (s .args .hints .now) (n .next .result) _ _ e (n .before .loop .c) (n .next .ensures .0))
+    let work = c .before .before .before in
+    let k = work .before .before .before in
+    let next = k .before .before in
+    let loop = next .before in
+    let first = loop .before in
+    let start = first .before .before .before .before in
+    omega (arith, turn-count (start .args .hints .now) (next .next .result) _ _ (k .k .given .1) (loop .loop .c) (next .next .ensures .0))
 
 loop-again : tie.Need-loop-again Inv-loop μ-loop
 loop-again c =
-    let n = c .before .before .before .before .before .before .before .before in
-    let p = n .before .loop in
-    let w = c .before .before .before in
-    let e = c .before .before .before .before .before .before .k .given .1 in
-    going-next _ _ _ (p .image) (p .c) (p .tally) _ (p .inv) (n .next .ensures .0) _ _ e
-    (n .next .ensures .1) (w .work .ensures .0) (w .work .ensures .1) (c .add .ensures)
+    let work = c .before .before .before in
+    let k = work .before .before .before in
+    let next = k .before .before in
+    let p = next .before .loop in
+    going-next _ _ _ (p .image) (p .c) (p .tally) _ (p .inv) (next .next .ensures .0) _ _ (k .k .given .1)
+    (next .next .ensures .1) (work .work .ensures .0) (work .work .ensures .1) (c .add .ensures)
 
 pub work-all-spec : {M : Type 1} → statement M
 work-all-spec =

@@ -17,8 +17,9 @@ same-length c = search needs
 
 returns : tie.Need-returns
 returns c =
-    let s = c .before .before .before .before .before .before .before .before in
-    let ran = c .before .before .before .run .ensures in
+    let run = c .before .before .before in
+    let s = run .before .before .before .before .before in
+    let ran = run .run .ensures in
     (c .settled .ensures ∙ ap (λ (a : RunAnswer). endOf (s .args .old) a) (ran .0), ran .1)
 
 pub run-on-spec : {M : Type 1} → statement M

@@ -23,9 +23,10 @@ same-length c = search needs
 
 returns : tie.Need-returns
 returns c =
-    let s = c .before .before .before .before .before .before in (
+    let if1 = c .before .before .before .before in
+    let s = if1 .before .before in (
       c .read32 .ensures
-          ∙ sym (word-at (s .args .buf .now) (s .args .t2) (s .args .n) (s .args .i) (c .before .before .before .before .if1 .taken)
+          ∙ sym (word-at (s .args .buf .now) (s .args .t2) (s .args .n) (s .args .i) (if1 .if1 .taken)
           (omega (arith, s .good .1 .0 .1 .0 .1, s .pre .one))),
       refl,
     )

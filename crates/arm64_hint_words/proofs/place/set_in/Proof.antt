@@ -24,7 +24,11 @@ cast-write32 : tie.Need-cast-write32
 cast-write32 c = search needs
 
 write32-requires : tie.Need-write32-requires
-write32-requires c κs = c .before .before .before .before .before .before .before .before .pre .within (c .before .before .before .if1 .taken)
+write32-requires c κs =
+    let if1 = c .before .before .before in
+    let k = if1 .before .before in
+    let start = k .before .before .before in
+    start .pre .within (if1 .if1 .taken)
 
 returns : tie.Need-returns
 returns c = search needs
@@ -34,12 +38,14 @@ same-length c = search needs
 
 returns-2 : tie.Need-returns-2
 returns-2 c =
-    let k = c .before .before .before .before .before .before .before .before in
+    let write32 = c .before .before in
+    let if1 = write32 .before .before .before .before in
+    let k = if1 .before .before in
     let s = k .before .before .before .args in
-    c .before .before .write32 .ensures
+    write32 .write32 .ensures
     ∙ sym
     (ap (λ (w : NewWord). setIn (s .buf .now) (s .t2) (s .n) (s .i) w) (k .w .given .1)
-    ∙ choose-true _ _ _ (lt-ltb _ _ (c .before .before .before .before .before .before .if1 .taken)))
+    ∙ choose-true _ _ _ (lt-ltb _ _ (if1 .if1 .taken)))
 
 returns-3 : tie.Need-returns-3
 returns-3 c =

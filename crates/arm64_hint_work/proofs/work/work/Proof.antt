@@ -21,14 +21,16 @@ is-skipped-requires c κs = search needs
 
 returns : tie.Need-returns
 returns c =
-    let a = c .before .before .before .before .before .before .args in
-    skipped-step (a .hints .now) (a .entries .now) (a .image .now) (a .k) _ (c .before .before .read .ensures)
+    let read = c .before .before in
+    let a = read .before .before .before .before .args in
+    skipped-step (a .hints .now) (a .entries .now) (a .image .now) (a .k) _ (read .read .ensures)
     (sym (c .before .is-skipped .ensures) ∙ c .if1 .taken)
 
 rels-of-requires : tie.Need-rels-of-requires
 rels-of-requires c κs =
-    let s = c .before .before .before .before .before .before in
-    ready _ _ _ _ (c .before .before .read .ensures) (s .pre .1) (sym (c .before .is-skipped .ensures) ∙ c .if1 .left) .entries
+    let read = c .before .before in
+    let s = read .before .before .before .before in
+    ready _ _ _ _ (read .read .ensures) (s .pre .1) (sym (c .before .is-skipped .ensures) ∙ c .if1 .left) .entries
 
 cast-start : tie.Need-cast-start
 cast-start c = search needs
@@ -48,16 +50,18 @@ part-apply-start c = search needs
 part-apply-end : tie.Need-part-apply-end
 part-apply-end c =
     let i = c .before .before .before in
-    let s = i .before .before .before .before .before .before in
-    let q = ready _ _ _ _ (i .before .before .read .ensures) (s .pre .1) (sym (i .before .is-skipped .ensures) ∙ i .if1 .left) .part in
+    let read = i .before .before in
+    let s = read .before .before .before .before in
+    let q = ready _ _ _ _ (read .read .ensures) (s .pre .1) (sym (i .before .is-skipped .ensures) ∙ i .if1 .left) .part in
     omega arith
 
 apply-requires : tie.Need-apply-requires
 apply-requires c κs =
     let i = c .before .before .before .before in
-    let s = i .before .before .before .before .before .before in
-    let h : HintRecord = i .before .before .read .result in
-    let q = ready _ _ h _ (i .before .before .read .ensures) (s .pre .1) (sym (i .before .is-skipped .ensures) ∙ i .if1 .left) in
+    let read = i .before .before in
+    let s = read .before .before .before .before in
+    let h : HintRecord = read .read .result in
+    let q = ready _ _ h _ (read .read .ensures) (s .pre .1) (sym (i .before .is-skipped .ensures) ∙ i .if1 .left) in
     let e : (h .start + h .len) - h .start ≡ h .len = omega arith in
     inside-part (s .args .image .now) h _ e (q .part) (q .words)
 
@@ -66,15 +70,18 @@ same-length c = search needs
 
 returns-2 : tie.Need-returns-2
 returns-2 c =
-    let i = c .before .before .before .before .before .before .before in
-    let s = i .before .before .before .before .before .before in
-    let h : HintRecord = i .before .before .read .result in
-    let q = ready _ _ h _ (i .before .before .read .ensures) (s .pre .1) (sym (i .before .is-skipped .ensures) ∙ i .if1 .left) in
+    let apply = c .before .before in
+    let rels-of = apply .before .before .before .before in
+    let i = rels-of .before in
+    let read = i .before .before in
+    let s = read .before .before .before .before in
+    let h : HintRecord = read .read .result in
+    let q = ready _ _ h _ (read .read .ensures) (s .pre .1) (sym (i .before .is-skipped .ensures) ∙ i .if1 .left) in
     let j : ℕ = (h .start + h .len) - h .start in
     let e : j ≡ h .len = omega arith in
-    worked-step (s .args .hints .now) (s .args .entries .now) (s .args .image .now) (s .args .k) h (i .before .before .read .ensures) _
-    (c .before .before .before .before .before .before .rels-of .ensures) j (omega (arith, q .part)) (subst (λ (l : ℕ). Inside h l) (sym e) (q .words))
-    (c .before .before .apply .ensures .0) (c .before .before .apply .ensures .1)
+    worked-step (s .args .hints .now) (s .args .entries .now) (s .args .image .now) (s .args .k) h (read .read .ensures) _
+    (rels-of .rels-of .ensures) j (omega (arith, q .part)) (subst (λ (l : ℕ). Inside h l) (sym e) (q .words))
+    (apply .apply .ensures .0) (apply .apply .ensures .1)
 
 pub work-spec : {M : Type 1} → statement M
 work-spec =
