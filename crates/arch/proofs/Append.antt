@@ -1,20 +1,19 @@
 -- A table read after another: the walk of the whole is the first one's, then the second one's moved, by induction over the steps.
 use mathlib.Core.Path.{_≡_, refl, sym, ap, ap₂, _∙_, subst}
-use mathlib.Core.List.{List, [], _∷_, _++_, map}
-use mathlib.Core.Logic.{_⊎_, inl, inr, ⊎-elim}
+use mathlib.Core.List.{List, [], _∷_, map}
+use mathlib.Core.Logic.{_⊎_, inr, ⊎-elim}
 use mathlib.Core.Bool.{Bool, true, false}
 use Prim.Native.Nat.{ℕ, zero, suc, _+_, _-_, _<_, _≤_}
 use native.Mathlib.Omega.{arith}
 use lib.Dec.{ltb}
 use borrow.Author.Tests.{lt-ltb, le-ltb, ltb-true, ltb-false}
 use Rattle.macho.specs.declared.reloc.Reloc.{Reloc}
-use Rattle.macho.specs.declared.refusal.Refusal.{Refusal}
 use Rattle.arch.specs.Walk.{Reading, refused, entries, before, after, more, readFrom, readAll, Fills}
 use Rattle.arch.specs.Join.{joined, mapped, moved}
 use Rattle.arch.specs.declared.step.Step.{Step}
 use Rattle.arch.specs.declared.step.Step.the-variants as S
 use Rattle.arch.proofs.Walk.{Within, Onward, onward, done-any, turn-suc}
-use Rattle.arch.proofs.Fuel.{from, from-all, from-end, from-step}
+use Rattle.arch.proofs.Fuel.{from, from-all, from-step}
 
 -- ---- answers
 

@@ -1,18 +1,17 @@
 -- A set of bits has a record's form where the list has it that the bits were made of: a union's bit is set where one of its parts has it.
 use mathlib.Core.Path.{_≡_, refl, sym, ap, ap₂, _∙_}
-use mathlib.Core.Logic.{_⊎_, inl, inr, ⊎-elim}
-use mathlib.Core.Bool.{Bool, true, false, _&&_, _||_, true≢false}
+use mathlib.Core.Bool.{Bool, true, false, _||_, true≢false}
 use mathlib.Core.List.{List, [], _∷_}
-use Prim.Native.Nat.{ℕ, zero, suc, _+_, _-_, _*_, _/_, _%_, _^_, _<_, _≤_}
+use Prim.Native.Nat.{ℕ, zero, suc, _+_, _-_, _*_, _/_, _%_, _^_, _<_}
 use native.Mathlib.Omega.{arith}
-use native.Mathlib.Nat.{mod-lt, div-eq-of-lt, zero-div, one-mul}
+use native.Mathlib.Nat.{div-eq-of-lt, zero-div, one-mul}
 use borrow.Author.Tests.{eq-eqb, ne-eqb, ltb-true, ltb-false, eqb-true}
 use lib.Bits.{bitOr, or-shr, or-mod, or-zero-l}
 use lib.Dec.{eqb, ltb}
 use lib.Pow.{pow-lt, pow-add, shl-shr, shr-shr, mod-pow-add}
 use Rattle.util.proofs.Choice.{both}
 use Rattle.util.specs.Bits.{field}
-use Rattle.macho.specs.MachRel.{formOf, pcrelOf, p2sizeOf, externOf}
+use Rattle.macho.specs.MachRel.{formOf}
 use Rattle.macho.specs.declared.rel.MachRel.{MachRel}
 use Rattle.arch.specs.Form.{Form, form, formIn, sameForm, member, placeOf, bitOf, bitsOf, hasBit, fieldsFit}
 

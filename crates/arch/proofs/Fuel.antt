@@ -7,7 +7,7 @@ use native.Mathlib.Omega.{arith}
 use borrow.Author.Tests.{ltb-true}
 use lib.Dec.{ltb}
 use Rattle.macho.specs.declared.reloc.Reloc.{Reloc}
-use Rattle.arch.specs.Walk.{Reading, refused, entries, before, after, more, readFrom, readAll}
+use Rattle.arch.specs.Walk.{Reading, entries, before, after, more, readFrom, readAll}
 use Rattle.arch.specs.declared.step.Step.{Step}
 use Rattle.arch.specs.declared.step.Step.the-variants as S
 use Rattle.arch.proofs.Walk.{Onward, onward, done-any, turn-suc}

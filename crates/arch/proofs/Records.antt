@@ -1,9 +1,9 @@
 -- The records of a list of bytes by their numbers, and of two lists one after the other.
-use mathlib.Core.Path.{_≡_, refl, sym, ap, ap₂, _∙_}
-use mathlib.Core.List.{List, [], _∷_, _++_}
+use mathlib.Core.Path.{_≡_, refl, ap, ap₂, _∙_}
+use mathlib.Core.List.{List, _∷_, _++_}
 use Prim.Native.Nat.{ℕ, zero, suc, _+_, _-_, _*_, _/_, _%_, _<_, _≤_}
 use native.Mathlib.Omega.{arith}
-use lib.ListN.{length, getD, length-append}
+use lib.ListN.{length, length-append}
 use Rattle.util.specs.Word.{le}
 use Rattle.util.proofs.Bytes.{le-append-left, le-append-right}
 use Rattle.macho.specs.MachRel.{machRelAt}

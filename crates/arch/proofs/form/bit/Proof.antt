@@ -1,11 +1,9 @@
-use mathlib.Core.Path.{_≡_}
+-- `bit` meets its contract: a cast flag is its number, 0 or 1 (`cast-flag` of Flags).
 use native.Mathlib.Omega.{arith}
 use Rattle.arch.proofs.Flags.{cast-flag}
 use borrow.Author.Needs.{needs}
 use Rattle.arch.proofs.form.bit.Statement.{statement}
 use Rattle.arch.proofs.form.bit.Tie as tie
-use Rattle.arch.proofs.form.bit.Reads as reads
-use Rattle.arch.proofs.form.bit.Lts as lts
 
 cast-result : tie.Need-cast-result
 cast-result c = search needs

@@ -1,10 +1,7 @@
-use mathlib.Core.Path.{_≡_, ap}
+-- `has_reloc_form` meets its contract: what `form` promises is all that is needed.
 use borrow.Author.Needs.{needs}
 use Rattle.arch.proofs.form.has_reloc_form.Statement.{statement}
 use Rattle.arch.proofs.form.has_reloc_form.Tie as tie
-use Rattle.arch.proofs.form.has_reloc_form.Reads as reads
-use Rattle.arch.proofs.form.has_reloc_form.Lts as lts
-use Rattle.macho.proofs.rel.MachRel.form.Reads as form-reads
 
 form-requires : tie.Need-form-requires
 form-requires c κs = search needs

@@ -1,5 +1,6 @@
-use mathlib.Core.Path.{_≡_, sym, ap, _∙_}
-use Prim.Native.Nat.{ℕ, _+_, _*_, _^_}
+-- `reloc_form` meets its contract: the form is below 16, so that a one shifted by it is a power of two.
+use mathlib.Core.Path.{_∙_}
+use Prim.Native.Nat.{_+_, _*_, _^_}
 use native.Mathlib.Omega.{arith}
 use native.Mathlib.Nat.{one-mul}
 use lib.Dec.{lit<}
@@ -7,9 +8,6 @@ use lib.Pow.{shl-exact}
 use borrow.Author.Needs.{needs}
 use Rattle.arch.proofs.form.reloc_form.Statement.{statement}
 use Rattle.arch.proofs.form.reloc_form.Tie as tie
-use Rattle.arch.proofs.form.reloc_form.Reads as reads
-use Rattle.arch.proofs.form.reloc_form.Lts as lts
-use Rattle.arch.proofs.form.bit.Reads as bit-reads
 
 bit-requires : tie.Need-bit-requires
 bit-requires c κs = search needs

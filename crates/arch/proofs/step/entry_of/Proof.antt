@@ -1,19 +1,15 @@
-use mathlib.Core.Path.{_≡_, refl, ap, _∙_}
-use Prim.Native.Nat.{ℕ, _/_, _%_, _^_}
+-- `entry_of` meets its contract, field by field: a one shifted by p2size is a power of two, and a cast flag is its number (Flags).
+use mathlib.Core.Path.{ap, _∙_}
+use Prim.Native.Nat.{_/_, _%_, _^_}
 use native.Mathlib.Omega.{arith}
 use native.Mathlib.Nat.{one-mul}
-use lib.Dec.{eqb, lit<}
+use lib.Dec.{lit<}
 use lib.Pow.{shl-exact}
 use mir.Val.{boolByte}
 use Rattle.arch.proofs.Flags.{cast-flag, cast-bit}
 use borrow.Author.Needs.{needs}
 use Rattle.arch.proofs.step.entry_of.Statement.{statement}
 use Rattle.arch.proofs.step.entry_of.Tie as tie
-use Rattle.arch.proofs.step.entry_of.Reads as reads
-use Rattle.arch.proofs.step.entry_of.Lts as lts
-use Rattle.macho.proofs.rel.MachRel.is_pcrel.Reads as is-pcrel-reads
-use Rattle.macho.proofs.rel.MachRel.p2size.Reads as p2size-reads
-use Rattle.macho.proofs.rel.MachRel.ty.Reads as ty-reads
 
 ty-requires : tie.Need-ty-requires
 ty-requires c κs = search needs

@@ -1,12 +1,9 @@
-use mathlib.Core.Path.{_≡_, sym, _∙_}
+-- `read_target` meets its contract: the target's answer decides the case.
+use mathlib.Core.Path.{sym, _∙_}
 use Rattle.arch.specs.Entry.{targeted}
 use borrow.Author.Needs.{needs}
 use Rattle.arch.proofs.step.read_target.Statement.{statement}
 use Rattle.arch.proofs.step.read_target.Tie as tie
-use Rattle.arch.proofs.step.read_target.Reads as reads
-use Rattle.arch.proofs.step.read_target.Lts as lts
-use Rattle.arch.proofs.step.entry_of.Reads as entry-of-reads
-use Rattle.arch.proofs.target.target_of.Reads as target-of-reads
 
 target-of-requires : tie.Need-target-of-requires
 target-of-requires c κs = search needs

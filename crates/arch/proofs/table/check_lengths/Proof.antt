@@ -1,13 +1,11 @@
-use mathlib.Core.Path.{_≡_}
-use Prim.Native.Nat.{ℕ, _*_, _/_, _<_, _≤_}
+-- `check_lengths` meets its contract: the tests on the way to each return decide the choices; the code's quotient of the slots is the definition's product.
+use Prim.Native.Nat.{_*_, _/_, _<_, _≤_}
 use native.Mathlib.Omega.{arith}
 use borrow.Author.Tests.{eq-eqb, ne-eqb, lt-ltb, le-ltb}
 use Rattle.util.specs.Choice.{choose}
 use Rattle.arch.specs.Table.{lengthsOf}
 use Rattle.arch.proofs.table.check_lengths.Statement.{statement}
 use Rattle.arch.proofs.table.check_lengths.Tie as tie
-use Rattle.arch.proofs.table.check_lengths.Reads as reads
-use Rattle.arch.proofs.table.check_lengths.Lts as lts
 
 returns : tie.Need-returns
 unfolding lengthsOf choose

@@ -1,13 +1,10 @@
+-- `is_subtracted` meets its contract: record 0 has none before it; for another the type of the record before decides.
 use borrow.Author.Tests.{eq-eqb, ne-eqb}
 use Rattle.util.specs.Choice.{choose}
 use Rattle.arch.specs.Table.{subtractedAt}
 use borrow.Author.Needs.{needs}
 use Rattle.arch.proofs.table.is_subtracted.Statement.{statement}
 use Rattle.arch.proofs.table.is_subtracted.Tie as tie
-use Rattle.arch.proofs.table.is_subtracted.Reads as reads
-use Rattle.arch.proofs.table.is_subtracted.Lts as lts
-use Rattle.arch.proofs.table.record_at.Reads as record-at-reads
-use Rattle.macho.proofs.rel.MachRel.ty.Reads as ty-reads
 
 returns : tie.Need-returns
 unfolding subtractedAt choose

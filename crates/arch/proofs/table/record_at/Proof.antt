@@ -1,12 +1,10 @@
-use mathlib.Core.Path.{_≡_, sym, _∙_}
+-- `record_at` meets its contract: 8 bytes from 8 * i on are record i of the list (`record-is` of Records).
+use mathlib.Core.Path.{sym, _∙_}
 use denote.Ref.{now}
 use Rattle.arch.proofs.Records.{record-is}
 use borrow.Author.Needs.{needs}
 use Rattle.arch.proofs.table.record_at.Statement.{statement}
 use Rattle.arch.proofs.table.record_at.Tie as tie
-use Rattle.arch.proofs.table.record_at.Reads as reads
-use Rattle.arch.proofs.table.record_at.Lts as lts
-use Rattle.macho.proofs.rel.MachRel.read.Reads as read-reads
 
 mul-read : tie.Need-mul-read
 mul-read c = search needs

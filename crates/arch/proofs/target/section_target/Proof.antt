@@ -1,5 +1,5 @@
-use mathlib.Core.Path.{_≡_, sym, ap, _∙_}
-use Prim.Native.Nat.{ℕ}
+-- `section_target` meets its contract: ordinal 0 names no section; for another `section-of` of Targets leaves the test of the list's length.
+use mathlib.Core.Path.{sym, ap, _∙_}
 use borrow.Author.Tests.{lt-ltb, le-ltb}
 use Rattle.util.specs.Choice.{choose}
 use Rattle.arch.specs.Target.{sectionTarget}
@@ -7,10 +7,6 @@ use Rattle.arch.proofs.Targets.{section-of}
 use borrow.Author.Needs.{needs}
 use Rattle.arch.proofs.target.section_target.Statement.{statement}
 use Rattle.arch.proofs.target.section_target.Tie as tie
-use Rattle.arch.proofs.target.section_target.Reads as reads
-use Rattle.arch.proofs.target.section_target.Lts as lts
-use Rattle.macho.proofs.rel.MachRel.idx.Reads as idx-reads
-use Rattle.util.proofs.wrapping_sub.Reads as wrapping-sub-reads
 
 idx-requires : tie.Need-idx-requires
 idx-requires c κs = search needs

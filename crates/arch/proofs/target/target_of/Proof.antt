@@ -1,13 +1,9 @@
+-- `target_of` meets its contract: the extern field decides the choice.
 use Rattle.util.specs.Choice.{choose}
 use Rattle.arch.specs.Target.{targetOf}
 use borrow.Author.Needs.{needs}
 use Rattle.arch.proofs.target.target_of.Statement.{statement}
 use Rattle.arch.proofs.target.target_of.Tie as tie
-use Rattle.arch.proofs.target.target_of.Reads as reads
-use Rattle.arch.proofs.target.target_of.Lts as lts
-use Rattle.arch.proofs.target.section_target.Reads as section-target-reads
-use Rattle.macho.proofs.rel.MachRel.idx.Reads as idx-reads
-use Rattle.macho.proofs.rel.MachRel.is_extern.Reads as is-extern-reads
 
 is-extern-requires : tie.Need-is-extern-requires
 is-extern-requires c κs = search needs
