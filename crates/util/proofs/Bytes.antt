@@ -1,12 +1,12 @@
 -- Words as lists of bytes: what records are made of and read from.
-use mathlib.Core.Path.{_≡_, refl, sym, ap, ap₂, _∙_}
-use mathlib.Core.Logic.{_⊎_, inl, inr, ⊎-elim}
+use mathlib.Core.Path.{_≡_, refl, sym, ap, _∙_}
+use mathlib.Core.Logic.{_⊎_, ⊎-elim}
 use mathlib.Core.List.{List, [], _∷_, _++_}
 use Prim.Native.Nat.{ℕ, zero, suc, _+_, _-_, _*_, _/_, _%_, _^_, _≤_, _<_}
 use native.Mathlib.Omega.{arith}
-use native.Mathlib.Nat.{mod-eq-of-lt, div-eq-of-lt, add-zero, zero-add, add-comm, add-assoc, mul-comm, not-suc-le-zero, eq-or-lt-of-le, le-of-suc-le-suc}
-use lib.ListN.{length, getD, set, take, drop, length-append, List·getD-append}
-use lib.Pow.{pow-pos, pow-add, high, low, mod-mod-pow, field}
+use native.Mathlib.Nat.{mod-eq-of-lt, zero-add, add-comm, add-assoc, mul-comm, not-suc-le-zero, eq-or-lt-of-le, le-of-suc-le-suc}
+use lib.ListN.{length, getD, set, take, drop, List·getD-append}
+use lib.Pow.{high, low, mod-mod-pow, field}
 use lib.Seq.{sets, set-getD, ext-getD, getD-append-add, getD-append-seam, getD-take, getD-drop}
 use Rattle.util.specs.Word.{le, put, bytes}
 use Rattle.util.specs.Part.{part}

@@ -1,12 +1,12 @@
 -- A range of signed numbers is tested by one addition that wraps.
 use mathlib.Core.Path.{_≡_, refl}
 use mathlib.Core.Bool.{Bool, true, false, _&&_}
-use Prim.Native.Nat.{ℕ, zero, suc, _+_, _-_, _*_, _/_, _%_, _^_, _<_, _≤_}
+use Prim.Native.Nat.{ℕ, zero, suc, _+_, _-_, _%_, _^_, _<_, _≤_}
 use native.Mathlib.Omega.{arith}
-use borrow.Author.Tests.{lt-ltb, le-ltb, le-leb, lt-leb, ltb-true, ltb-false, leb-true, leb-false}
+use borrow.Author.Tests.{lt-ltb, le-ltb, ltb-true, ltb-false, leb-true, leb-false}
 use lib.Dec.{ltb, leb}
 use Rattle.util.specs.Choice.{choose}
-use Rattle.util.specs.Wrap.{signed, inRange}
+use Rattle.util.specs.Wrap.{inRange}
 
 -- two tests agree
 pub agree : (a b c d : ℕ) → (c < d → a < b) → (d ≤ c → b ≤ a) → (t : Bool) → ltb c d ≡ t → ltb a b ≡ t

@@ -1,6 +1,6 @@
 -- An encoding diagram: the fields of a word from bit 0 upwards, each with its number of bits (RULES 7.2, 7.3).
 use Prim.Native.Nat.{ℕ, _+_, _-_, _*_, _/_, _%_, _^_}
-use mathlib.Core.Bool.{Bool, true, false, _&&_}
+use mathlib.Core.Bool.{Bool, true, _&&_}
 use mathlib.Core.List.{List, [], _∷_}
 use lib.Dec.{eqb, ltb}
 

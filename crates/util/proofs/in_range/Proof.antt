@@ -4,9 +4,6 @@ use Rattle.util.proofs.Range.{range-pos}
 use borrow.Author.Needs.{needs}
 use Rattle.util.proofs.in_range.Statement.{statement}
 use Rattle.util.proofs.in_range.Tie as tie
-use Rattle.util.proofs.in_range.Reads as reads
-use Rattle.util.proofs.in_range.Lts as lts
-use Rattle.util.proofs.wrapping_add.Reads as wrapping-add-reads
 
 wrapping-add-requires : tie.Need-wrapping-add-requires
 wrapping-add-requires c κs = search needs

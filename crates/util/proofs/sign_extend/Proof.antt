@@ -9,8 +9,6 @@ use Rattle.util.specs.Choice.{choose}
 use borrow.Author.Needs.{needs}
 use Rattle.util.proofs.sign_extend.Statement.{statement}
 use Rattle.util.proofs.sign_extend.Tie as tie
-use Rattle.util.proofs.sign_extend.Reads as reads
-use Rattle.util.proofs.sign_extend.Lts as lts
 
 shl-low : tie.Need-shl-low
 shl-low c = search needs
