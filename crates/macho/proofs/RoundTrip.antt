@@ -16,7 +16,7 @@ use Rattle.macho.specs.MachRel.{machRelSize, machRelAt, machRelFields, m
 use Rattle.macho.specs.Reloc.{relocSize, relocAt, relocFields, relocBytes}
 use Rattle.macho.specs.Resolved.{resolvedSize, resolvedAt, resolvedFields, resolvedBytes}
 use Rattle.macho.specs.Report.{reportSize, reportAt, reportFields, reportBytes}
-use Rattle.macho.specs.Hint.{hintSize, insnAt, hintAt, insnFields, hintFields, hintBytes}
+use Rattle.macho.specs.Hint.{hintSize, insnAt, hintAt, hintFields, hintBytes}
 use Rattle.macho.specs.declared.reloc.Reloc.{Reloc}
 use Rattle.macho.proofs.Record.{length-bytesOf, HoldsFrom, held, part-held, held-ext, held-unused}
 

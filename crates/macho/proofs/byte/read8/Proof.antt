@@ -5,8 +5,6 @@ use Rattle.util.proofs.Word.{le-one}
 use borrow.Author.Needs.{needs}
 use Rattle.macho.proofs.byte.read8.Statement.{statement}
 use Rattle.macho.proofs.byte.read8.Tie as tie
-use Rattle.macho.proofs.byte.read8.Reads as reads
-use Rattle.macho.proofs.byte.read8.Lts as lts
 
 shared-slice-read-result : tie.Need-shared-slice-read-result
 shared-slice-read-result c = search needs

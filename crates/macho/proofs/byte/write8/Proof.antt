@@ -7,8 +7,6 @@ use native.Mathlib.Nat.{add-zero, div-one}
 use borrow.Author.Needs.{needs}
 use Rattle.macho.proofs.byte.write8.Statement.{statement}
 use Rattle.macho.proofs.byte.write8.Tie as tie
-use Rattle.macho.proofs.byte.write8.Reads as reads
-use Rattle.macho.proofs.byte.write8.Lts as lts
 
 slice-write-s : tie.Need-slice-write-s
 slice-write-s c = search needs

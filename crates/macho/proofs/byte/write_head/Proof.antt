@@ -3,10 +3,6 @@ use Rattle.macho.proofs.Record.{puts}
 use borrow.Author.Needs.{needs}
 use Rattle.macho.proofs.byte.write_head.Statement.{statement}
 use Rattle.macho.proofs.byte.write_head.Tie as tie
-use Rattle.macho.proofs.byte.write_head.Reads as reads
-use Rattle.macho.proofs.byte.write_head.Lts as lts
-use Rattle.macho.proofs.byte.write8.Reads as write8-reads
-use Rattle.util.proofs.write32.Reads as write32-reads
 
 write32-requires : tie.Need-write32-requires
 write32-requires c κs = search needs

@@ -5,8 +5,6 @@ use Rattle.util.specs.Choice.{choose}
 use Rattle.macho.specs.Hint.{wordCount}
 use Rattle.macho.proofs.hint.word_count.Statement.{statement}
 use Rattle.macho.proofs.hint.word_count.Tie as tie
-use Rattle.macho.proofs.hint.word_count.Reads as reads
-use Rattle.macho.proofs.hint.word_count.Lts as lts
 
 returns : tie.Need-returns
 unfolding wordCount choose

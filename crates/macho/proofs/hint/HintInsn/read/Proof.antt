@@ -3,10 +3,6 @@ use Rattle.macho.specs.Hint.{insnAt}
 use borrow.Author.Needs.{needs}
 use Rattle.macho.proofs.hint.HintInsn.read.Statement.{statement}
 use Rattle.macho.proofs.hint.HintInsn.read.Tie as tie
-use Rattle.macho.proofs.hint.HintInsn.read.Reads as reads
-use Rattle.macho.proofs.hint.HintInsn.read.Lts as lts
-use Rattle.util.proofs.read32.Reads as read32-reads
-use Rattle.util.proofs.read64.Reads as read64-reads
 
 read32-requires : tie.Need-read32-requires
 read32-requires c κs = search needs

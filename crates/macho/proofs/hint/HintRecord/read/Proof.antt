@@ -3,11 +3,6 @@ use Rattle.macho.specs.Hint.{hintAt}
 use borrow.Author.Needs.{needs}
 use Rattle.macho.proofs.hint.HintRecord.read.Statement.{statement}
 use Rattle.macho.proofs.hint.HintRecord.read.Tie as tie
-use Rattle.macho.proofs.hint.HintRecord.read.Reads as reads
-use Rattle.macho.proofs.hint.HintRecord.read.Lts as lts
-use Rattle.macho.proofs.hint.HintInsn.read.Reads as read-reads
-use Rattle.macho.proofs.byte.read8.Reads as read8-reads
-use Rattle.util.proofs.read32.Reads as read32-reads
 
 read8-requires : tie.Need-read8-requires
 read8-requires c κs = search needs
@@ -57,15 +52,18 @@ read-requires-3 c κs = search needs
 returns : tie.Need-returns
 unfolding hintAt
 returns c =
+    let read323 = c .before .before .before in
+    let read32 = read323 .before .before in
+    let read8 = read32 .before .before in
     simp (
       c .read3 .ensures,
       c .before .read2 .ensures,
       c .before .before .read .ensures,
-      c .before .before .before .read323 .ensures,
-      c .before .before .before .before .read322 .ensures,
-      c .before .before .before .before .before .read32 .ensures,
-      c .before .before .before .before .before .before .read82 .ensures,
-      c .before .before .before .before .before .before .before .read8 .ensures,
+      read323 .read323 .ensures,
+      read323 .before .read322 .ensures,
+      read32 .read32 .ensures,
+      read32 .before .read82 .ensures,
+      read8 .read8 .ensures,
     )
 
 pub read-spec : {M : Type 1} → statement M

@@ -3,9 +3,6 @@ use Rattle.macho.specs.MachRel.{machRelAt}
 use borrow.Author.Needs.{needs}
 use Rattle.macho.proofs.rel.MachRel.read.Statement.{statement}
 use Rattle.macho.proofs.rel.MachRel.read.Tie as tie
-use Rattle.macho.proofs.rel.MachRel.read.Reads as reads
-use Rattle.macho.proofs.rel.MachRel.read.Lts as lts
-use Rattle.util.proofs.read32.Reads as read32-reads
 
 read32-requires : tie.Need-read32-requires
 read32-requires c κs = search needs

@@ -3,11 +3,6 @@ use Rattle.macho.specs.Reloc.{relocAt}
 use borrow.Author.Needs.{needs}
 use Rattle.macho.proofs.reloc.Reloc.read.Statement.{statement}
 use Rattle.macho.proofs.reloc.Reloc.read.Tie as tie
-use Rattle.macho.proofs.reloc.Reloc.read.Reads as reads
-use Rattle.macho.proofs.reloc.Reloc.read.Lts as lts
-use Rattle.macho.proofs.byte.read8.Reads as read8-reads
-use Rattle.util.proofs.read32.Reads as read32-reads
-use Rattle.util.proofs.read64.Reads as read64-reads
 
 read32-requires : tie.Need-read32-requires
 read32-requires c κs = search needs
@@ -57,15 +52,18 @@ read64-requires c κs = search needs
 returns : tie.Need-returns
 unfolding relocAt
 returns c =
+    let read84 = c .before .before .before in
+    let read82 = read84 .before .before in
+    let read32 = read82 .before .before in
     simp (
       c .read64 .ensures,
       c .before .read323 .ensures,
       c .before .before .read322 .ensures,
-      c .before .before .before .read84 .ensures,
-      c .before .before .before .before .read83 .ensures,
-      c .before .before .before .before .before .read82 .ensures,
-      c .before .before .before .before .before .before .read8 .ensures,
-      c .before .before .before .before .before .before .before .read32 .ensures,
+      read84 .read84 .ensures,
+      read84 .before .read83 .ensures,
+      read82 .read82 .ensures,
+      read82 .before .read8 .ensures,
+      read32 .read32 .ensures,
     )
 
 pub read-spec : {M : Type 1} → statement M

@@ -6,11 +6,6 @@ use Rattle.macho.proofs.Record.{puts-after}
 use borrow.Author.Needs.{needs}
 use Rattle.macho.proofs.reloc.Reloc.write.Statement.{statement}
 use Rattle.macho.proofs.reloc.Reloc.write.Tie as tie
-use Rattle.macho.proofs.reloc.Reloc.write.Reads as reads
-use Rattle.macho.proofs.reloc.Reloc.write.Lts as lts
-use Rattle.macho.proofs.byte.write_head.Reads as write-head-reads
-use Rattle.util.proofs.write32.Reads as write32-reads
-use Rattle.util.proofs.write64.Reads as write64-reads
 
 write-head-requires : tie.Need-write-head-requires
 write-head-requires c κs = search needs

@@ -3,11 +3,6 @@ use Rattle.macho.specs.Report.{reportAt}
 use borrow.Author.Needs.{needs}
 use Rattle.macho.proofs.report.Report.read.Statement.{statement}
 use Rattle.macho.proofs.report.Report.read.Tie as tie
-use Rattle.macho.proofs.report.Report.read.Reads as reads
-use Rattle.macho.proofs.report.Report.read.Lts as lts
-use Rattle.macho.proofs.byte.read8.Reads as read8-reads
-use Rattle.util.proofs.read32.Reads as read32-reads
-use Rattle.util.proofs.read64.Reads as read64-reads
 
 read32-requires : tie.Need-read32-requires
 read32-requires c κs = search needs

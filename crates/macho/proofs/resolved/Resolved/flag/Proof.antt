@@ -6,8 +6,6 @@ use lib.Dec.{eqb}
 use borrow.Author.Needs.{needs}
 use Rattle.macho.proofs.resolved.Resolved.flag.Statement.{statement}
 use Rattle.macho.proofs.resolved.Resolved.flag.Tie as tie
-use Rattle.macho.proofs.resolved.Resolved.flag.Reads as reads
-use Rattle.macho.proofs.resolved.Resolved.flag.Lts as lts
 
 shr-result : tie.Need-shr-result
 shr-result c = search needs

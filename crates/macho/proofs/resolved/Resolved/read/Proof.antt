@@ -3,10 +3,6 @@ use Rattle.macho.specs.Resolved.{resolvedAt}
 use borrow.Author.Needs.{needs}
 use Rattle.macho.proofs.resolved.Resolved.read.Statement.{statement}
 use Rattle.macho.proofs.resolved.Resolved.read.Tie as tie
-use Rattle.macho.proofs.resolved.Resolved.read.Reads as reads
-use Rattle.macho.proofs.resolved.Resolved.read.Lts as lts
-use Rattle.util.proofs.read32.Reads as read32-reads
-use Rattle.util.proofs.read64.Reads as read64-reads
 
 read64-requires : tie.Need-read64-requires
 read64-requires c κs = search needs
@@ -50,14 +46,16 @@ read32-requires-2 c κs = search needs
 returns : tie.Need-returns
 unfolding resolvedAt
 returns c =
+    let read644 = c .before .before .before in
+    let read642 = read644 .before .before in
     simp (
       c .read322 .ensures,
       c .before .read32 .ensures,
       c .before .before .read645 .ensures,
-      c .before .before .before .read644 .ensures,
-      c .before .before .before .before .read643 .ensures,
-      c .before .before .before .before .before .read642 .ensures,
-      c .before .before .before .before .before .before .read64 .ensures,
+      read644 .read644 .ensures,
+      read644 .before .read643 .ensures,
+      read642 .read642 .ensures,
+      read642 .before .read64 .ensures,
     )
 
 pub read-spec : {M : Type 1} → statement M
