@@ -40,7 +40,8 @@ returns-2 : tie.Need-returns-2
 unfolding choose
 returns-2 c =
     let k = c .before .before .before in
-    rw (← k .before .idx .ensures, section-of _ (k .before .idx .result) _ (k .if1 .left)) (simp (lt-ltb _ _ (c .before .before .if2 .taken), c .wrapping-sub .ensures))
+    rw (← k .before .idx .ensures, section-of _ (k .before .idx .result) _ (k .if1 .left))
+    (simp (lt-ltb _ _ (c .before .before .if2 .taken), c .wrapping-sub .ensures))
 
 returns-3 : tie.Need-returns-3
 unfolding choose
