@@ -4,8 +4,6 @@ use Rattle.util.specs.Choice.{choose}
 use borrow.Author.Needs.{needs}
 use Rattle.lister_text.proofs.digit.Statement.{statement}
 use Rattle.lister_text.proofs.digit.Tie as tie
-use Rattle.lister_text.proofs.digit.Reads as reads
-use Rattle.lister_text.proofs.digit.Lts as lts
 
 add-result : tie.Need-add-result
 add-result c = search needs

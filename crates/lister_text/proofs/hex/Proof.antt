@@ -4,9 +4,6 @@ use Rattle.lister_text.specs.Text.{hexOf}
 use borrow.Author.Needs.{needs}
 use Rattle.lister_text.proofs.hex.Statement.{statement}
 use Rattle.lister_text.proofs.hex.Tie as tie
-use Rattle.lister_text.proofs.hex.Reads as reads
-use Rattle.lister_text.proofs.hex.Lts as lts
-use Rattle.lister_text.proofs.digit.Reads as digit-reads
 
 digit-requires : tie.Need-digit-requires
 digit-requires c κs = search needs

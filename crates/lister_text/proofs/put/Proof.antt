@@ -8,8 +8,6 @@ use lib.Seq.{sets}
 use Rattle.lister_text.proofs.Stores.{put-next, put-all}
 use Rattle.lister_text.proofs.put.Statement.{statement}
 use Rattle.lister_text.proofs.put.Tie as tie
-use Rattle.lister_text.proofs.put.Reads as reads
-use Rattle.lister_text.proofs.put.Lts as lts
 
 abbrev Inv-loop : tie.InvT-loop
 Inv-loop out₀ at text i₀ out i = (i ≤ length text) × (length out ≡ length out₀) × (out ≡ sets out₀ at (take i text))

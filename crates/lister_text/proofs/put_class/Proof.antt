@@ -4,10 +4,6 @@ use Rattle.lister_text.proofs.Stores.{put-then}
 use borrow.Author.Needs.{needs}
 use Rattle.lister_text.proofs.put_class.Statement.{statement}
 use Rattle.lister_text.proofs.put_class.Tie as tie
-use Rattle.lister_text.proofs.put_class.Reads as reads
-use Rattle.lister_text.proofs.put_class.Lts as lts
-use Rattle.lister_text.proofs.put.Reads as put-reads
-use Rattle.lister_text.proofs.put_size.Reads as put-size-reads
 
 enum-told : tie.Need-enum-told
 enum-told c = search needs
@@ -80,8 +76,10 @@ same-length-3 c = search needs
 returns-3 : tie.Need-returns-3
 unfolding className
 returns-3 c =
-    let k = c .before .before .before .before .before .before in
-    rw (k .before .before .before .before .class .given .1) (put-then (k .put3 .ensures) (c .before .before .put-size .ensures))
+    let put-size = c .before .before in
+    let put3 = put-size .before .before .before .before in
+    let class = put3 .before .before .before .before in
+    rw (class .class .given .1) (put-then (put3 .put3 .ensures) (put-size .put-size .ensures))
 
 same-length-4 : tie.Need-same-length-4
 same-length-4 c = search needs
@@ -89,8 +87,10 @@ same-length-4 c = search needs
 returns-4 : tie.Need-returns-4
 unfolding className
 returns-4 c =
-    let k = c .before .before .before .before .before .before in
-    rw (k .before .before .before .before .class2 .given .1) (put-then (k .put4 .ensures) (c .before .before .put-size2 .ensures))
+    let put-size2 = c .before .before in
+    let put4 = put-size2 .before .before .before .before in
+    let class2 = put4 .before .before .before .before in
+    rw (class2 .class2 .given .1) (put-then (put4 .put4 .ensures) (put-size2 .put-size2 .ensures))
 
 same-length-5 : tie.Need-same-length-5
 same-length-5 c = search needs

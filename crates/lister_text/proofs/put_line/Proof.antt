@@ -4,12 +4,6 @@ use Rattle.lister_text.proofs.Stores.{put-then}
 use borrow.Author.Needs.{needs}
 use Rattle.lister_text.proofs.put_line.Statement.{statement}
 use Rattle.lister_text.proofs.put_line.Tie as tie
-use Rattle.lister_text.proofs.put_line.Reads as reads
-use Rattle.lister_text.proofs.put_line.Lts as lts
-use Rattle.lister_text.proofs.class.class_of.Reads as class-of-reads
-use Rattle.lister_text.proofs.hex.Reads as hex-reads
-use Rattle.lister_text.proofs.put.Reads as put-reads
-use Rattle.lister_text.proofs.put_class.Reads as put-class-reads
 
 hex-requires : tie.Need-hex-requires
 hex-requires c κs = search needs
@@ -41,11 +35,12 @@ same-length c = search needs
 returns : tie.Need-returns
 unfolding lineOf
 returns c =
-    let k = c .before .before .before .before .before .before .before in
-    let h = k .before .before .before .before .before in
-    let x = h .before .before .before in
-    rw (← x .before .hex .ensures, ← x .hex2 .ensures, ← c .before .before .before .class-of .ensures)
-    (put-then (h .put .ensures) (put-then (k .put2 .ensures) (c .before .before .put-class .ensures)))
+    let class-of = c .before .before .before in
+    let put2 = class-of .before .before .before .before in
+    let put = put2 .before .before .before .before .before in
+    let hex2 = put .before .before .before in
+    rw (← hex2 .before .hex .ensures, ← hex2 .hex2 .ensures, ← class-of .class-of .ensures)
+    (put-then (put .put .ensures) (put-then (put2 .put2 .ensures) (c .before .before .put-class .ensures)))
 
 pub put-line-spec : {M : Type 1} → statement M
 put-line-spec =

@@ -9,10 +9,6 @@ use Rattle.lister_text.specs.Puts.{Puts}
 use Rattle.lister_text.proofs.Lines.{lines-length, no-line, next-line}
 use Rattle.lister_text.proofs.put_lines.Statement.{statement}
 use Rattle.lister_text.proofs.put_lines.Tie as tie
-use Rattle.lister_text.proofs.put_lines.Reads as reads
-use Rattle.lister_text.proofs.put_lines.Lts as lts
-use Rattle.lister_text.proofs.put_line.Reads as put-line-reads
-use Rattle.util.proofs.read32.Reads as read32-reads
 
 abbrev Inv-loop : tie.InvT-loop
 Inv-loop input out₀ n i₀ at₀ out i at = (i ≤ length input / 4) × (length out ≡ length out₀) × Puts out₀ 0 (linesOf input i) at out
@@ -37,8 +33,9 @@ read32-requires c κs = omega arith
 
 put-line-requires : tie.Need-put-line-requires Inv-loop μ-loop
 put-line-requires c κs =
-    let p = c .before .before .before .loop in
-    omega (arith, lines-length (c .before .before .before .before .before .before .args .input .now) (p .i), p .inv .2 .ends)
+    let head = c .before .before .before in
+    let p = head .loop in
+    omega (arith, lines-length (head .before .before .before .args .input .now) (p .i), p .inv .2 .ends)
 
 add-i : tie.Need-add-i Inv-loop μ-loop
 add-i c = omega arith
@@ -48,8 +45,10 @@ loop-less c = omega arith
 
 loop-again : tie.Need-loop-again Inv-loop μ-loop
 loop-again c =
-    let p = c .before .before .before .before .before .before .loop in
-    (omega arith, omega arith, next-line _ (p .i) _ (p .inv .2) (c .before .before .before .read32 .ensures) (c .before .before .put-line .ensures))
+    let read32 = c .before .before .before in
+    let head = read32 .before .before .before in
+    let p = head .loop in
+    (omega arith, omega arith, next-line _ (p .i) _ (p .inv .2) (read32 .read32 .ensures) (c .before .before .put-line .ensures))
 
 same-length : tie.Need-same-length Inv-loop μ-loop
 same-length c = omega arith

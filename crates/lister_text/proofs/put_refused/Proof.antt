@@ -27,8 +27,9 @@ same-length c = search needs
 
 returns : tie.Need-returns
 returns c =
-    let a = c .before .before .before .before .before .before .before .args in
-    let d = c .before .before .before .before .before .digit in
+    let digit = c .before .before .before .before .before in
+    let a = digit .before .before .args in
+    let d = digit .digit in
     let e : d .result ≡ 48 + a .number = d .ensures ∙ choose-true _ _ _ (lt-ltb (a .number) 10 (search needs)) in
     let p = c .before .before .put in
     subst (λ (k : ℕ). Puts (a .out .now) 0 (ending k) (p .result) (p .last .0)) e (p .ensures)

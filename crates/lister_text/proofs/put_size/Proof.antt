@@ -4,10 +4,6 @@ use Rattle.lister_text.proofs.Decimal.{one-digit, two-digits}
 use borrow.Author.Needs.{needs}
 use Rattle.lister_text.proofs.put_size.Statement.{statement}
 use Rattle.lister_text.proofs.put_size.Tie as tie
-use Rattle.lister_text.proofs.put_size.Reads as reads
-use Rattle.lister_text.proofs.put_size.Lts as lts
-use Rattle.lister_text.proofs.digit.Reads as digit-reads
-use Rattle.lister_text.proofs.put.Reads as put-reads
 
 cast-digit : tie.Need-cast-digit
 cast-digit c = search needs

@@ -16,25 +16,30 @@ number-requires c κs = search needs
 
 put-refused-requires : tie.Need-put-refused-requires
 put-refused-requires c κs =
-    let k = c .before .before .before .before .before .list .ensures in
-    let a = c .before .before .before .before .before .before .before .before .args in
-    (search needs, one-digit (a .input .now) (a .out .now) (search needs) _ _ k (c .before .before .before .refusal .given .1) _ (c .number .ensures))
+    let refusal = c .before .before .before in
+    let list = refusal .before .before in
+    let k = list .list .ensures in
+    let a = list .before .before .before .args in
+    (search needs, one-digit (a .input .now) (a .out .now) (search needs) _ _ k (refusal .refusal .given .1) _ (c .number .ensures))
 
 enum-known-n : tie.Need-enum-known-n
 enum-known-n c = search needs
 
 returns : tie.Need-returns
 returns c =
-    let k = c .before .before .before .before .before .before .list .ensures in
-    let a = c .before .before .before .before .before .before .before .before .before .args in
-    let e = c .before .before .before .before .refusal .given .1 in
+    let refusal = c .before .before .before .before in
+    let list = refusal .before .before in
+    let k = list .list .ensures in
+    let a = list .before .before .before .args in
+    let e = refusal .refusal .given .1 in
     let p = text-refused (a .input .now) (a .out .now) (search needs) _ _ k e _ (c .before .number .ensures) (c .put-refused .ensures) in
     (p, counts _ p)
 
 returns-2 : tie.Need-returns-2
 returns-2 c =
-    let k = c .before .before .before .list .ensures in
-    let a = c .before .before .before .before .before .before .args in
+    let list = c .before .before .before in
+    let k = list .list .ensures in
+    let a = list .before .before .before .args in
     let p = text-filled (a .input .now) (a .out .now) (search needs) _ _ k (c .before .n .given .1) in
     (p, counts _ p)
 

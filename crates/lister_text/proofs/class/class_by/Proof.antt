@@ -3,8 +3,6 @@ use Rattle.lister_text.proofs.Classes.{stores, loads}
 use borrow.Author.Needs.{needs}
 use Rattle.lister_text.proofs.class.class_by.Statement.{statement}
 use Rattle.lister_text.proofs.class.class_by.Tie as tie
-use Rattle.lister_text.proofs.class.class_by.Reads as reads
-use Rattle.lister_text.proofs.class.class_by.Lts as lts
 
 enum-told : tie.Need-enum-told
 enum-told c = search needs

@@ -3,12 +3,6 @@ use Rattle.lister_text.specs.Class.{classOf}
 use borrow.Author.Needs.{needs}
 use Rattle.lister_text.proofs.class.class_of.Statement.{statement}
 use Rattle.lister_text.proofs.class.class_of.Tie as tie
-use Rattle.lister_text.proofs.class.class_of.Reads as reads
-use Rattle.lister_text.proofs.class.class_of.Lts as lts
-use Rattle.arm64_insn.proofs.add.Add.decode.Reads as add-Add-decode-reads
-use Rattle.arm64_insn.proofs.adrp.Adrp.decode.Reads as adrp-Adrp-decode-reads
-use Rattle.arm64_insn.proofs.ldst.LoadStore.decode.Reads as ldst-LoadStore-decode-reads
-use Rattle.lister_text.proofs.class.class_by.Reads as class-by-reads
 
 decode-requires : tie.Need-decode-requires
 decode-requires c κs = search needs
