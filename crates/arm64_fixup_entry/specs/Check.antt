@@ -1,5 +1,5 @@
 -- Which number an entry of a fix-up is turned down with (RULES 5.5 to 5.8).
-use Prim.Native.Nat.{ℕ, _+_, _-_, _^_}
+use Prim.Native.Nat.{ℕ, _-_, _^_}
 use mathlib.Core.Bool.{Bool, _&&_, _||_, not}
 use lib.Dec.{eqb, ltb, leb}
 use Rattle.util.specs.Choice.{choose}

@@ -1,19 +1,9 @@
 -- `branch` meets its contract: the two reach tests decide the choices.
-use borrow.Author.Tests.{eq-eqb, ne-eqb, le-leb, lt-leb, lt-ltb, le-ltb, not-true, not-false}
 use Rattle.arm64_fixup_entry.specs.Change.{branch}
 use Rattle.util.specs.Choice.{choose}
 use borrow.Author.Needs.{needs}
 use Rattle.arm64_fixup_entry.proofs.change.branch.Statement.{statement}
 use Rattle.arm64_fixup_entry.proofs.change.branch.Tie as tie
-use Rattle.arm64_fixup_entry.proofs.change.branch.Reads as reads
-use Rattle.arm64_fixup_entry.proofs.change.branch.Lts as lts
-use Rattle.arm64_fixup_entry.proofs.change.branch_target.Reads as branch-target-reads
-use Rattle.arm64_fixup_entry.proofs.change.out_of_reach.Reads as out-of-reach-reads
-use Rattle.arm64_fixup_entry.proofs.change.silent.Reads as silent-reads
-use Rattle.arm64_fixup_entry.proofs.change.thunk_serves.Reads as thunk-serves-reads
-use Rattle.arm64_insn.proofs.branch.branch_reaches.Reads as branch-reaches-reads
-use Rattle.arm64_insn.proofs.branch.branch_word.Reads as branch-word-reads
-use Rattle.util.proofs.wrapping_sub.Reads as wrapping-sub-reads
 
 branch-target-requires : tie.Need-branch-target-requires
 branch-target-requires c κs = search needs
@@ -57,17 +47,21 @@ silent-requires-2 c κs = search needs
 returns-2 : tie.Need-returns-2
 unfolding branch choose
 returns-2 c =
+    let if2 = c .before .before .before in
+    let if1 = if2 .before .before in
+    let branch-word = if1 .before .before in
+    let branch-target = branch-word .before .before in
     simp (
       c .silent2 .ensures,
       c .before .branch-word2 .ensures,
       c .before .before .wrapping-sub2 .ensures,
-      c .before .before .before .if2 .taken,
-      ← c .before .before .before .before .thunk-serves .ensures,
-      c .before .before .before .before .before .if1 .left,
-      ← c .before .before .before .before .before .before .branch-reaches .ensures,
-      ← c .before .before .before .before .before .before .before .branch-word .ensures,
-      ← c .before .before .before .before .before .before .before .before .wrapping-sub .ensures,
-      ← c .before .before .before .before .before .before .before .before .before .branch-target .ensures,
+      if2 .if2 .taken,
+      ← if2 .before .thunk-serves .ensures,
+      if1 .if1 .left,
+      ← if1 .before .branch-reaches .ensures,
+      ← branch-word .branch-word .ensures,
+      ← branch-word .before .wrapping-sub .ensures,
+      ← branch-target .branch-target .ensures,
     )
 
 out-of-reach-requires : tie.Need-out-of-reach-requires
@@ -76,15 +70,18 @@ out-of-reach-requires c κs = search needs
 returns-3 : tie.Need-returns-3
 unfolding branch choose
 returns-3 c =
+    let if1 = c .before .before .before in
+    let branch-word = if1 .before .before in
+    let branch-target = branch-word .before .before in
     simp (
       c .out-of-reach .ensures,
       c .before .if2 .left,
       ← c .before .before .thunk-serves .ensures,
-      c .before .before .before .if1 .left,
-      ← c .before .before .before .before .branch-reaches .ensures,
-      ← c .before .before .before .before .before .branch-word .ensures,
-      ← c .before .before .before .before .before .before .wrapping-sub .ensures,
-      ← c .before .before .before .before .before .before .before .branch-target .ensures,
+      if1 .if1 .left,
+      ← if1 .before .branch-reaches .ensures,
+      ← branch-word .branch-word .ensures,
+      ← branch-word .before .wrapping-sub .ensures,
+      ← branch-target .branch-target .ensures,
     )
 
 pub branch-spec : {M : Type 1} → statement M

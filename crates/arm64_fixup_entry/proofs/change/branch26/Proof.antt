@@ -1,14 +1,7 @@
 -- `branch26` meets its contract: the tracing site's answer decides the case.
-use borrow.Author.Tests.{eq-eqb, ne-eqb, le-leb, lt-leb, lt-ltb, le-ltb, not-true, not-false}
-use Rattle.arm64_fixup_entry.specs.Change.{branchUnless}
 use borrow.Author.Needs.{needs}
 use Rattle.arm64_fixup_entry.proofs.change.branch26.Statement.{statement}
 use Rattle.arm64_fixup_entry.proofs.change.branch26.Tie as tie
-use Rattle.arm64_fixup_entry.proofs.change.branch26.Reads as reads
-use Rattle.arm64_fixup_entry.proofs.change.branch26.Lts as lts
-use Rattle.arm64_fixup_entry.proofs.change.branch.Reads as branch-reads
-use Rattle.arm64_fixup_entry.proofs.change.dtrace_site_insn.Reads as dtrace-site-insn-reads
-use Rattle.arm64_fixup_entry.proofs.change.silent.Reads as silent-reads
 
 dtrace-site-insn-requires : tie.Need-dtrace-site-insn-requires
 dtrace-site-insn-requires c κs = search needs

@@ -1,14 +1,9 @@
 -- `branch_target` meets its contract: the kind of target decides the choice.
-use borrow.Author.Tests.{eq-eqb, ne-eqb, le-leb, lt-leb, lt-ltb, le-ltb, not-true, not-false}
 use Rattle.arm64_fixup_entry.specs.Change.{branchTarget}
 use Rattle.util.specs.Choice.{choose}
 use borrow.Author.Needs.{needs}
 use Rattle.arm64_fixup_entry.proofs.change.branch_target.Statement.{statement}
 use Rattle.arm64_fixup_entry.proofs.change.branch_target.Tie as tie
-use Rattle.arm64_fixup_entry.proofs.change.branch_target.Reads as reads
-use Rattle.arm64_fixup_entry.proofs.change.branch_target.Lts as lts
-use Rattle.macho.proofs.reloc.Reloc.is_section.Reads as is-section-reads
-use Rattle.util.proofs.wrapping_add.Reads as wrapping-add-reads
 
 is-section-requires : tie.Need-is-section-requires
 is-section-requires c κs = search needs

@@ -1,13 +1,8 @@
 -- `can_relax` meets its contract: the tests on the way to each return decide the disjunction.
-use borrow.Author.Tests.{eq-eqb, ne-eqb, le-leb, lt-leb, lt-ltb, le-ltb, not-true, not-false}
-use Rattle.arm64_fixup_entry.specs.Change.{canRelax}
+use borrow.Author.Tests.{eq-eqb, ne-eqb}
 use borrow.Author.Needs.{needs}
 use Rattle.arm64_fixup_entry.proofs.change.can_relax.Statement.{statement}
 use Rattle.arm64_fixup_entry.proofs.change.can_relax.Tie as tie
-use Rattle.arm64_fixup_entry.proofs.change.can_relax.Reads as reads
-use Rattle.arm64_fixup_entry.proofs.change.can_relax.Lts as lts
-use Rattle.arm64_insn.proofs.add.is_add.Reads as is-add-reads
-use Rattle.arm64_insn.proofs.ldst.is_ldr_imm.Reads as is-ldr-imm-reads
 
 is-ldr-imm-requires : tie.Need-is-ldr-imm-requires
 is-ldr-imm-requires c κs = search needs

@@ -1,13 +1,10 @@
 -- `difference` meets its contract: the size field decides the choice.
-use borrow.Author.Tests.{eq-eqb, ne-eqb, le-leb, lt-leb, lt-ltb, le-ltb, not-true, not-false}
+use borrow.Author.Tests.{eq-eqb, ne-eqb}
 use Rattle.arm64_fixup_entry.specs.Change.{difference}
 use Rattle.util.specs.Choice.{choose}
 use borrow.Author.Needs.{needs}
 use Rattle.arm64_fixup_entry.proofs.change.difference.Statement.{statement}
 use Rattle.arm64_fixup_entry.proofs.change.difference.Tie as tie
-use Rattle.arm64_fixup_entry.proofs.change.difference.Reads as reads
-use Rattle.arm64_fixup_entry.proofs.change.difference.Lts as lts
-use Rattle.arm64_fixup_entry.proofs.change.silent.Reads as silent-reads
 
 cast-t5 : tie.Need-cast-t5
 cast-t5 c = search needs

@@ -1,15 +1,9 @@
 -- `dtrace_site_insn` meets its contract: kind of target and flags decide the choices.
-use borrow.Author.Tests.{eq-eqb, ne-eqb, le-leb, lt-leb, lt-ltb, le-ltb, not-true, not-false}
 use Rattle.arm64_fixup_entry.specs.Change.{dtraceSiteInsn}
 use Rattle.util.specs.Choice.{choose}
 use borrow.Author.Needs.{needs}
 use Rattle.arm64_fixup_entry.proofs.change.dtrace_site_insn.Statement.{statement}
 use Rattle.arm64_fixup_entry.proofs.change.dtrace_site_insn.Tie as tie
-use Rattle.arm64_fixup_entry.proofs.change.dtrace_site_insn.Reads as reads
-use Rattle.arm64_fixup_entry.proofs.change.dtrace_site_insn.Lts as lts
-use Rattle.macho.proofs.reloc.Reloc.is_section.Reads as is-section-reads
-use Rattle.macho.proofs.resolved.Resolved.is_enabled.Reads as is-enabled-reads
-use Rattle.macho.proofs.resolved.Resolved.is_probe.Reads as is-probe-reads
 
 is-section-requires : tie.Need-is-section-requires
 is-section-requires c κs = search needs

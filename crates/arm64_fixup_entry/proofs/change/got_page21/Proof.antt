@@ -1,19 +1,9 @@
 -- `got_page21` meets its contract: the flag decides the choice.
-use borrow.Author.Tests.{eq-eqb, ne-eqb, le-leb, lt-leb, lt-ltb, le-ltb, not-true, not-false}
 use Rattle.arm64_fixup_entry.specs.Change.{gotPage21}
 use Rattle.util.specs.Choice.{choose}
 use borrow.Author.Needs.{needs}
 use Rattle.arm64_fixup_entry.proofs.change.got_page21.Statement.{statement}
 use Rattle.arm64_fixup_entry.proofs.change.got_page21.Tie as tie
-use Rattle.arm64_fixup_entry.proofs.change.got_page21.Reads as reads
-use Rattle.arm64_fixup_entry.proofs.change.got_page21.Lts as lts
-use Rattle.arm64_fixup_entry.proofs.change.page21.Reads as page21-reads
-use Rattle.arm64_fixup_entry.proofs.change.silent.Reads as silent-reads
-use Rattle.arm64_fixup_entry.proofs.target.got_target.Reads as got-target-reads
-use Rattle.arm64_insn.proofs.branch.helper_word.Reads as helper-word-reads
-use Rattle.macho.proofs.resolved.Resolved.has_helper.Reads as has-helper-reads
-use Rattle.macho.proofs.resolved.Resolved.helper_is_own.Reads as helper-is-own-reads
-use Rattle.util.proofs.wrapping_sub.Reads as wrapping-sub-reads
 
 has-helper-requires : tie.Need-has-helper-requires
 has-helper-requires c κs = search needs

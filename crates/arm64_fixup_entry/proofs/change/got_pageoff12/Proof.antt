@@ -1,17 +1,9 @@
 -- `got_pageoff12` meets its contract: the flag decides the choice.
-use borrow.Author.Tests.{eq-eqb, ne-eqb, le-leb, lt-leb, lt-ltb, le-ltb, not-true, not-false}
 use Rattle.arm64_fixup_entry.specs.Change.{gotPageoff12}
 use Rattle.util.specs.Choice.{choose}
 use borrow.Author.Needs.{needs}
 use Rattle.arm64_fixup_entry.proofs.change.got_pageoff12.Statement.{statement}
 use Rattle.arm64_fixup_entry.proofs.change.got_pageoff12.Tie as tie
-use Rattle.arm64_fixup_entry.proofs.change.got_pageoff12.Reads as reads
-use Rattle.arm64_fixup_entry.proofs.change.got_pageoff12.Lts as lts
-use Rattle.arm64_fixup_entry.proofs.change.pageoff12.Reads as pageoff12-reads
-use Rattle.arm64_fixup_entry.proofs.change.relaxed.Reads as relaxed-reads
-use Rattle.arm64_fixup_entry.proofs.target.slot_of.Reads as slot-of-reads
-use Rattle.arm64_fixup_entry.proofs.target.target_of.Reads as target-of-reads
-use Rattle.macho.proofs.resolved.Resolved.can_relax_got.Reads as can-relax-got-reads
 
 can-relax-got-requires : tie.Need-can-relax-got-requires
 can-relax-got-requires c κs = search needs

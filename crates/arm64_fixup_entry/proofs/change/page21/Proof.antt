@@ -1,16 +1,9 @@
 -- `page21` meets its contract: the reach test decides the choice.
-use borrow.Author.Tests.{eq-eqb, ne-eqb, le-leb, lt-leb, lt-ltb, le-ltb, not-true, not-false}
 use Rattle.arm64_fixup_entry.specs.Change.{page21}
 use Rattle.util.specs.Choice.{choose}
 use borrow.Author.Needs.{needs}
 use Rattle.arm64_fixup_entry.proofs.change.page21.Statement.{statement}
 use Rattle.arm64_fixup_entry.proofs.change.page21.Tie as tie
-use Rattle.arm64_fixup_entry.proofs.change.page21.Reads as reads
-use Rattle.arm64_fixup_entry.proofs.change.page21.Lts as lts
-use Rattle.arm64_fixup_entry.proofs.change.out_of_reach.Reads as out-of-reach-reads
-use Rattle.arm64_fixup_entry.proofs.change.silent.Reads as silent-reads
-use Rattle.arm64_insn.proofs.fix.write_adrp_word.Reads as write-adrp-word-reads
-use Rattle.arm64_insn.proofs.page.adrp_reaches.Reads as adrp-reaches-reads
 
 write-adrp-word-requires : tie.Need-write-adrp-word-requires
 write-adrp-word-requires c κs = search needs

@@ -2,16 +2,10 @@
 use native.Mathlib.Omega.{arith}
 use mathlib.Core.Path.{sym, _∙_}
 use Rattle.arm64_insn.proofs.Scale.{misaligned-le}
-use borrow.Author.Tests.{eq-eqb, ne-eqb, le-leb, lt-leb, lt-ltb, le-ltb, not-true, not-false}
 use Rattle.arm64_fixup_entry.specs.Change.{pageoff12}
 use borrow.Author.Needs.{needs}
 use Rattle.arm64_fixup_entry.proofs.change.pageoff12.Statement.{statement}
 use Rattle.arm64_fixup_entry.proofs.change.pageoff12.Tie as tie
-use Rattle.arm64_fixup_entry.proofs.change.pageoff12.Reads as reads
-use Rattle.arm64_fixup_entry.proofs.change.pageoff12.Lts as lts
-use Rattle.arm64_fixup_entry.proofs.change.silent.Reads as silent-reads
-use Rattle.arm64_fixup_entry.proofs.change.unfit.Reads as unfit-reads
-use Rattle.arm64_insn.proofs.fix.write_add_ldst_word.Reads as write-add-ldst-word-reads
 
 write-add-ldst-word-requires : tie.Need-write-add-ldst-word-requires
 write-add-ldst-word-requires c κs = search needs

@@ -1,13 +1,8 @@
 -- `pointer_to_got` meets its contract: the wrapped difference of the code is the definition's.
-use borrow.Author.Tests.{eq-eqb, ne-eqb, le-leb, lt-leb, lt-ltb, le-ltb, not-true, not-false}
 use Rattle.arm64_fixup_entry.specs.Change.{pointerToGot}
 use borrow.Author.Needs.{needs}
 use Rattle.arm64_fixup_entry.proofs.change.pointer_to_got.Statement.{statement}
 use Rattle.arm64_fixup_entry.proofs.change.pointer_to_got.Tie as tie
-use Rattle.arm64_fixup_entry.proofs.change.pointer_to_got.Reads as reads
-use Rattle.arm64_fixup_entry.proofs.change.pointer_to_got.Lts as lts
-use Rattle.arm64_fixup_entry.proofs.target.slot_of.Reads as slot-of-reads
-use Rattle.util.proofs.wrapping_sub.Reads as wrapping-sub-reads
 
 slot-of-requires : tie.Need-slot-of-requires
 slot-of-requires c κs = search needs

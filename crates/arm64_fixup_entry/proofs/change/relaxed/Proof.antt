@@ -1,16 +1,9 @@
 -- `relaxed` meets its contract: the test of the word decides the choice.
-use borrow.Author.Tests.{eq-eqb, ne-eqb, le-leb, lt-leb, lt-ltb, le-ltb, not-true, not-false}
 use Rattle.arm64_fixup_entry.specs.Change.{relaxed}
 use Rattle.util.specs.Choice.{choose}
 use borrow.Author.Needs.{needs}
 use Rattle.arm64_fixup_entry.proofs.change.relaxed.Statement.{statement}
 use Rattle.arm64_fixup_entry.proofs.change.relaxed.Tie as tie
-use Rattle.arm64_fixup_entry.proofs.change.relaxed.Reads as reads
-use Rattle.arm64_fixup_entry.proofs.change.relaxed.Lts as lts
-use Rattle.arm64_fixup_entry.proofs.change.can_relax.Reads as can-relax-reads
-use Rattle.arm64_fixup_entry.proofs.change.silent.Reads as silent-reads
-use Rattle.arm64_fixup_entry.proofs.change.unfit.Reads as unfit-reads
-use Rattle.arm64_insn.proofs.fix.relaxed_word.Reads as relaxed-word-reads
 
 can-relax-requires : tie.Need-can-relax-requires
 can-relax-requires c κs = search needs

@@ -1,13 +1,8 @@
 -- `subtractor_value` meets its contract: the wrapped difference of the code is the definition's.
-use borrow.Author.Tests.{eq-eqb, ne-eqb, le-leb, lt-leb, lt-ltb, le-ltb, not-true, not-false}
 use Rattle.arm64_fixup_entry.specs.Change.{subtractorValue}
 use borrow.Author.Needs.{needs}
 use Rattle.arm64_fixup_entry.proofs.change.subtractor_value.Statement.{statement}
 use Rattle.arm64_fixup_entry.proofs.change.subtractor_value.Tie as tie
-use Rattle.arm64_fixup_entry.proofs.change.subtractor_value.Reads as reads
-use Rattle.arm64_fixup_entry.proofs.change.subtractor_value.Lts as lts
-use Rattle.arm64_fixup_entry.proofs.target.target_of.Reads as target-of-reads
-use Rattle.util.proofs.wrapping_sub.Reads as wrapping-sub-reads
 
 target-of-requires : tie.Need-target-of-requires
 target-of-requires c κs = search needs

@@ -1,14 +1,9 @@
 -- `thunk_serves` meets its contract: the tests on the way to each return decide the conjunction.
-use borrow.Author.Tests.{eq-eqb, ne-eqb, le-leb, lt-leb, lt-ltb, le-ltb, not-true, not-false}
+use borrow.Author.Tests.{eq-eqb, ne-eqb, not-true, not-false}
 use Rattle.arm64_fixup_entry.specs.Change.{thunkServes}
 use borrow.Author.Needs.{needs}
 use Rattle.arm64_fixup_entry.proofs.change.thunk_serves.Statement.{statement}
 use Rattle.arm64_fixup_entry.proofs.change.thunk_serves.Tie as tie
-use Rattle.arm64_fixup_entry.proofs.change.thunk_serves.Reads as reads
-use Rattle.arm64_fixup_entry.proofs.change.thunk_serves.Lts as lts
-use Rattle.arm64_insn.proofs.page.adrp_reaches.Reads as adrp-reaches-reads
-use Rattle.macho.proofs.reloc.Reloc.is_section.Reads as is-section-reads
-use Rattle.macho.proofs.resolved.Resolved.has_thunk.Reads as has-thunk-reads
 
 is-section-requires : tie.Need-is-section-requires
 is-section-requires c κs = search needs
@@ -51,13 +46,15 @@ adrp-reaches-requires c κs = search needs
 returns-4 : tie.Need-returns-4
 unfolding thunkServes
 returns-4 c =
+    let if2 = c .before .before .before in
+    let if1 = if2 .before .before in
     simp (
       c .adrp-reaches .ensures,
       eq-eqb _ _ (c .before .if3 .left),
-      not-false (c .before .before .before .before .has-thunk .result) (c .before .before .before .if2 .left),
-      ← c .before .before .before .before .has-thunk .ensures,
-      c .before .before .before .before .before .if1 .left,
-      ← c .before .before .before .before .before .before .is-section .ensures,
+      not-false (if2 .before .has-thunk .result) (if2 .if2 .left),
+      ← if2 .before .has-thunk .ensures,
+      if1 .if1 .left,
+      ← if1 .before .is-section .ensures,
     )
 
 pub thunk-serves-spec : {M : Type 1} → statement M

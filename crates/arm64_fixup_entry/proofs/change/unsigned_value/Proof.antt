@@ -1,15 +1,9 @@
 -- `unsigned_value` meets its contract: the flag decides the choice.
-use borrow.Author.Tests.{eq-eqb, ne-eqb, le-leb, lt-leb, lt-ltb, le-ltb, not-true, not-false}
 use Rattle.arm64_fixup_entry.specs.Change.{unsignedValue}
 use Rattle.util.specs.Choice.{choose}
 use borrow.Author.Needs.{needs}
 use Rattle.arm64_fixup_entry.proofs.change.unsigned_value.Statement.{statement}
 use Rattle.arm64_fixup_entry.proofs.change.unsigned_value.Tie as tie
-use Rattle.arm64_fixup_entry.proofs.change.unsigned_value.Reads as reads
-use Rattle.arm64_fixup_entry.proofs.change.unsigned_value.Lts as lts
-use Rattle.arm64_fixup_entry.proofs.target.target_of.Reads as target-of-reads
-use Rattle.macho.proofs.resolved.Resolved.is_tls.Reads as is-tls-reads
-use Rattle.util.proofs.wrapping_sub.Reads as wrapping-sub-reads
 
 target-of-requires : tie.Need-target-of-requires
 target-of-requires c κs = search needs

@@ -1,21 +1,10 @@
 -- `word_change` meets its contract: the type decides the choices.
-use borrow.Author.Tests.{eq-eqb, ne-eqb, le-leb, lt-leb, lt-ltb, le-ltb, not-true, not-false}
+use borrow.Author.Tests.{eq-eqb, ne-eqb}
 use Rattle.arm64_fixup_entry.specs.Change.{wordChange}
 use Rattle.util.specs.Choice.{choose}
 use borrow.Author.Needs.{needs}
 use Rattle.arm64_fixup_entry.proofs.change.word_change.Statement.{statement}
 use Rattle.arm64_fixup_entry.proofs.change.word_change.Tie as tie
-use Rattle.arm64_fixup_entry.proofs.change.word_change.Reads as reads
-use Rattle.arm64_fixup_entry.proofs.change.word_change.Lts as lts
-use Rattle.arm64_fixup_entry.proofs.change.branch26.Reads as branch26-reads
-use Rattle.arm64_fixup_entry.proofs.change.got_page21.Reads as got-page21-reads
-use Rattle.arm64_fixup_entry.proofs.change.got_pageoff12.Reads as got-pageoff12-reads
-use Rattle.arm64_fixup_entry.proofs.change.page21.Reads as page21-reads
-use Rattle.arm64_fixup_entry.proofs.change.pageoff12.Reads as pageoff12-reads
-use Rattle.arm64_fixup_entry.proofs.change.pointer_to_got.Reads as pointer-to-got-reads
-use Rattle.arm64_fixup_entry.proofs.change.silent.Reads as silent-reads
-use Rattle.arm64_fixup_entry.proofs.target.got_target.Reads as got-target-reads
-use Rattle.arm64_fixup_entry.proofs.target.target_of.Reads as target-of-reads
 
 branch26-requires : tie.Need-branch26-requires
 branch26-requires c κs = search needs
@@ -53,12 +42,14 @@ pageoff12-requires c κs = search needs
 returns-3 : tie.Need-returns-3
 unfolding wordChange choose
 returns-3 c =
+    let if2 = c .before .before .before .before in
+    let if1 = if2 .before .before in
     simp (
       c .pageoff12 .ensures,
       c .before .target-of2 .ensures,
       eq-eqb _ _ (c .before .before .if3 .taken),
-      ne-eqb _ _ (c .before .before .before .before .if2 .left),
-      ne-eqb _ _ (c .before .before .before .before .before .before .if1 .left),
+      ne-eqb _ _ (if2 .if2 .left),
+      ne-eqb _ _ (if1 .if1 .left),
     )
 
 got-page21-requires : tie.Need-got-page21-requires
@@ -67,12 +58,15 @@ got-page21-requires c κs = search needs
 returns-4 : tie.Need-returns-4
 unfolding wordChange choose
 returns-4 c =
+    let if3 = c .before .before .before in
+    let if2 = if3 .before .before in
+    let if1 = if2 .before .before in
     simp (
       c .got-page21 .ensures,
       eq-eqb _ _ (c .before .if4 .taken),
-      ne-eqb _ _ (c .before .before .before .if3 .left),
-      ne-eqb _ _ (c .before .before .before .before .before .if2 .left),
-      ne-eqb _ _ (c .before .before .before .before .before .before .before .if1 .left),
+      ne-eqb _ _ (if3 .if3 .left),
+      ne-eqb _ _ (if2 .if2 .left),
+      ne-eqb _ _ (if1 .if1 .left),
     )
 
 got-target-requires : tie.Need-got-target-requires
@@ -84,14 +78,18 @@ page21-requires-2 c κs = search needs
 returns-5 : tie.Need-returns-5
 unfolding wordChange choose
 returns-5 c =
+    let if4 = c .before .before .before .before in
+    let if3 = if4 .before .before in
+    let if2 = if3 .before .before in
+    let if1 = if2 .before .before in
     simp (
       c .page212 .ensures,
       c .before .got-target .ensures,
       eq-eqb _ _ (c .before .before .if5 .taken),
-      ne-eqb _ _ (c .before .before .before .before .if4 .left),
-      ne-eqb _ _ (c .before .before .before .before .before .before .if3 .left),
-      ne-eqb _ _ (c .before .before .before .before .before .before .before .before .if2 .left),
-      ne-eqb _ _ (c .before .before .before .before .before .before .before .before .before .before .if1 .left),
+      ne-eqb _ _ (if4 .if4 .left),
+      ne-eqb _ _ (if3 .if3 .left),
+      ne-eqb _ _ (if2 .if2 .left),
+      ne-eqb _ _ (if1 .if1 .left),
     )
 
 pointer-to-got-requires : tie.Need-pointer-to-got-requires
@@ -103,15 +101,20 @@ silent-requires c κs = search needs
 returns-6 : tie.Need-returns-6
 unfolding wordChange choose
 returns-6 c =
+    let if5 = c .before .before .before .before in
+    let if4 = if5 .before .before in
+    let if3 = if4 .before .before in
+    let if2 = if3 .before .before in
+    let if1 = if2 .before .before in
     simp (
       c .silent .ensures,
       c .before .pointer-to-got .ensures,
       eq-eqb _ _ (c .before .before .if6 .taken),
-      ne-eqb _ _ (c .before .before .before .before .if5 .left),
-      ne-eqb _ _ (c .before .before .before .before .before .before .if4 .left),
-      ne-eqb _ _ (c .before .before .before .before .before .before .before .before .if3 .left),
-      ne-eqb _ _ (c .before .before .before .before .before .before .before .before .before .before .if2 .left),
-      ne-eqb _ _ (c .before .before .before .before .before .before .before .before .before .before .before .before .if1 .left),
+      ne-eqb _ _ (if5 .if5 .left),
+      ne-eqb _ _ (if4 .if4 .left),
+      ne-eqb _ _ (if3 .if3 .left),
+      ne-eqb _ _ (if2 .if2 .left),
+      ne-eqb _ _ (if1 .if1 .left),
     )
 
 got-pageoff12-requires : tie.Need-got-pageoff12-requires
@@ -120,14 +123,19 @@ got-pageoff12-requires c κs = search needs
 returns-7 : tie.Need-returns-7
 unfolding wordChange choose
 returns-7 c =
+    let if5 = c .before .before .before in
+    let if4 = if5 .before .before in
+    let if3 = if4 .before .before in
+    let if2 = if3 .before .before in
+    let if1 = if2 .before .before in
     simp (
       c .got-pageoff12 .ensures,
       ne-eqb _ _ (c .before .if6 .left),
-      ne-eqb _ _ (c .before .before .before .if5 .left),
-      ne-eqb _ _ (c .before .before .before .before .before .if4 .left),
-      ne-eqb _ _ (c .before .before .before .before .before .before .before .if3 .left),
-      ne-eqb _ _ (c .before .before .before .before .before .before .before .before .before .if2 .left),
-      ne-eqb _ _ (c .before .before .before .before .before .before .before .before .before .before .before .if1 .left),
+      ne-eqb _ _ (if5 .if5 .left),
+      ne-eqb _ _ (if4 .if4 .left),
+      ne-eqb _ _ (if3 .if3 .left),
+      ne-eqb _ _ (if2 .if2 .left),
+      ne-eqb _ _ (if1 .if1 .left),
     )
 
 pub word-change-spec : {M : Type 1} → statement M

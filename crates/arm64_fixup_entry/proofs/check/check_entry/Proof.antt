@@ -1,18 +1,10 @@
 -- `check_entry` meets its contract: the tests on the way to each return decide the choices.
-use borrow.Author.Tests.{eq-eqb, ne-eqb, le-leb, lt-leb, lt-ltb, le-ltb, not-true, not-false}
+use borrow.Author.Tests.{lt-ltb, le-ltb, not-true, not-false}
 use Rattle.arm64_fixup_entry.specs.Check.{checkOf}
 use Rattle.util.specs.Choice.{choose}
 use borrow.Author.Needs.{needs}
 use Rattle.arm64_fixup_entry.proofs.check.check_entry.Statement.{statement}
 use Rattle.arm64_fixup_entry.proofs.check.check_entry.Tie as tie
-use Rattle.arm64_fixup_entry.proofs.check.check_entry.Reads as reads
-use Rattle.arm64_fixup_entry.proofs.check.check_entry.Lts as lts
-use Rattle.arm64_fixup_entry.proofs.check.lacks_next.Reads as lacks-next-reads
-use Rattle.arm64_fixup_entry.proofs.check.lacks_symbol.Reads as lacks-symbol-reads
-use Rattle.arm64_fixup_entry.proofs.check.overflows.Reads as overflows-reads
-use Rattle.arm64_fixup_entry.proofs.check.unsupported.Reads as unsupported-reads
-use Rattle.arm64_fixup_entry.proofs.target.width_of.Reads as width-of-reads
-use Rattle.macho.proofs.resolved.Resolved.is_well_formed.Reads as is-well-formed-reads
 
 cast-offset : tie.Need-cast-offset
 cast-offset c = search needs
@@ -55,16 +47,16 @@ unsupported-requires c κs = search needs
 returns-4 : tie.Need-returns-4
 unfolding checkOf choose
 returns-4 c =
-    let k3 = c .before .before in
-    let k2 = k3 .before .before in
+    let if3 = c .before .before in
+    let if2 = if3 .before .before in
     simp (
       c .if4 .taken,
       ← c .before .unsupported .ensures,
-      k3 .if3 .left,
-      ← k3 .before .overflows .ensures,
-      not-false (k2 .before .is-well-formed .result) (k2 .if2 .left),
-      ← k2 .before .is-well-formed .ensures,
-      le-ltb _ _ (k2 .before .before .if1 .left),
+      if3 .if3 .left,
+      ← if3 .before .overflows .ensures,
+      not-false (if2 .before .is-well-formed .result) (if2 .if2 .left),
+      ← if2 .before .is-well-formed .ensures,
+      le-ltb _ _ (if2 .before .before .if1 .left),
     )
 
 lacks-next-requires : tie.Need-lacks-next-requires
@@ -73,19 +65,19 @@ lacks-next-requires c κs = search needs
 returns-5 : tie.Need-returns-5
 unfolding checkOf choose
 returns-5 c =
-    let k4 = c .before .before in
-    let k3 = k4 .before .before in
-    let k2 = k3 .before .before in
+    let if4 = c .before .before in
+    let if3 = if4 .before .before in
+    let if2 = if3 .before .before in
     simp (
       c .if5 .taken,
       ← c .before .lacks-next .ensures,
-      k4 .if4 .left,
-      ← k4 .before .unsupported .ensures,
-      k3 .if3 .left,
-      ← k3 .before .overflows .ensures,
-      not-false (k2 .before .is-well-formed .result) (k2 .if2 .left),
-      ← k2 .before .is-well-formed .ensures,
-      le-ltb _ _ (k2 .before .before .if1 .left),
+      if4 .if4 .left,
+      ← if4 .before .unsupported .ensures,
+      if3 .if3 .left,
+      ← if3 .before .overflows .ensures,
+      not-false (if2 .before .is-well-formed .result) (if2 .if2 .left),
+      ← if2 .before .is-well-formed .ensures,
+      le-ltb _ _ (if2 .before .before .if1 .left),
     )
 
 lacks-symbol-requires : tie.Need-lacks-symbol-requires
@@ -94,22 +86,22 @@ lacks-symbol-requires c κs = search needs
 returns-6 : tie.Need-returns-6
 unfolding checkOf choose
 returns-6 c =
-    let k5 = c .before .before in
-    let k4 = k5 .before .before in
-    let k3 = k4 .before .before in
-    let k2 = k3 .before .before in
+    let if5 = c .before .before in
+    let if4 = if5 .before .before in
+    let if3 = if4 .before .before in
+    let if2 = if3 .before .before in
     simp (
       c .if6 .taken,
       ← c .before .lacks-symbol .ensures,
-      k5 .if5 .left,
-      ← k5 .before .lacks-next .ensures,
-      k4 .if4 .left,
-      ← k4 .before .unsupported .ensures,
-      k3 .if3 .left,
-      ← k3 .before .overflows .ensures,
-      not-false (k2 .before .is-well-formed .result) (k2 .if2 .left),
-      ← k2 .before .is-well-formed .ensures,
-      le-ltb _ _ (k2 .before .before .if1 .left),
+      if5 .if5 .left,
+      ← if5 .before .lacks-next .ensures,
+      if4 .if4 .left,
+      ← if4 .before .unsupported .ensures,
+      if3 .if3 .left,
+      ← if3 .before .overflows .ensures,
+      not-false (if2 .before .is-well-formed .result) (if2 .if2 .left),
+      ← if2 .before .is-well-formed .ensures,
+      le-ltb _ _ (if2 .before .before .if1 .left),
     )
 
 width-of-requires : tie.Need-width-of-requires
@@ -118,49 +110,49 @@ width-of-requires c κs = search needs
 returns-7 : tie.Need-returns-7
 unfolding checkOf choose
 returns-7 c =
-    let k6 = c .before .before in
-    let k5 = k6 .before .before in
-    let k4 = k5 .before .before in
-    let k3 = k4 .before .before in
-    let k2 = k3 .before .before in
+    let if6 = c .before .before in
+    let if5 = if6 .before .before in
+    let if4 = if5 .before .before in
+    let if3 = if4 .before .before in
+    let if2 = if3 .before .before in
     simp (
       lt-ltb _ _ (c .if7 .taken),
       ← c .before .width-of .ensures,
-      k6 .if6 .left,
-      ← k6 .before .lacks-symbol .ensures,
-      k5 .if5 .left,
-      ← k5 .before .lacks-next .ensures,
-      k4 .if4 .left,
-      ← k4 .before .unsupported .ensures,
-      k3 .if3 .left,
-      ← k3 .before .overflows .ensures,
-      not-false (k2 .before .is-well-formed .result) (k2 .if2 .left),
-      ← k2 .before .is-well-formed .ensures,
-      le-ltb _ _ (k2 .before .before .if1 .left),
+      if6 .if6 .left,
+      ← if6 .before .lacks-symbol .ensures,
+      if5 .if5 .left,
+      ← if5 .before .lacks-next .ensures,
+      if4 .if4 .left,
+      ← if4 .before .unsupported .ensures,
+      if3 .if3 .left,
+      ← if3 .before .overflows .ensures,
+      not-false (if2 .before .is-well-formed .result) (if2 .if2 .left),
+      ← if2 .before .is-well-formed .ensures,
+      le-ltb _ _ (if2 .before .before .if1 .left),
     )
 
 returns-8 : tie.Need-returns-8
 unfolding checkOf choose
 returns-8 c =
-    let k6 = c .before .before in
-    let k5 = k6 .before .before in
-    let k4 = k5 .before .before in
-    let k3 = k4 .before .before in
-    let k2 = k3 .before .before in
+    let if6 = c .before .before in
+    let if5 = if6 .before .before in
+    let if4 = if5 .before .before in
+    let if3 = if4 .before .before in
+    let if2 = if3 .before .before in
     simp (
       le-ltb _ _ (c .if7 .left),
       ← c .before .width-of .ensures,
-      k6 .if6 .left,
-      ← k6 .before .lacks-symbol .ensures,
-      k5 .if5 .left,
-      ← k5 .before .lacks-next .ensures,
-      k4 .if4 .left,
-      ← k4 .before .unsupported .ensures,
-      k3 .if3 .left,
-      ← k3 .before .overflows .ensures,
-      not-false (k2 .before .is-well-formed .result) (k2 .if2 .left),
-      ← k2 .before .is-well-formed .ensures,
-      le-ltb _ _ (k2 .before .before .if1 .left),
+      if6 .if6 .left,
+      ← if6 .before .lacks-symbol .ensures,
+      if5 .if5 .left,
+      ← if5 .before .lacks-next .ensures,
+      if4 .if4 .left,
+      ← if4 .before .unsupported .ensures,
+      if3 .if3 .left,
+      ← if3 .before .overflows .ensures,
+      not-false (if2 .before .is-well-formed .result) (if2 .if2 .left),
+      ← if2 .before .is-well-formed .ensures,
+      le-ltb _ _ (if2 .before .before .if1 .left),
     )
 
 pub check-entry-spec : {M : Type 1} → statement M

@@ -1,14 +1,9 @@
 -- `needs_symbol` meets its contract: the type decides the choice.
-use borrow.Author.Tests.{eq-eqb, ne-eqb, le-leb, lt-leb, lt-ltb, le-ltb, not-true, not-false}
-use Rattle.arm64_fixup_entry.specs.Check.{needsSymbol}
+use borrow.Author.Tests.{eq-eqb, ne-eqb}
 use Rattle.util.specs.Choice.{choose}
 use borrow.Author.Needs.{needs}
 use Rattle.arm64_fixup_entry.proofs.check.needs_symbol.Statement.{statement}
 use Rattle.arm64_fixup_entry.proofs.check.needs_symbol.Tie as tie
-use Rattle.arm64_fixup_entry.proofs.check.needs_symbol.Reads as reads
-use Rattle.arm64_fixup_entry.proofs.check.needs_symbol.Lts as lts
-use Rattle.arm64_fixup_entry.proofs.check.uses_got.Reads as uses-got-reads
-use Rattle.macho.proofs.resolved.Resolved.has_helper.Reads as has-helper-reads
 
 has-helper-requires : tie.Need-has-helper-requires
 has-helper-requires c κs = search needs

@@ -6,8 +6,6 @@ use borrow.Author.Needs.{needs}
 use Rattle.arm64_fixup_entry.specs.Target.{placeOf}
 use Rattle.arm64_fixup_entry.proofs.check.overflows.Statement.{statement}
 use Rattle.arm64_fixup_entry.proofs.check.overflows.Tie as tie
-use Rattle.arm64_fixup_entry.proofs.check.overflows.Reads as reads
-use Rattle.arm64_fixup_entry.proofs.check.overflows.Lts as lts
 
 cast-if1 : tie.Need-cast-if1
 cast-if1 c = search needs

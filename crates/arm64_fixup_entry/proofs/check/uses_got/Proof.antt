@@ -1,10 +1,7 @@
 -- `uses_got` meets its contract: the tests on the way to each return decide the disjunction.
-use borrow.Author.Tests.{eq-eqb, ne-eqb, le-leb, lt-leb, lt-ltb, le-ltb, not-true, not-false}
-use Rattle.arm64_fixup_entry.specs.Check.{usesGot}
+use borrow.Author.Tests.{eq-eqb, ne-eqb}
 use Rattle.arm64_fixup_entry.proofs.check.uses_got.Statement.{statement}
 use Rattle.arm64_fixup_entry.proofs.check.uses_got.Tie as tie
-use Rattle.arm64_fixup_entry.proofs.check.uses_got.Reads as reads
-use Rattle.arm64_fixup_entry.proofs.check.uses_got.Lts as lts
 
 returns : tie.Need-returns
 returns c =

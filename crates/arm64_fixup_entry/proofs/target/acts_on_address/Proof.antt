@@ -1,10 +1,7 @@
 -- `acts_on_address` meets its contract: the first test decides the disjunction.
-use borrow.Author.Tests.{eq-eqb, ne-eqb, le-leb, lt-leb, lt-ltb, le-ltb, not-true, not-false}
-use Rattle.arm64_fixup_entry.specs.Target.{actsOnAddress}
+use borrow.Author.Tests.{eq-eqb, ne-eqb}
 use Rattle.arm64_fixup_entry.proofs.target.acts_on_address.Statement.{statement}
 use Rattle.arm64_fixup_entry.proofs.target.acts_on_address.Tie as tie
-use Rattle.arm64_fixup_entry.proofs.target.acts_on_address.Reads as reads
-use Rattle.arm64_fixup_entry.proofs.target.acts_on_address.Lts as lts
 
 returns : tie.Need-returns
 returns c =

@@ -1,13 +1,7 @@
 -- `is_imported_symbol` meets its contract: the kind of target decides the conjunction.
-use borrow.Author.Tests.{eq-eqb, ne-eqb, le-leb, lt-leb, lt-ltb, le-ltb, not-true, not-false}
-use Rattle.arm64_fixup_entry.specs.Target.{importedSymbol}
 use borrow.Author.Needs.{needs}
 use Rattle.arm64_fixup_entry.proofs.target.is_imported_symbol.Statement.{statement}
 use Rattle.arm64_fixup_entry.proofs.target.is_imported_symbol.Tie as tie
-use Rattle.arm64_fixup_entry.proofs.target.is_imported_symbol.Reads as reads
-use Rattle.arm64_fixup_entry.proofs.target.is_imported_symbol.Lts as lts
-use Rattle.macho.proofs.reloc.Reloc.is_section.Reads as is-section-reads
-use Rattle.macho.proofs.resolved.Resolved.is_imported.Reads as is-imported-reads
 
 is-section-requires : tie.Need-is-section-requires
 is-section-requires c κs = search needs

@@ -1,12 +1,8 @@
 -- `slot_of` meets its contract: the wrapped sum of the code is the definition's.
-use borrow.Author.Tests.{eq-eqb, ne-eqb, le-leb, lt-leb, lt-ltb, le-ltb, not-true, not-false}
 use Rattle.arm64_fixup_entry.specs.Target.{slotOf}
 use borrow.Author.Needs.{needs}
 use Rattle.arm64_fixup_entry.proofs.target.slot_of.Statement.{statement}
 use Rattle.arm64_fixup_entry.proofs.target.slot_of.Tie as tie
-use Rattle.arm64_fixup_entry.proofs.target.slot_of.Reads as reads
-use Rattle.arm64_fixup_entry.proofs.target.slot_of.Lts as lts
-use Rattle.util.proofs.wrapping_add.Reads as wrapping-add-reads
 
 wrapping-add-requires : tie.Need-wrapping-add-requires
 wrapping-add-requires c κs = search needs

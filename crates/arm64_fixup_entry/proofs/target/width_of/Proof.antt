@@ -1,15 +1,10 @@
 -- `width_of` meets its contract: the tests on the way to each return decide the choices.
-use borrow.Author.Tests.{eq-eqb, ne-eqb, le-leb, lt-leb, lt-ltb, le-ltb, not-true, not-false}
+use borrow.Author.Tests.{eq-eqb, ne-eqb}
 use Rattle.arm64_fixup_entry.specs.Target.{widthOf}
 use Rattle.util.specs.Choice.{choose}
 use borrow.Author.Needs.{needs}
 use Rattle.arm64_fixup_entry.proofs.target.width_of.Statement.{statement}
 use Rattle.arm64_fixup_entry.proofs.target.width_of.Tie as tie
-use Rattle.arm64_fixup_entry.proofs.target.width_of.Reads as reads
-use Rattle.arm64_fixup_entry.proofs.target.width_of.Lts as lts
-use Rattle.arm64_fixup_entry.proofs.target.acts_on_address.Reads as acts-on-address-reads
-use Rattle.arm64_fixup_entry.proofs.target.is_imported_symbol.Reads as is-imported-symbol-reads
-use Rattle.macho.proofs.resolved.Resolved.has_address.Reads as has-address-reads
 
 is-imported-symbol-requires : tie.Need-is-imported-symbol-requires
 is-imported-symbol-requires c κs = search needs
@@ -59,25 +54,31 @@ has-address-requires c κs = search needs
 returns-5 : tie.Need-returns-5
 unfolding widthOf choose
 returns-5 c =
+    let if5 = c .before .before in
+    let if3 = if5 .before .before in
+    let if1 = if3 .before .before in
     simp (
       c .if6 .taken,
       ← c .before .has-address .ensures,
-      c .before .before .if5 .taken,
-      ← c .before .before .before .acts-on-address .ensures,
-      ne-eqb _ _ (c .before .before .before .before .if3 .left),
-      ne-eqb _ _ (c .before .before .before .before .before .before .if1 .left),
+      if5 .if5 .taken,
+      ← if5 .before .acts-on-address .ensures,
+      ne-eqb _ _ (if3 .if3 .left),
+      ne-eqb _ _ (if1 .if1 .left),
     )
 
 returns-6 : tie.Need-returns-6
 unfolding widthOf choose
 returns-6 c =
+    let if5 = c .before .before in
+    let if3 = if5 .before .before in
+    let if1 = if3 .before .before in
     simp (
       c .if6 .left,
       ← c .before .has-address .ensures,
-      c .before .before .if5 .taken,
-      ← c .before .before .before .acts-on-address .ensures,
-      ne-eqb _ _ (c .before .before .before .before .if3 .left),
-      ne-eqb _ _ (c .before .before .before .before .before .before .if1 .left),
+      if5 .if5 .taken,
+      ← if5 .before .acts-on-address .ensures,
+      ne-eqb _ _ (if3 .if3 .left),
+      ne-eqb _ _ (if1 .if1 .left),
     )
 
 returns-7 : tie.Need-returns-7
