@@ -6,7 +6,7 @@ use mathlib.Core.List.{List}
 use mathlib.Core.Logic.{_⊎_, inl, inr, ⊎-elim}
 use Prim.Native.Nat.{ℕ, zero, suc, _+_, _*_, _/_, _≤_, _<_}
 use native.Mathlib.Omega.{arith}
-use native.Mathlib.Nat.{eq-or-lt-of-le}
+use native.Mathlib.Nat.{eq-or-lt-of-le, mul-suc, mul-le-mul-left}
 use borrow.Author.Tests.{ltb-true, ltb-false}
 use lib.Dec.{eqb, ltb, lit≤}
 use lib.ListN.{length, set, length-set}
@@ -215,27 +215,23 @@ spare-bytes section b entries targets slots i j v l =
 
 -- ---- the bytes of an entry that a SUBTRACTOR consumes, its addend aside, and of its target, the address aside
 
--- n bytes of record k do not hold byte p of another record of that size
-apart-24 : (i j k off n : ℕ) → (k ≡ i → ⊥) → j < 24 → off + n ≤ 24 → (24 * i + j < 24 * k + off) ⊎ (24 * k + off + n ≤ 24 * i + j)
-apart-24 i j k off n ne l h = go (ltb i k) refl
+-- n bytes of record k do not hold byte j of another record of that size
+apart : (size i j k off n : ℕ) → (k ≡ i → ⊥) → j < size → off + n ≤ size → (size * i + j < size * k + off) ⊎ (size * k + off + n ≤ size * i + j)
+apart size i j k off n ne l h = go (ltb i k) refl
   where
-    go : (x : Bool) → ltb i k ≡ x → (24 * i + j < 24 * k + off) ⊎ (24 * k + off + n ≤ 24 * i + j)
-    go true e = inl (omega (arith, ltb-true i k e))
-    go false e = inr (⊎-elim (λ q. absurd (ne q)) (λ (w : k < i). omega arith) (eq-or-lt-of-le (ltb-false i k e)))
+    past : (x y : ℕ) → x < y → size * x + size ≤ size * y
+    past x y e = let s : suc x ≤ y = omega arith in omega (arith, mul-suc size x, mul-le-mul-left size s)
 
-apart-48 : (i j k off n : ℕ) → (k ≡ i → ⊥) → j < 48 → off + n ≤ 48 → (48 * i + j < 48 * k + off) ⊎ (48 * k + off + n ≤ 48 * i + j)
-apart-48 i j k off n ne l h = go (ltb i k) refl
-  where
-    go : (x : Bool) → ltb i k ≡ x → (48 * i + j < 48 * k + off) ⊎ (48 * k + off + n ≤ 48 * i + j)
-    go true e = inl (omega (arith, ltb-true i k e))
-    go false e = inr (⊎-elim (λ q. absurd (ne q)) (λ (w : k < i). omega arith) (eq-or-lt-of-le (ltb-false i k e)))
+    go : (x : Bool) → ltb i k ≡ x → (size * i + j < size * k + off) ⊎ (size * k + off + n ≤ size * i + j)
+    go true e = inl (omega (arith, past i k (ltb-true i k e)))
+    go false e = inr (⊎-elim (λ q. absurd (ne q)) (λ (w : k < i). omega (arith, past k i w)) (eq-or-lt-of-le (ltb-false i k e)))
 
 entry-set : (entries : List ℕ) (i j v k : ℕ) → (k ≡ i → ⊥) → j < 24 → entryAt (set entries (24 * i + j) v) k ≡ entryAt entries k
 unfolding relocAt
 entry-set entries i j v k ne l =
     let p : ℕ = 24 * i + j in
     let at : (n off : ℕ) → off + n ≤ 24 → le n (set entries p v) (24 * k + off) ≡ le n entries (24 * k + off) =
-    λ n off h. le-set n entries (24 * k + off) p v (apart-24 i j k off n ne l h) in
+    λ n off h. le-set n entries (24 * k + off) p v (apart 24 i j k off n ne l h) in
     let zero-off : 24 * k ≡ 24 * k + 0 = omega arith in
     let o : le 4 (set entries p v) (24 * k) ≡ le 4 entries (24 * k) = rw zero-off (at 4 0 (lit≤ tt)) in
     rw (
@@ -254,7 +250,7 @@ unfolding resolvedAt
 target-set targets i j v k ne l =
     let p : ℕ = 48 * i + j in
     let at : (n off : ℕ) → off + n ≤ 48 → le n (set targets p v) (48 * k + off) ≡ le n targets (48 * k + off) =
-    λ n off h. le-set n targets (48 * k + off) p v (apart-48 i j k off n ne l h) in
+    λ n off h. le-set n targets (48 * k + off) p v (apart 48 i j k off n ne l h) in
     let zero-off : 48 * k ≡ 48 * k + 0 = omega arith in
     let o : le 8 (set targets p v) (48 * k) ≡ le 8 targets (48 * k) = rw zero-off (at 8 0 (lit≤ tt)) in
     rw (o, at 8 8 (lit≤ tt), at 8 16 (lit≤ tt), at 8 24 (lit≤ tt), at 8 32 (lit≤ tt), at 4 40 (lit≤ tt), at 4 44 (lit≤ tt))

@@ -1,16 +1,11 @@
 -- `write_stub` meets its contract: the length decides both choices, the reach test the answer.
 use Rattle.arm64_fixup.specs.Stub.{wordsIn}
-use borrow.Author.Tests.{eq-eqb, ne-eqb, le-leb, lt-leb, lt-ltb, le-ltb, not-true, not-false}
+use borrow.Author.Tests.{lt-ltb, le-ltb}
 use Rattle.arm64_fixup.specs.Stub.{stubAnswer}
 use Rattle.util.specs.Choice.{choose}
 use borrow.Author.Needs.{needs}
 use Rattle.arm64_fixup.proofs.stub.write_stub.Statement.{statement}
 use Rattle.arm64_fixup.proofs.stub.write_stub.Tie as tie
-use Rattle.arm64_fixup.proofs.stub.write_stub.Reads as reads
-use Rattle.arm64_fixup.proofs.stub.write_stub.Lts as lts
-use Rattle.arm64_fixup.proofs.stub.write_words.Reads as write-words-reads
-use Rattle.arm64_insn.proofs.page.adrp_reaches.Reads as adrp-reaches-reads
-use Rattle.arm64_insn.proofs.stub.stub_words.Reads as stub-words-reads
 
 returns : tie.Need-returns
 unfolding stubAnswer wordsIn choose

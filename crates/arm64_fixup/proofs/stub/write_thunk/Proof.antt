@@ -1,15 +1,11 @@
 -- `write_thunk` meets its contract: the length decides both choices.
 use Rattle.arm64_fixup.specs.Stub.{wordsIn}
-use borrow.Author.Tests.{eq-eqb, ne-eqb, le-leb, lt-leb, lt-ltb, le-ltb, not-true, not-false}
+use borrow.Author.Tests.{lt-ltb, le-ltb}
 use Rattle.arm64_fixup.specs.Stub.{thunkCheck}
 use Rattle.util.specs.Choice.{choose}
 use borrow.Author.Needs.{needs}
 use Rattle.arm64_fixup.proofs.stub.write_thunk.Statement.{statement}
 use Rattle.arm64_fixup.proofs.stub.write_thunk.Tie as tie
-use Rattle.arm64_fixup.proofs.stub.write_thunk.Reads as reads
-use Rattle.arm64_fixup.proofs.stub.write_thunk.Lts as lts
-use Rattle.arm64_fixup.proofs.stub.write_words.Reads as write-words-reads
-use Rattle.arm64_insn.proofs.stub.thunk_words.Reads as thunk-words-reads
 
 returns : tie.Need-returns
 unfolding thunkCheck wordsIn choose

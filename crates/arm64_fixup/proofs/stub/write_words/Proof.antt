@@ -2,9 +2,6 @@
 use borrow.Author.Needs.{needs}
 use Rattle.arm64_fixup.proofs.stub.write_words.Statement.{statement}
 use Rattle.arm64_fixup.proofs.stub.write_words.Tie as tie
-use Rattle.arm64_fixup.proofs.stub.write_words.Reads as reads
-use Rattle.arm64_fixup.proofs.stub.write_words.Lts as lts
-use Rattle.util.proofs.write32.Reads as write32-reads
 
 write32-requires : tie.Need-write32-requires
 write32-requires c κs = search needs

@@ -1,15 +1,9 @@
 -- `apply_reloc_alloc` meets its contract: each of the two checks decides the outcome (Whole).
-use mathlib.Core.Path.{_≡_, sym, _∙_}
-use native.Mathlib.Omega.{arith}
+use mathlib.Core.Path.{sym, _∙_}
 use Rattle.arm64_fixup.proofs.Whole.{lists, turned-down, by-lists, by-entry, done}
 use borrow.Author.Needs.{needs}
 use Rattle.arm64_fixup.proofs.walk.apply_reloc_alloc.Statement.{statement}
 use Rattle.arm64_fixup.proofs.walk.apply_reloc_alloc.Tie as tie
-use Rattle.arm64_fixup.proofs.walk.apply_reloc_alloc.Reads as reads
-use Rattle.arm64_fixup.proofs.walk.apply_reloc_alloc.Lts as lts
-use Rattle.arm64_fixup.proofs.walk.check_all.Reads as check-all-reads
-use Rattle.arm64_fixup.proofs.walk.check_lists.Reads as check-lists-reads
-use Rattle.arm64_fixup.proofs.walk.work_all.Reads as work-all-reads
 
 check-lists-requires : tie.Need-check-lists-requires
 check-lists-requires c κs = search needs

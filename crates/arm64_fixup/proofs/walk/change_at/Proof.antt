@@ -7,24 +7,12 @@ use lib.Dec.{eqb}
 use Rattle.arm64_fixup_entry.specs.Target.{widthOf}
 use Rattle.arm64_fixup_entry.proofs.Sound.{sound, followed}
 use Rattle.arm64_fixup_entry.proofs.Width.{wide}
-use borrow.Author.Tests.{eq-eqb, ne-eqb, le-leb, lt-leb, lt-ltb, le-ltb, not-true, not-false}
+use borrow.Author.Tests.{eq-eqb, ne-eqb}
 use Rattle.arm64_fixup_entry.specs.Change.{changeOf}
 use Rattle.util.specs.Choice.{choose}
 use borrow.Author.Needs.{needs}
 use Rattle.arm64_fixup.proofs.walk.change_at.Statement.{statement}
 use Rattle.arm64_fixup.proofs.walk.change_at.Tie as tie
-use Rattle.arm64_fixup.proofs.walk.change_at.Reads as reads
-use Rattle.arm64_fixup.proofs.walk.change_at.Lts as lts
-use Rattle.arm64_fixup_entry.proofs.change.difference.Reads as difference-reads
-use Rattle.arm64_fixup_entry.proofs.change.silent.Reads as silent-reads
-use Rattle.arm64_fixup_entry.proofs.change.subtractor_value.Reads as subtractor-value-reads
-use Rattle.arm64_fixup_entry.proofs.change.unsigned_value.Reads as unsigned-value-reads
-use Rattle.arm64_fixup_entry.proofs.change.word_change.Reads as word-change-reads
-use Rattle.arm64_fixup_entry.proofs.check.subtracts.Reads as subtracts-reads
-use Rattle.arm64_fixup_entry.proofs.target.width_of.Reads as width-of-reads
-use Rattle.macho.proofs.reloc.Reloc.read.Reads as reloc-Reloc-read-reads
-use Rattle.macho.proofs.resolved.Resolved.read.Reads as resolved-Resolved-read-reads
-use Rattle.util.proofs.read32.Reads as read32-reads
 
 width-of-requires : tie.Need-width-of-requires
 width-of-requires c κs = search needs
@@ -69,8 +57,9 @@ mul-read c = search needs
 
 read-requires : tie.Need-read-requires
 read-requires c κs =
-    let a = c .before .before .before .before .before .before .before .before .before in
-    omega (arith, followed _ _ _ _ _ _ (a .pre .1) (sym (c .before .subtracts .ensures) ∙ c .if3 .taken) (a .pre .0 .0))
+    let width-of = c .before .before .before .before .before in
+    let start = width-of .before .before .before .before in
+    omega (arith, followed _ _ _ _ _ _ (start .pre .1) (sym (c .before .subtracts .ensures) ∙ c .if3 .taken) (start .pre .0 .0))
 
 add-read-2 : tie.Need-add-read-2
 add-read-2 c = search needs
@@ -80,9 +69,9 @@ mul-read-2 c = search needs
 
 read-requires-2 : tie.Need-read-requires-2
 read-requires-2 c κs =
-    let k = c .before in
-    let a = k .before .before .before .before .before .before .before .before .before in
-    omega (arith, followed _ _ _ _ _ _ (a .pre .1) (sym (k .before .subtracts .ensures) ∙ k .if3 .taken) (a .pre .0 .0))
+    let if1 = c .before .before .before .before .before in
+    let start = if1 .before .before .before .before .before in
+    omega (arith, followed _ _ _ _ _ _ (start .pre .1) (sym (c .before .before .subtracts .ensures) ∙ c .before .if3 .taken) (start .pre .0 .0))
 
 subtractor-value-requires : tie.Need-subtractor-value-requires
 subtractor-value-requires c κs = search needs
@@ -93,16 +82,20 @@ difference-requires c κs = search needs
 returns-3 : tie.Need-returns-3
 unfolding changeOf choose
 returns-3 c =
+    let read = c .before .before .before in
+    let if3 = read .before in
+    let if2 = if3 .before .before in
+    let if1 = if2 .before .before in
     simp (
       c .difference .ensures,
       c .before .subtractor-value .ensures,
       c .before .before .read2 .ensures,
-      c .before .before .before .read .ensures,
-      c .before .before .before .before .if3 .taken,
-      ← c .before .before .before .before .before .subtracts .ensures,
-      ne-eqb _ _ (c .before .before .before .before .before .before .if2 .left),
-      ne-eqb _ _ (c .before .before .before .before .before .before .before .before .if1 .left),
-      ← c .before .before .before .before .before .before .before .before .before .width-of .ensures,
+      read .read .ensures,
+      if3 .if3 .taken,
+      ← if3 .before .subtracts .ensures,
+      ne-eqb _ _ (if2 .if2 .left),
+      ne-eqb _ _ (if1 .if1 .left),
+      ← if1 .before .width-of .ensures,
     )
 
 cast-at : tie.Need-cast-at
@@ -116,16 +109,19 @@ cast-t22 c = search needs
 
 add-t23 : tie.Need-add-t23
 add-t23 c =
-    let a = c .before .before .before .before .before .before .before .before .before .before .before .before in
-    let s = sound _ _ _ _ _ (a .pre .1) in
+    let if2 = c .before .before .before .before .before in
+    let width-of = if2 .before .before .before in
+    let s = sound _ _ _ _ _ (width-of .before .before .before .before .pre .1) in
     omega arith
 
 read32-requires : tie.Need-read32-requires
 read32-requires c κs =
-    let k = c .before .before .before .before .before .before .before in
-    let a = k .before .before .before .before .before in
-    let s = sound _ _ _ _ _ (a .pre .1) in
-    let z : eqb (widthOf (a .args .e) (a .args .t)) 0 ≡ false = ap (λ (n : ℕ). eqb n 0) (sym (k .before .width-of .ensures)) ∙ ne-eqb _ _ (k .if1 .left) in
+    let if2 = c .before .before .before .before .before in
+    let if1 = if2 .before .before in
+    let start = if1 .before .before .before .before .before in
+    let s = sound _ _ _ _ _ (start .pre .1) in
+    let z : eqb (widthOf (start .args .e) (start .args .t)) 0 ≡ false =
+    ap (λ (n : ℕ). eqb n 0) (sym (if1 .before .width-of .ensures)) ∙ ne-eqb _ _ (if1 .if1 .left) in
     omega (arith, wide _ _ z)
 
 word-change-requires : tie.Need-word-change-requires
@@ -134,14 +130,17 @@ word-change-requires c κs = search needs
 returns-4 : tie.Need-returns-4
 unfolding changeOf choose
 returns-4 c =
+    let if3 = c .before .before .before .before .before in
+    let if2 = if3 .before .before in
+    let if1 = if2 .before .before in
     simp (
       c .word-change .ensures,
       c .before .read32 .ensures,
-      c .before .before .before .before .before .if3 .left,
-      ← c .before .before .before .before .before .before .subtracts .ensures,
-      ne-eqb _ _ (c .before .before .before .before .before .before .before .if2 .left),
-      ne-eqb _ _ (c .before .before .before .before .before .before .before .before .before .if1 .left),
-      ← c .before .before .before .before .before .before .before .before .before .before .width-of .ensures,
+      if3 .if3 .left,
+      ← if3 .before .subtracts .ensures,
+      ne-eqb _ _ (if2 .if2 .left),
+      ne-eqb _ _ (if1 .if1 .left),
+      ← if1 .before .width-of .ensures,
     )
 
 pub change-at-spec : {M : Type 1} → statement M

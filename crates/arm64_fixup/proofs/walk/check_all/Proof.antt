@@ -1,7 +1,7 @@
 -- `check_all` meets its contract: the entries before i pass, and entry i is one that is worked; a turn is `check-again` or `check-refused` of Turns.
 use denote.Ref.{now}
 use Rattle.arm64_fixup.proofs.Turns.{check-refused, check-again, ended, takes}
-use mathlib.Core.Path.{_≡_, refl, sym, ap, _∙_}
+use mathlib.Core.Path.{_≡_, refl, sym}
 use mathlib.Core.Bool.{false}
 use Prim.Native.Nat.{ℕ, _-_, _≤_, zero-le}
 use native.Mathlib.Omega.{arith}
@@ -10,12 +10,6 @@ use Rattle.arm64_fixup.specs.Walk.{entryCount, consumed, checkTo}
 use Rattle.macho.specs.declared.refusal.Check.the-variants.{Fit}
 use Rattle.arm64_fixup.proofs.walk.check_all.Statement.{statement}
 use Rattle.arm64_fixup.proofs.walk.check_all.Tie as tie
-use Rattle.arm64_fixup.proofs.walk.check_all.Reads as reads
-use Rattle.arm64_fixup.proofs.walk.check_all.Lts as lts
-use Rattle.arm64_fixup_entry.proofs.check.check_entry.Reads as check-entry-reads
-use Rattle.arm64_fixup.proofs.walk.taken.Reads as taken-reads
-use Rattle.macho.proofs.reloc.Reloc.read.Reads as reloc-Reloc-read-reads
-use Rattle.macho.proofs.resolved.Resolved.read.Reads as resolved-Resolved-read-reads
 
 abbrev Inv-loop : tie.InvT-loop
 Inv-loop len bases entries targets n i₀ i = (i ≤ entryCount entries) × (consumed entries i ≡ false) × (checkTo len bases entries targets i ≡ Fit)
@@ -64,9 +58,10 @@ taken-requires c κs = search needs
 
 add-i : tie.Need-add-i Inv-loop μ-loop
 add-i c =
-    let l = c .before .before .before .before .before .before in
-    let t = takes (c .before .before .before .before .before .read .result .ty) (c .taken .ensures) in
-    omega (arith, l .before .before .before .before .good .1 .1 .0)
+    let read = c .before .before .before .before .before in
+    let start = read .before .before .before .before .before in
+    let t = takes (read .read .result .ty) (c .taken .ensures) in
+    omega (arith, start .good .1 .1 .0)
 
 loop-less : tie.Need-loop-less Inv-loop μ-loop
 loop-less c = let t = takes (c .before .before .before .before .before .read .result .ty) (c .taken .ensures) in omega arith

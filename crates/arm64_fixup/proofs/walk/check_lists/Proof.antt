@@ -1,12 +1,10 @@
 -- `check_lists` meets its contract: the tests on the way to each return decide the choices.
-use borrow.Author.Tests.{eq-eqb, ne-eqb, le-leb, lt-leb, lt-ltb, le-ltb, not-true, not-false}
+use borrow.Author.Tests.{eq-eqb, ne-eqb, le-leb, lt-leb, lt-ltb, le-ltb}
 use Rattle.arm64_fixup.specs.Answer.{checkLists}
 use Rattle.util.specs.Choice.{choose}
 use borrow.Author.Needs.{needs}
 use Rattle.arm64_fixup.proofs.walk.check_lists.Statement.{statement}
 use Rattle.arm64_fixup.proofs.walk.check_lists.Tie as tie
-use Rattle.arm64_fixup.proofs.walk.check_lists.Reads as reads
-use Rattle.arm64_fixup.proofs.walk.check_lists.Lts as lts
 
 returns : tie.Need-returns
 unfolding checkLists choose

@@ -1,15 +1,8 @@
 -- `store` meets its contract: the write decides the case.
 use native.Mathlib.Omega.{arith}
-use Rattle.arm64_fixup_entry.specs.Change.{bytesIn}
-use borrow.Author.Tests.{eq-eqb, ne-eqb, le-leb, lt-leb, lt-ltb, le-ltb, not-true, not-false}
-use Rattle.arm64_fixup.specs.Walk.{stored}
 use borrow.Author.Needs.{needs}
 use Rattle.arm64_fixup.proofs.walk.store.Statement.{statement}
 use Rattle.arm64_fixup.proofs.walk.store.Tie as tie
-use Rattle.arm64_fixup.proofs.walk.store.Reads as reads
-use Rattle.arm64_fixup.proofs.walk.store.Lts as lts
-use Rattle.util.proofs.write32.Reads as write32-reads
-use Rattle.util.proofs.write64.Reads as write64-reads
 
 enum-told : tie.Need-enum-told
 enum-told c = search needs

@@ -1,13 +1,8 @@
 -- `taken` meets its contract: the type decides the choice.
-use borrow.Author.Tests.{eq-eqb, ne-eqb, le-leb, lt-leb, lt-ltb, le-ltb, not-true, not-false}
-use Rattle.arm64_fixup.specs.Walk.{takenBy}
 use Rattle.util.specs.Choice.{choose}
 use borrow.Author.Needs.{needs}
 use Rattle.arm64_fixup.proofs.walk.taken.Statement.{statement}
 use Rattle.arm64_fixup.proofs.walk.taken.Tie as tie
-use Rattle.arm64_fixup.proofs.walk.taken.Reads as reads
-use Rattle.arm64_fixup.proofs.walk.taken.Lts as lts
-use Rattle.arm64_fixup_entry.proofs.check.subtracts.Reads as subtracts-reads
 
 subtracts-requires : tie.Need-subtracts-requires
 subtracts-requires c κs = search needs

@@ -2,15 +2,10 @@
 use mathlib.Core.List.{append-nil}
 use native.Mathlib.Omega.{arith}
 use mathlib.Core.Path.{refl}
-use borrow.Author.Tests.{eq-eqb, ne-eqb, le-leb, lt-leb, lt-ltb, le-ltb, not-true, not-false}
 use Rattle.macho.specs.Record.{listBytes}
-use Rattle.arm64_fixup.specs.Walk.{reportsOf}
 use borrow.Author.Needs.{needs}
 use Rattle.arm64_fixup.proofs.walk.tell.Statement.{statement}
 use Rattle.arm64_fixup.proofs.walk.tell.Tie as tie
-use Rattle.arm64_fixup.proofs.walk.tell.Reads as reads
-use Rattle.arm64_fixup.proofs.walk.tell.Lts as lts
-use Rattle.macho.proofs.report.Report.write.Reads as write-reads
 
 enum-told : tie.Need-enum-told
 enum-told c = search needs
