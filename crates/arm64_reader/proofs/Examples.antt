@@ -16,7 +16,7 @@ use Rattle.arm64_reader.specs.Support.{formsOf, supportedOf}
 use Rattle.arm64_reader.specs.Check.{loadedBytes, gotFits, tlvpFits, pointer32, wordCheck, checkReloc}
 use Rattle.arm64_reader.specs.Record.{addendOf, recordOf, stepAt}
 use Rattle.arm64_reader.specs.Read.{readRecords, readRelocs}
-use Rattle.arm64_reader.specs.Header.{Referent, symbol, nothing, Relocation, wellFormed, Meaning, undefined, relocations, meaningFrom, meaningOf}
+use Rattle.arm64_reader.specs.Header.{symbol, nothing, wellFormed, Meaning, undefined, relocations, meaningFrom, meaningOf}
 use Rattle.arm64_reader.specs.Header.{subtractor-last, subtractor-type, subtractor-place, subtractor-size, addend-form, addend-type, addend-place}
 use Rattle.arm64_reader.specs.Header.{turnAlone, turnMinus, turnPlus}
 

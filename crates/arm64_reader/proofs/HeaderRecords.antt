@@ -1,26 +1,24 @@
 -- One record read, against what the header says of it: what its entry says, and the refusals that are left where its fields go with its type.
 use mathlib.Core.Path.{_≡_, refl, sym, ap, ap₂, subst, _∙_}
-use mathlib.Core.Logic.{_⊎_, inl, inr, ⊎-elim}
-use mathlib.Core.Bool.{Bool, true, false, _&&_, true≢false, false≢true}
-use mathlib.Core.List.{List, [], _∷_}
-use Prim.Native.Nat.{ℕ, zero, suc, _+_, _-_, _*_, _/_, _%_, _^_, _<_, _≤_}
+use mathlib.Core.Logic.{_⊎_, inl, inr}
+use mathlib.Core.Bool.{Bool, true, false}
+use mathlib.Core.List.{List}
+use Prim.Native.Nat.{ℕ, zero, suc, _+_, _-_, _/_, _%_, _^_, _<_, _≤_}
 use native.Mathlib.Omega.{arith}
-use borrow.Author.Tests.{eq-eqb, ne-eqb, eqb-true, eqb-false, ltb-true, ltb-false, leb-true, lt-ltb, le-ltb}
-use lib.ListN.{length, getD, drop}
-use lib.Dec.{eqb, ltb, leb}
+use borrow.Author.Tests.{eq-eqb, ne-eqb, eqb-false, lt-ltb, le-ltb}
+use lib.ListN.{length, drop}
+use lib.Dec.{eqb, ltb}
 use lib.Pow.{pow-mono}
-use Rattle.util.specs.Bits.{extend}
 use Rattle.util.specs.Choice.{choose}
 use Rattle.util.specs.Word.{le}
 use Rattle.util.proofs.Choice.{split, chosen, choose-true, choose-false}
 use Rattle.util.proofs.Bytes.{le-drop}
-use Rattle.macho.specs.MachRel.{idxOf, pcrelOf, p2sizeOf, externOf, typeOf}
-use Rattle.macho.specs.Types.{ARM64-RELOC-UNSIGNED, ARM64-RELOC-SUBTRACTOR, ARM64-RELOC-GOT-LOAD-PAGEOFF12, ARM64-RELOC-TLVP-LOAD-PAGEOFF12}
-use Rattle.macho.specs.Types.{ARM64-RELOC-ADDEND}
+use Rattle.macho.specs.MachRel.{idxOf, p2sizeOf, externOf, typeOf}
+use Rattle.macho.specs.Types.{ARM64-RELOC-UNSIGNED}
 use Rattle.macho.specs.declared.rel.MachRel.{MachRel}
 use Rattle.macho.specs.declared.reloc.Reloc.{Reloc}
 use Rattle.macho.specs.declared.refusal.Refusal.{Refusal}
-use Rattle.macho.specs.declared.refusal.Refusal.the-variants.{Bounds, Unsupported, Unfit, NoSection}
+use Rattle.macho.specs.declared.refusal.Refusal.the-variants.{Unsupported, Unfit}
 use Rattle.arch.specs.Entry.{entryOf, enter, targeted}
 use Rattle.arch.specs.Target.{sectionTarget, targetOf}
 use Rattle.arch.specs.declared.target.Target.{Target}
@@ -32,14 +30,14 @@ use Rattle.arch.specs.declared.step.Step.the-variants as S
 use Rattle.arm64_reader.specs.declared.record.Addend.{Addend}
 use Rattle.arm64_reader.specs.declared.record.Addend.the-variants.{Held, Refused}
 use Rattle.arm64_reader.specs.Support.{supportedOf}
-use Rattle.arm64_reader.specs.Check.{gotFits, tlvpFits, pointer32, wordCheck, checkReloc}
+use Rattle.arm64_reader.specs.Check.{pointer32, wordCheck, checkReloc}
 use Rattle.arm64_reader.specs.Record.{addendOf, passing, adding, recordOf}
 use Rattle.arm64_reader.specs.Fields.{heldIn, targetIn, addendIn}
-use Rattle.arm64_reader.specs.Header.{Referent, symbol, section, Less, nothing, less, Relocation, isDistance, isPageOffset, goTogether, wellFormed}
-use Rattle.arm64_reader.specs.Header.{referentOf, addedBy, pointerOf, wordOf, Known}
+use Rattle.arm64_reader.specs.Header.{Referent, section, Less, Relocation, wellFormed}
+use Rattle.arm64_reader.specs.Header.{referentOf, pointerOf, Known}
 use Rattle.arm64_reader.specs.Said.{namedBy, sayOne}
 use Rattle.arm64_reader.proofs.Fields.{Says, entry, record-says}
-use Rattle.arm64_reader.proofs.HeaderForms.{supported-is, size-at-least, names-symbol}
+use Rattle.arm64_reader.proofs.HeaderForms.{supported-is, size-at-least}
 
 -- ---- a record that reads
 

@@ -3,14 +3,13 @@
 -- define it, the reason is one of those listed. One induction over the records, by the cases of the header's turns.
 use mathlib.Core.Path.{_≡_, refl, sym, ap, ap₂, subst, subst₂, _∙_}
 use mathlib.Core.Logic.{_⊎_, inl, inr, ⊎-elim}
-use mathlib.Core.Bool.{Bool, true, false, _||_, _&&_, or-true, true≢false, false≢true}
+use mathlib.Core.Bool.{Bool, true, false, _||_, or-true, true≢false, false≢true}
 use mathlib.Core.List.{List, [], _∷_}
 use Prim.Native.Nat.{ℕ, _+_, _-_, _*_, _/_, _%_, _^_, _<_, _≤_}
 use native.Mathlib.Omega.{arith}
 use borrow.Author.Tests.{eq-eqb, ne-eqb, eqb-true, ltb-true, ltb-false}
 use lib.ListN.{length, drop, length-drop}
 use lib.Dec.{eqb, ltb}
-use lib.Pow.{pow-pos}
 use Rattle.util.specs.Bits.{extend}
 use Rattle.util.specs.Choice.{choose}
 use Rattle.util.proofs.Choice.{both, choose-true}
@@ -23,20 +22,19 @@ use Rattle.macho.specs.declared.refusal.Refusal.the-variants.{Bounds, LoneAdden
 use Rattle.arch.specs.Table.{recordsOf}
 use Rattle.arch.specs.Walk.{Reading, refused, entries, before}
 use Rattle.arch.specs.declared.step.Step.{Step}
-use Rattle.arch.specs.declared.step.Step.the-variants as S
 use Rattle.arm64_reader.specs.Check.{pointer32}
 use Rattle.arm64_reader.specs.Record.{recordOf}
 use Rattle.arm64_reader.specs.Read.{readRecords, readRelocs}
 use Rattle.arm64_reader.specs.Header.{Referent, symbol, section, Less, nothing, less, Relocation, wellFormed, takesAddend, referentOf, pointerOf, wordOf}
 use Rattle.arm64_reader.specs.Header.{Reason, form, subtractor-last, subtractor-type, subtractor-place, subtractor-size}
 use Rattle.arm64_reader.specs.Header.{addend-form, addend-last, addend-type, addend-place}
-use Rattle.arm64_reader.specs.Header.{isTolerated, Pending, none, minus, plus, Turn, stop, wait, give, Meaning, undefined, relocations}
-use Rattle.arm64_reader.specs.Header.{turnMinus, withFirst, follow, meaningFrom, meaningOf, Known, Inside, isLonePointer32, hasLonePointer32}
+use Rattle.arm64_reader.specs.Header.{isTolerated, Pending, none, minus, plus, Turn, give, Meaning, undefined, relocations}
+use Rattle.arm64_reader.specs.Header.{withFirst, follow, meaningFrom, meaningOf, Known, Inside, isLonePointer32, hasLonePointer32}
 use Rattle.arm64_reader.specs.Said.{namedBy, sayOne, saidFrom, said}
 use Rattle.arm64_reader.proofs.Lengths.{enough}
 use Rattle.arm64_reader.proofs.Lists.{isSubtractor, read-nil, read-past, read-lone, plain-cases, pair-cases}
 use Rattle.arm64_reader.proofs.HeaderForms.{names-symbol}
-use Rattle.arm64_reader.proofs.HeaderRecords.{Left, read-entry, read-formed, read-named, refused-left, named-is, own, say-pointer, say-word}
+use Rattle.arm64_reader.proofs.HeaderRecords.{read-entry, read-formed, read-named, refused-left, named-is, own, say-pointer, say-word}
 use Rattle.arm64_reader.proofs.HeaderTurns as View
 
 -- the refusals that a table of these relocations may meet

@@ -1,19 +1,18 @@
 -- What a turn of the header's reading comes to in each of its cases, as data to match on.
-use mathlib.Core.Path.{_≡_, refl, sym, ap, subst, _∙_}
-use mathlib.Core.Bool.{Bool, true, false}
+use mathlib.Core.Path.{_≡_}
+use mathlib.Core.Bool.{true, false}
 use mathlib.Core.List.{List}
 use Prim.Native.Nat.{ℕ}
 use borrow.Author.Tests.{eqb-true, eqb-false}
 use lib.Dec.{eqb}
 use Rattle.util.specs.Bits.{extend}
-use Rattle.util.specs.Choice.{choose}
 use Rattle.util.proofs.Choice.{split}
 use Rattle.macho.specs.MachRel.{idxOf, p2sizeOf, typeOf}
 use Rattle.macho.specs.Types.{ARM64-RELOC-UNSIGNED, ARM64-RELOC-SUBTRACTOR, ARM64-RELOC-ADDEND}
 use Rattle.macho.specs.declared.rel.MachRel.{MachRel}
-use Rattle.arm64_reader.specs.Header.{Less, nothing, less, wellFormed, takesAddend, referentOf, pointerOf, wordOf, Turn, stop, wait, give}
-use Rattle.arm64_reader.specs.Header.{Reason, form, subtractor-type, subtractor-place, subtractor-size, addend-form, addend-type, addend-place}
-use Rattle.arm64_reader.specs.Header.{Pending, none, minus, plus, turnAlone, turnMinus, turnPlus}
+use Rattle.arm64_reader.specs.Header.{nothing, less, wellFormed, takesAddend, referentOf, pointerOf, wordOf, Turn, stop, wait, give}
+use Rattle.arm64_reader.specs.Header.{form, subtractor-type, subtractor-place, subtractor-size, addend-form, addend-type, addend-place}
+use Rattle.arm64_reader.specs.Header.{minus, plus, turnAlone, turnMinus, turnPlus}
 
 -- a record that completes nothing
 pub data Alone (contents sections : List ℕ) (r : MachRel) : Turn → Type 0 where

@@ -1,32 +1,29 @@
 -- What is ignored changes nothing: the slots' bytes, contents outside the words that records are read against, addresses of sections that no record
 -- names, an ADDEND record's form, and the offset of the record after it. Steps that agree walk alike.
-use mathlib.Core.Path.{_≡_, refl, sym, ap, ap₂, subst, _∙_}
+use mathlib.Core.Path.{_≡_, refl, sym, ap, subst, _∙_}
 use mathlib.Core.Logic.{_⊎_}
 use mathlib.Core.Bool.{Bool, true, false}
-use mathlib.Core.List.{List, [], _∷_, _++_}
-use Prim.Native.Nat.{ℕ, zero, suc, zero-le, _+_, _-_, _^_, _<_, _≤_}
+use mathlib.Core.List.{List, _∷_, _++_}
+use Prim.Native.Nat.{ℕ, zero, suc, zero-le, _+_, _-_, _<_, _≤_}
 use native.Mathlib.Omega.{arith}
-use borrow.Author.Tests.{ltb-true, ltb-false, eqb-true, eqb-false}
+use borrow.Author.Tests.{ltb-true, ltb-false, eqb-true}
 use lib.ListN.{length, getD, drop, length-drop}
 use lib.Dec.{eqb, ltb}
 use Rattle.util.specs.Bits.{extend}
 use Rattle.util.specs.Choice.{choose}
 use Rattle.util.specs.Word.{le}
-use Rattle.util.specs.Wrap.{diff}
 use Rattle.util.proofs.Bytes.{le-drop}
 use Rattle.macho.specs.MachRel.{idxOf, typeOf, p2sizeOf, externOf}
 use Rattle.macho.specs.Types.{ARM64-RELOC-UNSIGNED, ARM64-RELOC-SUBTRACTOR, ARM64-RELOC-GOT-LOAD-PAGEOFF12, ARM64-RELOC-TLVP-LOAD-PAGEOFF12}
 use Rattle.macho.specs.Types.{ARM64-RELOC-ADDEND}
 use Rattle.macho.specs.declared.rel.MachRel.{MachRel}
 use Rattle.macho.specs.declared.reloc.Reloc.{Reloc}
-use Rattle.macho.specs.declared.refusal.Refusal.the-variants.{NoSection}
 use Rattle.arch.specs.Entry.{entryOf, enter, targeted}
 use Rattle.arch.specs.Join.{joined}
 use Rattle.arch.specs.Table.{recordAt, subtractedAt}
 use Rattle.arch.specs.Target.{sectionTarget, targetOf}
-use Rattle.arch.specs.Walk.{Reading, refused, entries, before, after, readFrom, readAll, Fills}
+use Rattle.arch.specs.Walk.{Reading, before, after, readFrom, readAll, Fills}
 use Rattle.arch.specs.declared.target.Target.{Target}
-use Rattle.arch.specs.declared.target.Target.the-variants as T
 use Rattle.macho.specs.declared.refusal.Check.{Check}
 use Rattle.arch.specs.declared.step.Step.{Step}
 use Rattle.arch.specs.declared.step.Step.the-variants as S
@@ -39,7 +36,7 @@ use Rattle.arm64_reader.specs.Record.{addendOf, passing, adding, recordO
 use Rattle.arm64_reader.specs.Read.{readRecords, readRelocs}
 use Rattle.arm64_reader.specs.Fields.{isAddend, ownOf, lookedAt}
 use Rattle.arm64_reader.proofs.Steps.{past-is, pair-is, pair-ends, step-onward}
-use Rattle.arm64_reader.proofs.Moves.{Alike, same-record, step-moved}
+use Rattle.arm64_reader.proofs.Moves.{same-record, step-moved}
 use Rattle.arm64_reader.proofs.Tables.{PlainLast, endsIn, moved-none, read-append}
 
 -- slots count by their length

@@ -1,6 +1,5 @@
 -- Numbers 1 and 2 by the lengths that are lent, and empty lists, each from the choices in `lengthsOf`.
-use mathlib.Core.Path.{_≡_, refl, sym, ap, subst, _∙_}
-use mathlib.Core.Bool.{Bool, false}
+use mathlib.Core.Path.{_≡_, refl}
 use mathlib.Core.List.{List, []}
 use Prim.Native.Nat.{ℕ, zero-le, _-_, _*_, _/_, _%_, _^_, _<_, _≤_}
 use native.Mathlib.Omega.{arith}
@@ -8,10 +7,9 @@ use borrow.Author.Tests.{eq-eqb, ne-eqb, lt-ltb, le-ltb}
 use lib.ListN.{length}
 use Rattle.util.specs.Choice.{choose}
 use Rattle.macho.specs.declared.reloc.Reloc.{Reloc}
-use Rattle.macho.specs.declared.refusal.Refusal.{Refusal}
 use Rattle.macho.specs.declared.refusal.Refusal.the-variants.{Lengths, Slots}
 use Rattle.arch.specs.Table.{recordsFrom, recordsOf, lengthsOf}
-use Rattle.arch.specs.Walk.{Reading, refused, entries, checked, readFrom, readAll}
+use Rattle.arch.specs.Walk.{refused, entries, checked, readFrom, readAll}
 use Rattle.macho.specs.declared.refusal.Check.{Check}
 use Rattle.macho.specs.declared.refusal.Check.the-variants as C
 use Rattle.arm64_reader.specs.Read.{readRecords, readTable, readRelocs}

@@ -1,8 +1,8 @@
 -- A list of records read from its head: the step at the first record, then the rest of the list, which stands one or two records further on.
-use mathlib.Core.Path.{_≡_, refl, sym, ap, ap₂, subst, _∙_}
+use mathlib.Core.Path.{_≡_, refl, ap, _∙_}
 use mathlib.Core.Bool.{Bool, true, false}
 use mathlib.Core.List.{List, [], _∷_, _++_}
-use Prim.Native.Nat.{ℕ, zero, suc, _+_, _-_, _<_, _≤_}
+use Prim.Native.Nat.{ℕ, suc, _+_, _-_, _<_, _≤_}
 use native.Mathlib.Omega.{arith}
 use lib.ListN.{length, drop}
 use borrow.Author.Tests.{ltb-true, ltb-false}
@@ -15,7 +15,7 @@ use Rattle.macho.specs.declared.rel.MachRel.{MachRel}
 use Rattle.macho.specs.declared.reloc.Reloc.{Reloc}
 use Rattle.macho.specs.declared.refusal.Refusal.{Refusal}
 use Rattle.macho.specs.declared.refusal.Refusal.the-variants.{Bounds, LoneAddend}
-use Rattle.arch.specs.Table.{recordAt, subtractedAt}
+use Rattle.arch.specs.Table.{subtractedAt}
 use Rattle.arch.specs.Walk.{Reading, refused, entries, before, after, readFrom, readAll}
 use Rattle.arch.specs.declared.step.Step.{Step}
 use Rattle.arch.specs.declared.step.Step.the-variants as S

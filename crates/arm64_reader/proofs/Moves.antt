@@ -8,13 +8,10 @@ use borrow.Author.Tests.{ltb-true, ltb-false, eqb-true, eqb-false}
 use lib.ListN.{length, drop}
 use lib.Dec.{eqb, ltb}
 use Rattle.util.specs.Bits.{extend}
-use Rattle.util.specs.Choice.{choose}
-use Rattle.util.proofs.Choice.{choose-ap}
 use Rattle.macho.specs.MachRel.{idxOf, typeOf}
 use Rattle.macho.specs.Types.{ARM64-RELOC-SUBTRACTOR, ARM64-RELOC-ADDEND}
 use Rattle.macho.specs.declared.rel.MachRel.{MachRel}
 use Rattle.macho.specs.declared.reloc.Reloc.{Reloc}
-use Rattle.macho.specs.declared.refusal.Refusal.the-variants.{Bounds, LoneAddend}
 use Rattle.arch.specs.Entry.{entryOf, enter, targeted}
 use Rattle.arch.specs.Join.{moved}
 use Rattle.arch.specs.Table.{recordAt, subtractedAt}

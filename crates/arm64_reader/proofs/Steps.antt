@@ -103,6 +103,23 @@ module _ (contents sections : List ℕ) (before : Bool) (rs : List MachRel) (i :
   plain-is h p =
       other-is h (p .0) ∙ p .1 (drop off contents) sections (subtractedAt ARM64-RELOC-SUBTRACTOR before rs i) off (i + 1)
 
+-- ---- what a reader has before it: record i read as r, and the number j of the entry's own record
+
+pub offset-within : (contents : List ℕ) {r m : MachRel} → r ≡ m → r .offset ≤ length contents → m .offset ≤ length contents
+offset-within contents e h = subst (λ (x : MachRel). x .offset ≤ length contents) e h
+
+pub own-there : (records : List ℕ) (i : ℕ) {j : ℕ} → j ≡ ownOf (recordsOf records) i → j < length records / 8
+    → ownOf (recordsOf records) i < length (recordsOf records)
+own-there records i e h = omega (arith, length-records records, e)
+
+pub own-missing : (contents records sections : List ℕ) (i : ℕ) {r : MachRel} {j : ℕ} → r ≡ recordAt (recordsOf records) i → r .offset ≤ length contents
+    → i < length records / 8 → j ≡ ownOf (recordsOf records) i → length records / 8 ≤ j
+    → S.Refused LoneAddend ≡ stepAt contents sections false (recordsOf records) i
+own-missing contents records sections i f h k e l =
+    sym
+    (none-is contents sections false (recordsOf records) i (offset-within contents f h) (omega (arith, length-records records))
+    (omega (arith, length-records records, e)))
+
 -- a record of a symbol, of a supported form, with no addend in its place and no word to be checked, by the number of its type and form
 module _ (r : MachRel) where
   plain-by : supportedOf r ≡ true → eqb (externOf (r .bits)) 1 ≡ true → eqb (typeOf (r .bits)) ARM64-RELOC-UNSIGNED ≡ false

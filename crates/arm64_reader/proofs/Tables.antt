@@ -1,11 +1,11 @@
 -- The append law of the reader: a list of records read after another. Its steps agree with those of the two lists, and `arch` joins the walks.
 use mathlib.Core.Path.{_≡_, refl, sym, ap, subst, _∙_}
-use mathlib.Core.Logic.{_⊎_, inl, inr}
+use mathlib.Core.Logic.{_⊎_}
 use mathlib.Core.Bool.{Bool, true, false}
-use mathlib.Core.List.{List, [], _∷_, _++_}
-use Prim.Native.Nat.{ℕ, zero, suc, _+_, _-_, _%_, _<_, _≤_}
+use mathlib.Core.List.{List, _++_}
+use Prim.Native.Nat.{ℕ, _+_, _-_, _%_, _<_, _≤_}
 use native.Mathlib.Omega.{arith}
-use borrow.Author.Tests.{eq-eqb, ne-eqb, lt-ltb, le-ltb, ltb-true, ltb-false, eqb-true, eqb-false}
+use borrow.Author.Tests.{ne-eqb, lt-ltb, le-ltb, ltb-true, ltb-false, eqb-true, eqb-false}
 use lib.ListN.{length, drop, length-append, List·getD-append}
 use lib.Seq.{getD-append-add}
 use lib.Dec.{eqb, ltb}
@@ -19,7 +19,7 @@ use Rattle.macho.specs.declared.refusal.Refusal.the-variants.{Bounds, LoneAdden
 use Rattle.arch.specs.Entry.{entryOf}
 use Rattle.arch.specs.Join.{joined, mapped, moved}
 use Rattle.arch.specs.Table.{recordsOf, recordAt, subtractedAt}
-use Rattle.arch.specs.Walk.{Reading, readAll, Fills}
+use Rattle.arch.specs.Walk.{readAll, Fills}
 use Rattle.arch.specs.declared.step.Step.{Step}
 use Rattle.arch.specs.declared.step.Step.the-variants as S
 use Rattle.arch.proofs.Records.{records-append}
@@ -27,7 +27,7 @@ use Rattle.arch.proofs.Append.{Carries, carries-same, append, mapped-same}
 use Rattle.arm64_reader.specs.Record.{stepAt}
 use Rattle.arm64_reader.specs.Read.{readRecords, readTable}
 use Rattle.arm64_reader.proofs.Steps.{past-is, lone-is, step-onward, step-within}
-use Rattle.arm64_reader.proofs.Moves.{Alike, step-moved}
+use Rattle.arm64_reader.proofs.Moves.{step-moved}
 
 -- the last record of a list is no ADDEND
 abbrev pub PlainLast : List MachRel → Type 0

@@ -11,7 +11,6 @@ use Rattle.util.proofs.Below.{every}
 use Rattle.util.proofs.Choice.{both}
 use Rattle.arm64_insn.specs.Encoding.{addUnshifted, loadStore}
 use Rattle.arm64_insn.specs.LoadStore.{takenAsLoad, loadStoreOf, takenWord}
-use Rattle.arm64_insn.specs.LoadStoreTable.{rowOf}
 use Rattle.arm64_insn.specs.Manual as M
 use Rattle.arm64_insn.specs.declared.ldst.LoadStoreWord.{LoadStoreWord}
 use Rattle.arm64_insn.specs.declared.ldst.LoadStoreWord.the-variants.{LoadStore, Other}

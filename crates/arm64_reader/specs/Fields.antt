@@ -5,7 +5,7 @@ use mathlib.Core.List.{List, [], _∷_}
 use lib.ListN.{getD}
 use lib.Dec.{eqb}
 use Rattle.util.specs.Bits.{extend}
-use Rattle.util.specs.Choice.{choose, flag}
+use Rattle.util.specs.Choice.{choose}
 use Rattle.util.specs.Word.{le}
 use Rattle.util.specs.Wrap.{diff}
 use Rattle.macho.specs.MachRel.{idxOf, p2sizeOf, externOf, typeOf}

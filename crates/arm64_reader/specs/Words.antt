@@ -3,7 +3,7 @@ use Prim.Native.Nat.{ℕ}
 use mathlib.Core.Bool.{Bool, false}
 use lib.Dec.{eqb}
 use Rattle.util.specs.Choice.{choose}
-use Rattle.arm64_insn.specs.LoadStoreTable.{Row, rowOf, movedBy, isStore}
+use Rattle.arm64_insn.specs.LoadStoreTable.{rowOf, movedBy, isStore}
 use Rattle.arm64_insn.specs.Manual as M
 
 -- whether a form is ADD (immediate), of either width, whose immediate is not shifted

@@ -1,15 +1,10 @@
-use borrow.Author.Tests.{eq-eqb, ne-eqb, le-leb, lt-leb, lt-ltb, le-ltb, not-true, not-false}
+-- `check_reloc` meets its contract: the tests on the way to each return decide the choices.
+use borrow.Author.Tests.{eq-eqb, ne-eqb, not-true, not-false}
 use Rattle.arm64_reader.specs.Check.{checkReloc}
 use Rattle.util.specs.Choice.{choose}
 use borrow.Author.Needs.{needs}
 use Rattle.arm64_reader.proofs.check.check_reloc.Statement.{statement}
 use Rattle.arm64_reader.proofs.check.check_reloc.Tie as tie
-use Rattle.arm64_reader.proofs.check.check_reloc.Reads as reads
-use Rattle.arm64_reader.proofs.check.check_reloc.Lts as lts
-use Rattle.arm64_reader.proofs.check.check_word.Reads as check-word-reads
-use Rattle.arm64_reader.proofs.check.is_pointer32.Reads as is-pointer32-reads
-use Rattle.arm64_reader.proofs.support.is_supported.Reads as is-supported-reads
-use Rattle.macho.proofs.rel.MachRel.ty.Reads as ty-reads
 
 is-supported-requires : tie.Need-is-supported-requires
 is-supported-requires c κs = search needs
@@ -44,14 +39,16 @@ check-word-requires c κs = search needs
 returns-3 : tie.Need-returns-3
 unfolding checkReloc choose
 returns-3 c =
+    let if2 = c .before .before .before in
+    let if1 = if2 .before .before in
     simp (
       c .check-word .ensures,
       eq-eqb _ _ (c .before .if3 .taken),
       ← c .before .before .ty .ensures,
-      c .before .before .before .if2 .left,
-      ← c .before .before .before .before .is-pointer32 .ensures,
-      not-false (c .before .before .before .before .before .before .is-supported .result) (c .before .before .before .before .before .if1 .left),
-      ← c .before .before .before .before .before .before .is-supported .ensures,
+      if2 .if2 .left,
+      ← if2 .before .is-pointer32 .ensures,
+      not-false (if1 .before .is-supported .result) (if1 .if1 .left),
+      ← if1 .before .is-supported .ensures,
     )
 
 check-word-requires-2 : tie.Need-check-word-requires-2
@@ -60,29 +57,33 @@ check-word-requires-2 c κs = search needs
 returns-4 : tie.Need-returns-4
 unfolding checkReloc choose
 returns-4 c =
+    let if3 = c .before .before in
+    let if2 = if3 .before .before in
+    let if1 = if2 .before .before in
     simp (
       c .check-word2 .ensures,
       eq-eqb _ _ (c .before .if4 .taken),
-      ne-eqb _ _ (c .before .before .if3 .left),
-      ← c .before .before .before .ty .ensures,
-      c .before .before .before .before .if2 .left,
-      ← c .before .before .before .before .before .is-pointer32 .ensures,
-      not-false (c .before .before .before .before .before .before .before .is-supported .result)
-          (c .before .before .before .before .before .before .if1 .left),
-      ← c .before .before .before .before .before .before .before .is-supported .ensures,
+      ne-eqb _ _ (if3 .if3 .left),
+      ← if3 .before .ty .ensures,
+      if2 .if2 .left,
+      ← if2 .before .is-pointer32 .ensures,
+      not-false (if1 .before .is-supported .result) (if1 .if1 .left),
+      ← if1 .before .is-supported .ensures,
     )
 
 returns-5 : tie.Need-returns-5
 unfolding checkReloc choose
 returns-5 c =
+    let if2 = c .before .before .before in
+    let if1 = if2 .before .before in
     simp (
       ne-eqb _ _ (c .if4 .left),
       ne-eqb _ _ (c .before .if3 .left),
       ← c .before .before .ty .ensures,
-      c .before .before .before .if2 .left,
-      ← c .before .before .before .before .is-pointer32 .ensures,
-      not-false (c .before .before .before .before .before .before .is-supported .result) (c .before .before .before .before .before .if1 .left),
-      ← c .before .before .before .before .before .before .is-supported .ensures,
+      if2 .if2 .left,
+      ← if2 .before .is-pointer32 .ensures,
+      not-false (if1 .before .is-supported .result) (if1 .if1 .left),
+      ← if1 .before .is-supported .ensures,
     )
 
 pub check-reloc-spec : {M : Type 1} → statement M

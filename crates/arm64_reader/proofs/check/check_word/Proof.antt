@@ -1,14 +1,10 @@
-use borrow.Author.Tests.{eq-eqb, ne-eqb, le-leb, lt-leb, lt-ltb, le-ltb, not-true, not-false}
+-- `check_word` meets its contract: the tests on the way to each return decide the choices.
+use borrow.Author.Tests.{eq-eqb, ne-eqb, lt-ltb, le-ltb}
 use Rattle.arm64_reader.specs.Check.{wordCheck}
 use Rattle.util.specs.Choice.{choose}
 use borrow.Author.Needs.{needs}
 use Rattle.arm64_reader.proofs.check.check_word.Statement.{statement}
 use Rattle.arm64_reader.proofs.check.check_word.Tie as tie
-use Rattle.arm64_reader.proofs.check.check_word.Reads as reads
-use Rattle.arm64_reader.proofs.check.check_word.Lts as lts
-use Rattle.arm64_reader.proofs.check.got_fits.Reads as got-fits-reads
-use Rattle.arm64_reader.proofs.check.tlvp_fits.Reads as tlvp-fits-reads
-use Rattle.util.proofs.read32.Reads as read32-reads
 
 returns : tie.Need-returns
 unfolding wordCheck choose

@@ -1,11 +1,8 @@
+-- `got_fits` meets its contract: the first test decides the disjunction.
 use Rattle.arm64_reader.specs.Check.{gotFits}
 use borrow.Author.Needs.{needs}
 use Rattle.arm64_reader.proofs.check.got_fits.Statement.{statement}
 use Rattle.arm64_reader.proofs.check.got_fits.Tie as tie
-use Rattle.arm64_reader.proofs.check.got_fits.Reads as reads
-use Rattle.arm64_reader.proofs.check.got_fits.Lts as lts
-use Rattle.arm64_insn.proofs.add.is_add_either.Reads as is-add-either-reads
-use Rattle.arm64_reader.proofs.check.loaded_bytes.Reads as loaded-bytes-reads
 
 is-add-either-requires : tie.Need-is-add-either-requires
 is-add-either-requires c κs = search needs

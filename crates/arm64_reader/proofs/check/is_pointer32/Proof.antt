@@ -1,12 +1,9 @@
-use borrow.Author.Tests.{eq-eqb, ne-eqb, le-leb, lt-leb, lt-ltb, le-ltb, not-true, not-false}
+-- `is_pointer32` meets its contract: the tests on the way to each return decide the conjunction.
+use borrow.Author.Tests.{eq-eqb, ne-eqb}
 use Rattle.arm64_reader.specs.Check.{pointer32}
 use borrow.Author.Needs.{needs}
 use Rattle.arm64_reader.proofs.check.is_pointer32.Statement.{statement}
 use Rattle.arm64_reader.proofs.check.is_pointer32.Tie as tie
-use Rattle.arm64_reader.proofs.check.is_pointer32.Reads as reads
-use Rattle.arm64_reader.proofs.check.is_pointer32.Lts as lts
-use Rattle.macho.proofs.rel.MachRel.p2size.Reads as p2size-reads
-use Rattle.macho.proofs.rel.MachRel.ty.Reads as ty-reads
 
 ty-requires : tie.Need-ty-requires
 ty-requires c κs = search needs

@@ -1,12 +1,10 @@
-use mathlib.Core.Path.{_≡_, sym, _∙_}
+-- `loaded_bytes` meets its contract: the decoder's answer decides the case, the store flag the choice.
+use mathlib.Core.Path.{sym, _∙_}
 use Rattle.util.specs.Choice.{choose}
 use Rattle.arm64_reader.specs.Check.{loadedBytes}
 use borrow.Author.Needs.{needs}
 use Rattle.arm64_reader.proofs.check.loaded_bytes.Statement.{statement}
 use Rattle.arm64_reader.proofs.check.loaded_bytes.Tie as tie
-use Rattle.arm64_reader.proofs.check.loaded_bytes.Reads as reads
-use Rattle.arm64_reader.proofs.check.loaded_bytes.Lts as lts
-use Rattle.arm64_insn.proofs.ldst.LoadStore.decode.Reads as decode-reads
 
 decode-requires : tie.Need-decode-requires
 decode-requires c κs = search needs

@@ -1,10 +1,8 @@
+-- `tlvp_fits` meets its contract: what `loaded_bytes` promises is all that is needed.
 use Rattle.arm64_reader.specs.Check.{tlvpFits}
 use borrow.Author.Needs.{needs}
 use Rattle.arm64_reader.proofs.check.tlvp_fits.Statement.{statement}
 use Rattle.arm64_reader.proofs.check.tlvp_fits.Tie as tie
-use Rattle.arm64_reader.proofs.check.tlvp_fits.Reads as reads
-use Rattle.arm64_reader.proofs.check.tlvp_fits.Lts as lts
-use Rattle.arm64_reader.proofs.check.loaded_bytes.Reads as loaded-bytes-reads
 
 loaded-bytes-requires : tie.Need-loaded-bytes-requires
 loaded-bytes-requires c κs = search needs

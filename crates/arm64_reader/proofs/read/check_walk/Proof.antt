@@ -1,5 +1,6 @@
-use mathlib.Core.Path.{_≡_, refl, sym, ap, _∙_}
-use Prim.Native.Nat.{ℕ, _≤_, _-_, _/_, zero-le}
+-- `check_walk` meets its contract: what is left to read, counted on from here, is the answer; a turn is `check-read` or `check-refused` of Walk.
+use mathlib.Core.Path.{_≡_, sym, ap, _∙_}
+use Prim.Native.Nat.{_≤_, _-_, _/_}
 use native.Mathlib.Omega.{arith}
 use borrow.Author.Needs.{needs}
 use lib.ListN.{length}
@@ -10,9 +11,6 @@ use Rattle.arm64_reader.specs.Read.{readTable}
 use Rattle.arm64_reader.proofs.Steps.{tableStep, table-is, table-onward}
 use Rattle.arm64_reader.proofs.read.check_walk.Statement.{statement}
 use Rattle.arm64_reader.proofs.read.check_walk.Tie as tie
-use Rattle.arm64_reader.proofs.read.check_walk.Reads as reads
-use Rattle.arm64_reader.proofs.read.check_walk.Lts as lts
-use Rattle.arm64_reader.proofs.record.read_one.Reads as read-one-reads
 
 abbrev Inv-loop : tie.InvT-loop
 Inv-loop contents records sections n i₀ count₀ i count =

@@ -1,6 +1,6 @@
+-- `fill_walk` meets its contract: what is left to read, stored on from here, makes the slots after; a turn is `fill-read` and `fill-stored` of Walk.
 use mathlib.Core.Path.{_≡_, refl, sym, ap, subst, _∙_}
-use mathlib.Core.List.{List}
-use Prim.Native.Nat.{ℕ, _≤_, _-_, _/_, _*_, zero-le}
+use Prim.Native.Nat.{_≤_, _-_, _/_}
 use native.Mathlib.Omega.{arith}
 use borrow.Author.Needs.{needs}
 use lib.ListN.{length}
@@ -11,10 +11,6 @@ use Rattle.arm64_reader.specs.Read.{readTable}
 use Rattle.arm64_reader.proofs.Steps.{tableStep, table-is, table-onward, table-reads}
 use Rattle.arm64_reader.proofs.read.fill_walk.Statement.{statement}
 use Rattle.arm64_reader.proofs.read.fill_walk.Tie as tie
-use Rattle.arm64_reader.proofs.read.fill_walk.Reads as reads
-use Rattle.arm64_reader.proofs.read.fill_walk.Lts as lts
-use Rattle.arm64_reader.proofs.record.enter_one.Reads as enter-one-reads
-use Rattle.macho.proofs.reloc.Reloc.write.Reads as write-reads
 
 abbrev Inv-loop : tie.InvT-loop
 Inv-loop contents records sections slots₀ n i₀ count₀ slots i count =

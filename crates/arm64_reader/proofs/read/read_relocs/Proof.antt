@@ -1,7 +1,5 @@
-use mathlib.Core.Path.{_≡_, refl, sym, ap, _∙_}
-use mathlib.Core.List.{List}
-use Prim.Native.Nat.{ℕ}
-use native.Mathlib.Omega.{arith}
+-- `read_relocs` meets its contract: lengths and first walk decide the case (Steps); a walk that counts is one that fills (Walk).
+use mathlib.Core.Path.{sym, ap, _∙_}
 use denote.Ref.{now}
 use lib.ListN.{length}
 use Rattle.arch.specs.Walk.{Reading, answerOf, slotsAfter}
@@ -11,11 +9,6 @@ use Rattle.arm64_reader.proofs.Steps.{lengths-refuse, lengths-fit}
 use borrow.Author.Needs.{needs}
 use Rattle.arm64_reader.proofs.read.read_relocs.Statement.{statement}
 use Rattle.arm64_reader.proofs.read.read_relocs.Tie as tie
-use Rattle.arm64_reader.proofs.read.read_relocs.Reads as reads
-use Rattle.arm64_reader.proofs.read.read_relocs.Lts as lts
-use Rattle.arch.proofs.table.check_lengths.Reads as check-lengths-reads
-use Rattle.arm64_reader.proofs.read.check_walk.Reads as check-walk-reads
-use Rattle.arm64_reader.proofs.read.fill_walk.Reads as fill-walk-reads
 
 check-lengths-requires : tie.Need-check-lengths-requires
 check-lengths-requires c κs = search needs
@@ -37,27 +30,34 @@ enum-known-count c = search needs
 
 fill-walk-requires : tie.Need-fill-walk-requires
 fill-walk-requires c κs =
-    let k = c .before .before .before .before in
-    let f = sym (k .before .before .before .check-lengths .ensures) ∙ k .before .enum-told .given .1 in
-    let a = k .before .before .before .before .before .before .before .before .args in (
-      fills-of (readTable (now (a .contents)) (now (a .records)) (now (a .sections))) _ (sym (c .before .before .count .given .1) ∙ k .check-walk .ensures),
+    let check-walk = c .before .before .before .before in
+    let check-lengths = check-walk .before .before .before in
+    let start = check-lengths .before .before .before .before .before in
+    let f = sym (check-lengths .check-lengths .ensures) ∙ check-walk .before .enum-told .given .1 in
+    let a = start .args in
+    let d = sym (c .before .before .count .given .1) ∙ check-walk .check-walk .ensures in (
+      fills-of (readTable (now (a .contents)) (now (a .records)) (now (a .sections))) _ d,
       fit-room _ _ _ f,
     )
 
 returns : tie.Need-returns
 returns c =
-    let a = c .before .before .before .before .before .before .before .before .args in
-    let f = sym (c .before .before .before .check-lengths .ensures) ∙ c .before .refusal .given .1 in
+    let check-lengths = c .before .before .before in
+    let start = check-lengths .before .before .before .before .before in
+    let a = start .args in
+    let f = sym (check-lengths .check-lengths .ensures) ∙ c .before .refusal .given .1 in
     let e = lengths-refuse (now (a .contents)) (now (a .records)) (now (a .sections)) (now (a .slots)) f in
     (ap answerOf (sym e), ap (λ (r : Reading). slotsAfter r (now (a .slots))) (sym e))
 
 returns-2 : tie.Need-returns-2
 returns-2 c =
-    let k = c .before .before .before in
-    let f = sym (k .before .before .before .check-lengths .ensures) ∙ k .before .enum-told .given .1 in
-    let a = k .before .before .before .before .before .before .before .before .args in
+    let check-walk = c .before .before .before in
+    let check-lengths = check-walk .before .before .before in
+    let start = check-lengths .before .before .before .before .before in
+    let f = sym (check-lengths .check-lengths .ensures) ∙ check-walk .before .enum-told .given .1 in
+    let a = start .args in
     let e = lengths-fit (now (a .contents)) (now (a .records)) (now (a .sections)) (now (a .slots)) f in
-    let d = sym (c .before .refusal2 .given .1) ∙ k .check-walk .ensures in (
+    let d = sym (c .before .refusal2 .given .1) ∙ check-walk .check-walk .ensures in (
       d ∙ ap answerOf (sym e),
       kept-of (readTable (now (a .contents)) (now (a .records)) (now (a .sections))) _ _ d ∙ ap (λ (r : Reading). slotsAfter r (now (a .slots))) (sym e),
     )
@@ -67,12 +67,14 @@ same-length c = search needs
 
 returns-3 : tie.Need-returns-3
 returns-3 c =
-    let m = c .before .before .before .before .before in
-    let k = m .before .before in
-    let f = sym (k .before .before .before .check-lengths .ensures) ∙ k .before .enum-told .given .1 in
-    let a = k .before .before .before .before .before .before .before .before .args in
+    let count = c .before .before .before .before .before in
+    let check-walk = count .before .before in
+    let check-lengths = check-walk .before .before .before in
+    let start = check-lengths .before .before .before .before .before in
+    let f = sym (check-lengths .check-lengths .ensures) ∙ check-walk .before .enum-told .given .1 in
+    let a = start .args in
     let e = lengths-fit (now (a .contents)) (now (a .records)) (now (a .sections)) (now (a .slots)) f in (
-      sym (m .count .given .1) ∙ k .check-walk .ensures ∙ ap answerOf (sym e),
+      sym (count .count .given .1) ∙ check-walk .check-walk .ensures ∙ ap answerOf (sym e),
       c .before .before .fill-walk .ensures ∙ ap (λ (r : Reading). slotsAfter r (now (a .slots))) (sym e),
     )
 

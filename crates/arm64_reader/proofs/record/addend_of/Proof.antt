@@ -1,16 +1,10 @@
-use borrow.Author.Tests.{eq-eqb, ne-eqb, le-leb, lt-leb, lt-ltb, le-ltb, not-true, not-false}
+-- `addend_of` meets its contract: type, size and the bytes that are there decide the choices.
+use borrow.Author.Tests.{eq-eqb, ne-eqb, lt-ltb, le-ltb}
 use Rattle.arm64_reader.specs.Record.{addendOf}
 use Rattle.util.specs.Choice.{choose}
 use borrow.Author.Needs.{needs}
 use Rattle.arm64_reader.proofs.record.addend_of.Statement.{statement}
 use Rattle.arm64_reader.proofs.record.addend_of.Tie as tie
-use Rattle.arm64_reader.proofs.record.addend_of.Reads as reads
-use Rattle.arm64_reader.proofs.record.addend_of.Lts as lts
-use Rattle.macho.proofs.rel.MachRel.p2size.Reads as p2size-reads
-use Rattle.macho.proofs.rel.MachRel.ty.Reads as ty-reads
-use Rattle.util.proofs.read32.Reads as read32-reads
-use Rattle.util.proofs.read64.Reads as read64-reads
-use Rattle.util.proofs.sign_extend.Reads as sign-extend-reads
 
 ty-requires : tie.Need-ty-requires
 ty-requires c κs = search needs
@@ -49,14 +43,17 @@ sign-extend-requires c κs = search needs
 returns-3 : tie.Need-returns-3
 unfolding addendOf choose
 returns-3 c =
+    let if3 = c .before .before in
+    let if2 = if3 .before in
+    let if1 = if2 .before .before in
     simp (
       c .sign-extend .ensures,
       c .before .read32 .ensures,
-      le-ltb _ _ (c .before .before .if3 .left),
-      eq-eqb _ _ (c .before .before .before .if2 .taken),
-      ← c .before .before .before .before .p2size .ensures,
-      eq-eqb _ _ (c .before .before .before .before .before .if1 .left),
-      ← c .before .before .before .before .before .before .ty .ensures,
+      le-ltb _ _ (if3 .if3 .left),
+      eq-eqb _ _ (if2 .if2 .taken),
+      ← if2 .before .p2size .ensures,
+      eq-eqb _ _ (if1 .if1 .left),
+      ← if1 .before .ty .ensures,
     )
 
 returns-4 : tie.Need-returns-4

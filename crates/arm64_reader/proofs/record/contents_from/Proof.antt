@@ -1,6 +1,6 @@
-use Prim.Native.Nat.{ℕ, _-_}
+-- `contents_from` meets its contract: what is left after the offset is taken whole.
+use Prim.Native.Nat.{_-_}
 use lib.ListN.{drop}
-use mathlib.Core.Path.{_≡_}
 use denote.Ref.{now}
 use native.Mathlib.Omega.{arith}
 use lib.ListN.{length, length-drop}
@@ -8,8 +8,6 @@ use lib.Seq.{take-all}
 use borrow.Author.Needs.{needs}
 use Rattle.arm64_reader.proofs.record.contents_from.Statement.{statement}
 use Rattle.arm64_reader.proofs.record.contents_from.Tie as tie
-use Rattle.arm64_reader.proofs.record.contents_from.Reads as reads
-use Rattle.arm64_reader.proofs.record.contents_from.Lts as lts
 
 sub-result : tie.Need-sub-result
 sub-result c = search needs

@@ -1,11 +1,8 @@
+-- `enter_record` meets its contract: the addend's answer decides the case.
 use mathlib.Core.Path.{sym, _∙_}
 use borrow.Author.Needs.{needs}
 use Rattle.arm64_reader.proofs.record.enter_record.Statement.{statement}
 use Rattle.arm64_reader.proofs.record.enter_record.Tie as tie
-use Rattle.arm64_reader.proofs.record.enter_record.Reads as reads
-use Rattle.arm64_reader.proofs.record.enter_record.Lts as lts
-use Rattle.arch.proofs.step.read_target.Reads as read-target-reads
-use Rattle.arm64_reader.proofs.record.addend_of.Reads as addend-of-reads
 
 addend-of-requires : tie.Need-addend-of-requires
 addend-of-requires c κs = search needs

@@ -1,14 +1,9 @@
+-- `given_addend` meets its contract: the type of record i decides the choice.
 use borrow.Author.Tests.{eq-eqb, ne-eqb}
 use Rattle.util.specs.Choice.{choose}
 use borrow.Author.Needs.{needs}
 use Rattle.arm64_reader.proofs.record.given_addend.Statement.{statement}
 use Rattle.arm64_reader.proofs.record.given_addend.Tie as tie
-use Rattle.arm64_reader.proofs.record.given_addend.Reads as reads
-use Rattle.arm64_reader.proofs.record.given_addend.Lts as lts
-use Rattle.arch.proofs.table.record_at.Reads as record-at-reads
-use Rattle.macho.proofs.rel.MachRel.idx.Reads as idx-reads
-use Rattle.macho.proofs.rel.MachRel.ty.Reads as ty-reads
-use Rattle.util.proofs.sign_extend.Reads as sign-extend-reads
 
 record-at-requires : tie.Need-record-at-requires
 record-at-requires c κs = search needs

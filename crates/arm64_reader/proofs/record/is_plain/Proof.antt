@@ -6,56 +6,38 @@ use Rattle.arm64_reader.specs.Support.{formsOf}
 use Rattle.arm64_reader.proofs.Steps.{plain-form}
 use Rattle.arm64_reader.proofs.record.is_plain.Statement.{statement}
 use Rattle.arm64_reader.proofs.record.is_plain.Tie as tie
-use Rattle.arm64_reader.proofs.record.is_plain.Reads as reads
-use Rattle.arm64_reader.proofs.record.is_plain.Lts as lts
 
 returns : tie.Need-returns
 unfolding formsOf
-returns c =
-    let r = c .before .before .args .r in
-    λ _. plain-form r 1 0 2 (omega arith) (omega arith) (omega arith) (omega arith) refl refl refl refl refl
+returns c = λ _. plain-form _ 1 0 2 (omega arith) (omega arith) (omega arith) (omega arith) refl refl refl refl refl
 
 returns-2 : tie.Need-returns-2
 unfolding formsOf
-returns-2 c =
-    let r = c .before .before .before .args .r in
-    λ _. plain-form r 1 0 3 (omega arith) (omega arith) (omega arith) (omega arith) refl refl refl refl refl
+returns-2 c = λ _. plain-form _ 1 0 3 (omega arith) (omega arith) (omega arith) (omega arith) refl refl refl refl refl
 
 returns-3 : tie.Need-returns-3
 unfolding formsOf
-returns-3 c =
-    let r = c .before .before .before .before .args .r in
-    λ _. plain-form r 2 1 2 (omega arith) (omega arith) (omega arith) (omega arith) refl refl refl refl refl
+returns-3 c = λ _. plain-form _ 2 1 2 (omega arith) (omega arith) (omega arith) (omega arith) refl refl refl refl refl
 
 returns-4 : tie.Need-returns-4
 unfolding formsOf
-returns-4 c =
-    let r = c .before .before .before .before .before .args .r in
-    λ _. plain-form r 3 1 2 (omega arith) (omega arith) (omega arith) (omega arith) refl refl refl refl refl
+returns-4 c = λ _. plain-form _ 3 1 2 (omega arith) (omega arith) (omega arith) (omega arith) refl refl refl refl refl
 
 returns-5 : tie.Need-returns-5
 unfolding formsOf
-returns-5 c =
-    let r = c .before .before .before .before .before .before .args .r in
-    λ _. plain-form r 4 0 2 (omega arith) (omega arith) (omega arith) (omega arith) refl refl refl refl refl
+returns-5 c = λ _. plain-form _ 4 0 2 (omega arith) (omega arith) (omega arith) (omega arith) refl refl refl refl refl
 
 returns-6 : tie.Need-returns-6
 unfolding formsOf
-returns-6 c =
-    let r = c .before .before .before .before .before .before .before .args .r in
-    λ _. plain-form r 5 1 2 (omega arith) (omega arith) (omega arith) (omega arith) refl refl refl refl refl
+returns-6 c = λ _. plain-form _ 5 1 2 (omega arith) (omega arith) (omega arith) (omega arith) refl refl refl refl refl
 
 returns-7 : tie.Need-returns-7
 unfolding formsOf
-returns-7 c =
-    let r = c .before .before .before .before .before .before .before .before .args .r in
-    λ _. plain-form r 7 1 2 (omega arith) (omega arith) (omega arith) (omega arith) refl refl refl refl refl
+returns-7 c = λ _. plain-form _ 7 1 2 (omega arith) (omega arith) (omega arith) (omega arith) refl refl refl refl refl
 
 returns-8 : tie.Need-returns-8
 unfolding formsOf
-returns-8 c =
-    let r = c .before .before .before .before .before .before .before .before .before .args .r in
-    λ _. plain-form r 8 1 2 (omega arith) (omega arith) (omega arith) (omega arith) refl refl refl refl refl
+returns-8 c = λ _. plain-form _ 8 1 2 (omega arith) (omega arith) (omega arith) (omega arith) refl refl refl refl refl
 
 returns-9 : tie.Need-returns-9
 returns-9 c = λ e. absurd (false≢true e)

@@ -1,12 +1,9 @@
+-- `own_number` meets its contract: the type of record i decides the choice.
 use borrow.Author.Tests.{eq-eqb, ne-eqb}
 use Rattle.util.specs.Choice.{choose}
 use borrow.Author.Needs.{needs}
 use Rattle.arm64_reader.proofs.record.own_number.Statement.{statement}
 use Rattle.arm64_reader.proofs.record.own_number.Tie as tie
-use Rattle.arm64_reader.proofs.record.own_number.Reads as reads
-use Rattle.arm64_reader.proofs.record.own_number.Lts as lts
-use Rattle.arch.proofs.table.record_at.Reads as record-at-reads
-use Rattle.macho.proofs.rel.MachRel.ty.Reads as ty-reads
 
 record-at-requires : tie.Need-record-at-requires
 record-at-requires c κs = search needs

@@ -1,14 +1,9 @@
+-- `read_record` meets its contract: the check's answer decides the case.
 use mathlib.Core.Path.{sym, _∙_}
 use Rattle.arm64_reader.specs.Record.{recordOf}
-use Rattle.arch.proofs.step.read_target.Reads as read-target-reads
-use Rattle.arm64_reader.proofs.record.addend_of.Reads as addend-of-reads
 use borrow.Author.Needs.{needs}
 use Rattle.arm64_reader.proofs.record.read_record.Statement.{statement}
 use Rattle.arm64_reader.proofs.record.read_record.Tie as tie
-use Rattle.arm64_reader.proofs.record.read_record.Reads as reads
-use Rattle.arm64_reader.proofs.record.read_record.Lts as lts
-use Rattle.arm64_reader.proofs.check.check_reloc.Reads as check-reloc-reads
-use Rattle.arm64_reader.proofs.record.enter_record.Reads as enter-record-reads
 
 check-reloc-requires : tie.Need-check-reloc-requires
 check-reloc-requires c κs = search needs

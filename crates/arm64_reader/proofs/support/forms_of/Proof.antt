@@ -1,6 +1,7 @@
-use mathlib.Core.Path.{_≡_, refl, sym, ap, _∙_}
+-- `forms_of` meets its contract: the types that the code names compute, those of one pc-relative form by one test of all below 9 (`every-at`).
+use mathlib.Core.Path.{_≡_, refl, sym, ap}
 use mathlib.Core.Logic.{_⊎_, inl, inr, ⊎-elim}
-use mathlib.Core.Bool.{Bool, true, false, _||_}
+use mathlib.Core.Bool.{true, _||_}
 use mathlib.Core.List.{List, []}
 use Prim.Native.Nat.{ℕ, _<_, _≤_}
 use native.Mathlib.Omega.{arith}
@@ -9,14 +10,11 @@ use lib.Dec.{eqb}
 use lib.ListN.{List·getD-eq-default}
 use Rattle.util.proofs.Below.{every, every-at}
 use Rattle.util.specs.Choice.{choose}
-use Rattle.arch.specs.Form.{Form, form, bitOf, bitsOf}
+use Rattle.arch.specs.Form.{form, bitOf, bitsOf}
 use Rattle.arm64_reader.specs.Support.{forms, formsOf}
 use borrow.Author.Needs.{needs}
 use Rattle.arm64_reader.proofs.support.forms_of.Statement.{statement}
 use Rattle.arm64_reader.proofs.support.forms_of.Tie as tie
-use Rattle.arm64_reader.proofs.support.forms_of.Reads as reads
-use Rattle.arm64_reader.proofs.support.forms_of.Lts as lts
-use Rattle.arch.proofs.form.reloc_form.Reads as reloc-form-reads
 
 -- no type from 11 on has a form
 no-form : (ty : ℕ) → 9 ≤ ty → (ty ≡ 9 → ⊥) → (ty ≡ 10 → ⊥) → 0 ≡ bitsOf (formsOf ty)

@@ -1,3 +1,4 @@
+-- `is_supported` meets its contract: a bit of the set is a member of the list (`has-member` of Forms), since each type's forms have fields that fit.
 use mathlib.Core.Path.{_≡_, refl, ap, _∙_}
 use mathlib.Core.Bool.{true}
 use Prim.Native.Nat.{ℕ, _<_}
@@ -11,11 +12,6 @@ use Rattle.arm64_reader.specs.Support.{formsOf, supportedOf}
 use borrow.Author.Needs.{needs}
 use Rattle.arm64_reader.proofs.support.is_supported.Statement.{statement}
 use Rattle.arm64_reader.proofs.support.is_supported.Tie as tie
-use Rattle.arm64_reader.proofs.support.is_supported.Reads as reads
-use Rattle.arm64_reader.proofs.support.is_supported.Lts as lts
-use Rattle.arch.proofs.form.has_reloc_form.Reads as has-reloc-form-reads
-use Rattle.arm64_reader.proofs.support.forms_of.Reads as forms-of-reads
-use Rattle.macho.proofs.rel.MachRel.ty.Reads as ty-reads
 
 -- the forms of each type are such as a record can have
 fit : (ty : ℕ) → ty < 16 → fieldsFit (formsOf ty) ≡ true
