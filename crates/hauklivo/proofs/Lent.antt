@@ -1,7 +1,7 @@
 -- A lent number after a call: a refusal's number is none of them 0, so the old value stays; 0 takes the new one.
 use Prim.Native.Nat.{ℕ}
 use mathlib.Core.Path.{_≡_, refl, ap, _∙_}
-use mathlib.Core.Bool.{Bool, false}
+use mathlib.Core.Bool.{false}
 use lib.Dec.{eqb}
 use Rattle.util.specs.Choice.{choose}
 use Rattle.macho.specs.Refusal.{numberOf, answerNumber, filledOf}

@@ -27,9 +27,12 @@ same-length-2 c = search needs
 
 returns : tie.Need-returns
 returns c =
-    let k = c .before .before .before .before .before .before .before .before .apply-reloc-alloc .ensures in
-    let e = sym (c .before .before .refusal .given .1) ∙ k .0 in
-    let x = c .before .before .refusal .given .0 .0 in
+    let refusal = c .before .before in
+    let by-match = refusal .before in
+    let apply-reloc-alloc = by-match .before .before .before .before .before in
+    let k = apply-reloc-alloc .apply-reloc-alloc .ensures in
+    let e = sym (refusal .refusal .given .1) ∙ k .0 in
+    let x = refusal .refusal .given .0 .0 in
     (c .number .ensures ∙ ap (λ (a : Answer). answerNumber a) e, (count-kept x _ _ e, k .1))
 
 same-length-3 : tie.Need-same-length-3
@@ -40,7 +43,9 @@ same-length-4 c = search needs
 
 returns-2 : tie.Need-returns-2
 returns-2 c =
-    let k = c .before .before .before .before .before .before .before .apply-reloc-alloc .ensures in
+    let by-match = c .before .before in
+    let apply-reloc-alloc = by-match .before .before .before .before .before in
+    let k = apply-reloc-alloc .apply-reloc-alloc .ensures in
     let e = sym (c .before .n .given .1) ∙ k .0 in
     (ap (λ (a : Answer). answerNumber a) e, (count-new _ _ _ e, k .1))
 

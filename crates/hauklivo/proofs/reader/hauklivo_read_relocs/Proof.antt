@@ -24,9 +24,11 @@ same-length c = search needs
 
 returns : tie.Need-returns
 returns c =
-    let k = c .before .before .before .before .before .before .read-relocs .ensures in
-    let e = sym (c .before .before .refusal .given .1) ∙ k .0 in
-    let x = c .before .before .refusal .given .0 .0 in
+    let refusal = c .before .before in
+    let read-relocs = refusal .before .before .before .before in
+    let k = read-relocs .read-relocs .ensures in
+    let e = sym (refusal .refusal .given .1) ∙ k .0 in
+    let x = refusal .refusal .given .0 .0 in
     (c .number .ensures ∙ ap (λ (a : Answer). answerNumber a) e, (count-kept x _ _ e, k .1))
 
 same-length-2 : tie.Need-same-length-2

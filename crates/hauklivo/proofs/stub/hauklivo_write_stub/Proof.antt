@@ -33,9 +33,11 @@ same-length c = search needs
 
 returns : tie.Need-returns
 returns c =
-    let k = c .before .before .before .before .before .before .write-stub .ensures in
-    let e = sym (c .before .before .refusal .given .1) ∙ k .0 in
-    let x = c .before .before .refusal .given .0 .0 in
+    let refusal = c .before .before in
+    let write-stub = refusal .before .before .before .before in
+    let k = write-stub .write-stub .ensures in
+    let e = sym (refusal .refusal .given .1) ∙ k .0 in
+    let x = refusal .refusal .given .0 .0 in
     (c .number .ensures ∙ ap (λ (a : StubAnswer). stubNumber a) e, (lent-kept x _ _ ∙ ap (lent _) e, k .1))
 
 same-length-2 : tie.Need-same-length-2
