@@ -133,6 +133,26 @@ fn fixup_reports() {
     assert_eq!(other, (false, ReportKind::NonLdr, 0, 0));
 }
 
+/// A branch reaches from -2^27 to 2^27 - 1. At 2^27 it goes by the thunk, or there is a report.
+#[test]
+fn reach_of_branches() {
+    let bl = |displacement: i64, thunk: Option<u64>| {
+        let flags = if thunk.is_some() { flag::HAS_THUNK } else { 0 };
+        let branch = 0x1000_u64.wrapping_add_signed(displacement);
+        let target = Resolved { branch, thunk: thunk.unwrap_or(0), flags, ..Resolved::default() };
+        let (after, reports) = fix(&[0x94000000], &[(entry(0, ty::BRANCH26, 4), target)]).unwrap();
+        (after, reports.first().map(|report| report.kind().unwrap()))
+    };
+    for thunk in [None, Some(0x1010)] {
+        assert_eq!(bl((1 << 27) - 4, thunk), (bytes(&[0x95ffffff]), None));
+        assert_eq!(bl(-1 << 27, thunk), (bytes(&[0x96000000]), None));
+    }
+    for far in [1 << 27, (-1 << 27) - 4] {
+        assert_eq!(bl(far, None).1, Some(ReportKind::BranchReach));
+        assert_eq!(bl(far, Some(0x1010)), (bytes(&[0x94000004]), None));
+    }
+}
+
 #[test]
 fn fixup_refuses() {
     let pointer = entry(0, ty::UNSIGNED, 8).to_bytes();
