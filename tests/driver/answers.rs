@@ -1,4 +1,4 @@
-//! The lists of answers that the gate replays (crates/replay_answers): cases chosen so that each row of the table is
+//! The lists of answers that the gate replays (crates/replay_reader, replay_fixup, replay_hints): cases chosen so that each row of the table is
 //! covered, and each row of docs/DIFFERENCES.md, each with what is expected of it.
 //!
 //! A list is a chain of records of 16 bytes and a body. A record is: what it is (u8), the answer's number (u8), the
@@ -32,7 +32,7 @@ pub const STUB: u8 = 3;
 pub const THUNK: u8 = 4;
 pub const HINTS: u8 = 5;
 
-const FILES: [(&str, &[u8]); 3] = [("reader", &[READ]), ("fixup", &[FIX, STUB, THUNK]), ("hints", &[HINTS])];
+const FILES: [(&str, &[u8]); 3] = [("replay_reader", &[READ]), ("replay_fixup", &[FIX, STUB, THUNK]), ("replay_hints", &[HINTS])];
 
 /// How often each cell of the table is covered, how many cells of a block that is shown as one line, how many cases
 /// of each group beside those, and the most bytes that an answer has.
@@ -83,8 +83,8 @@ fn changed(world: &World) -> Vec<u64> {
     world.differences.counts().iter().map(|row| row.changed).collect()
 }
 
-/// Writes the lists to the folder `data` of a crate, and to its file `stdout` what a replay of them writes. The cases
-/// are those of a short run, in its order, on one thread.
+/// Writes each list to `data/answers` of its crate below a folder, and to the crate's file `stdout` what a replay of it
+/// writes. The cases are those of a short run, in its order, on one thread.
 pub fn write(groups: &[Group], world: &World, folder: &Path) -> Result<(), Difference> {
     let mut table = Table::noting(blocks());
     let mut kept: Vec<Vec<u32>> = table.blocks().iter().map(|b| vec![0; b.rows.len() * b.columns.len()]).collect();
@@ -113,8 +113,8 @@ pub fn write(groups: &[Group], world: &World, folder: &Path) -> Result<(), Diffe
     let counts = world.differences.counts();
     bare.extend(counts.iter().zip(shown).filter(|row| !row.1).map(|row| row.0.name.into()));
     assert!(bare.is_empty(), "rows that no answer covers: {bare:?}");
-    let (mut written, mut total) = (String::new(), 0);
     for (name, calls) in FILES {
+        let (mut written, mut total) = (String::new(), 0);
         let titles = table.blocks().iter().map(|b| b.title).chain(["Some of each group of cases"]);
         let mut list = Vec::new();
         for (title, answers) in titles.zip(&rows) {
@@ -126,9 +126,10 @@ pub fn write(groups: &[Group], world: &World, folder: &Path) -> Result<(), Diffe
                 total += own.len();
             }
         }
-        fs::write(folder.join("data").join(name), list).expect("the folder can be written");
+        written += &format!("{total} answers, 0 differences\n");
+        let own = folder.join(name);
+        fs::write(own.join("data/answers"), list).expect("the folder can be written");
+        fs::write(own.join("stdout"), written).expect("the folder can be written");
     }
-    written += &format!("{total} answers, 0 differences\n");
-    fs::write(folder.join("stdout"), written).expect("the folder can be written");
     Ok(())
 }

@@ -68,13 +68,13 @@ struct Options {
     threads: usize,
     /// One case, by its group and number.
     case: Option<(String, u64)>,
-    /// The crate that replays answers, if its lists are to be made.
+    /// The folder of the crates that replay answers, if their lists are to be made.
     answers: Option<String>,
     differences: String,
 }
 
 const USAGE: &str =
-    "usage: differential [--short] [--first] [--threads N] [--case GROUP:NUMBER] [--answers CRATE] DIFFERENCES.md";
+    "usage: differential [--short] [--first] [--threads N] [--case GROUP:NUMBER] [--answers FOLDER] DIFFERENCES.md";
 
 fn options() -> Option<Options> {
     let mut o =

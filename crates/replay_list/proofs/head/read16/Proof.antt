@@ -1,0 +1,46 @@
+use mathlib.Core.Path.{sym, _∙_}
+use native.Mathlib.Omega.{arith}
+use native.Mathlib.Nat.{mod-eq-of-lt, add-zero}
+use Prim.Native.Nat.{ℕ, _+_, _<_}
+use lib.ListN.{getD}
+use Rattle.util.specs.Word.{le}
+use borrow.Author.Needs.{needs}
+use Rattle.replay_list.proofs.head.read16.Statement.{statement}
+use Rattle.replay_list.proofs.head.read16.Tie as tie
+use Rattle.replay_list.proofs.head.read16.Reads as reads
+use Rattle.replay_list.proofs.head.read16.Lts as lts
+use Rattle.replay_list.proofs.head.from_le_bytes.Reads as from-le-bytes-reads
+
+-- src/head.rt:39:19
+shared-slice-read-from-le-bytes : tie.Need-shared-slice-read-from-le-bytes
+shared-slice-read-from-le-bytes c = search needs
+
+-- src/head.rt:39:28
+add-from-le-bytes : tie.Need-add-from-le-bytes
+add-from-le-bytes c = search needs
+
+-- src/head.rt:39:26
+shared-slice-read-from-le-bytes-2 : tie.Need-shared-slice-read-from-le-bytes-2
+shared-slice-read-from-le-bytes-2 c = search needs
+
+-- src/head.rt:39:5
+from-le-bytes-requires : tie.Need-from-le-bytes-requires
+from-le-bytes-requires c κs = search needs
+
+-- src/head.rt:35:1
+returns : tie.Need-returns
+unfolding le
+returns c =
+    let a = c .before .before .before .before .args in
+    let byte : (i : ℕ) → getD (a .s .now) i 0 < 256 = λ i. omega (arith, c .before .shared-slice-known3 .given i) in
+    c .from-le-bytes .ensures ∙ sym (simp (add-zero, mod-eq-of-lt (byte (a .at)), mod-eq-of-lt (byte (a .at + 1))) (omega arith))
+
+pub read16-spec : {M : Type 1} → statement M
+read16-spec =
+    tie.close
+    (tie.spec
+    shared-slice-read-from-le-bytes
+    add-from-le-bytes
+    shared-slice-read-from-le-bytes-2
+    from-le-bytes-requires
+    returns)
