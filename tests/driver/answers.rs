@@ -32,7 +32,8 @@ pub const STUB: u8 = 3;
 pub const THUNK: u8 = 4;
 pub const HINTS: u8 = 5;
 
-const FILES: [(&str, &[u8]); 3] = [("replay_reader", &[READ]), ("replay_fixup", &[FIX, STUB, THUNK]), ("replay_hints", &[HINTS])];
+const FILES: [(&str, &[u8]); 3] =
+    [("replay_reader", &[READ]), ("replay_fixup", &[FIX, STUB, THUNK]), ("replay_hints", &[HINTS])];
 
 /// How often each cell of the table is covered, how many cells of a block that is shown as one line, how many cases
 /// of each group beside those, and the most bytes that an answer has.
