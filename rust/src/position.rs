@@ -68,10 +68,12 @@ pub fn in_entries(refusal: Refusal, section: &[u8], base: u64, entries: &[u8], t
 ///
 /// None for a refusal that is of whole lists, or that these lists are not refused with.
 pub fn in_hints(refusal: Refusal, image: &[u8], hints: &[u8], entries: &[u8]) -> Option<usize> {
-    let count = hints.len() / HintRecord::SIZE;
+    // No number depends on an object's, and hints of one object are worked in linear time.
+    let of_one = |hint| HintRecord { object: 0, ..hint };
+    let hints: Vec<HintRecord> = HintRecord::list(hints)?.into_iter().map(of_one).collect();
     // As above, of the image.
     let mut image = image.to_vec();
-    position(refusal, count, |n| apply_hints(&mut image, prefix::<HintRecord>(hints, n, count), entries).err())
+    position(refusal, hints.len(), |n| apply_hints(&mut image, HintRecord::bytes(&hints[..n]), entries).err())
 }
 
 /// The first n of `count` records; for all of them the whole list, whatever its length.
