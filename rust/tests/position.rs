@@ -328,9 +328,10 @@ fn a_long_list() {
 /// Hints in falling order of their objects, which a run would take seconds for, are no slower than others.
 #[test]
 fn falling_hints() {
-    let places = [0, 4, 8].map(|offset| Place { offset, ..Place::default() });
-    let hint = |object| Hint { kind: kind::ADRP_ADD, words: 2, object, length: 8, places, ..Hint::default() };
-    let mut hints: Vec<Hint> = (0..40_000).rev().map(hint).collect();
+    let places = [0, 4, 8].map(|offset| HintInsn { offset, ..HintInsn::default() });
+    let hint =
+        |object| HintRecord { kind: kind::ADRP_ADD, words: 2, object, length: 8, places, ..HintRecord::default() };
+    let mut hints: Vec<HintRecord> = (0..40_000).rev().map(hint).collect();
     hints[39_990].length = 7;
-    assert_eq!(position::in_hints(Refusal::Bounds, &[0; 8], Hint::bytes(&hints), &[]), Some(39_990));
+    assert_eq!(position::in_hints(Refusal::Bounds, &[0; 8], HintRecord::bytes(&hints), &[]), Some(39_990));
 }
