@@ -2,6 +2,7 @@
 ghost use mathlib.Core.Path.{_≡_};
 ghost use Rattle.hauklivo.specs.Version.{version};
 
+// The number is in the name below, too, in specs/Version.antt, include/hauklivo.h, rust/src/version.rs and rust/src/raw.rs.
 const VERSION: u32 = 1;
 
 // The version of the calls.

@@ -22,9 +22,10 @@ pub fn reports(object: &Object, linked: &Linked) -> Vec<String> {
             let report = reports.next_if(|report| report.entry as usize == number);
             let called = report.map(|report| said(&labels, report));
             let faults = [left_out(object, linked, entry.target()), called.or_else(|| seen(&labels, number))];
-            let (ty, reference) = (type_name(entry.ty), labels.reference(number));
-            let sentence = |fault| format!("Entry {number} of {name}, {ty} of {reference}: {fault}.");
-            sentences.extend(faults.into_iter().flatten().map(sentence));
+            sentences.extend(faults.into_iter().flatten().map(|fault| {
+                let (ty, reference) = (type_name(entry.ty), labels.reference(number));
+                format!("Entry {number} of {name}, {ty} of {reference}: {fault}.")
+            }));
         }
     }
     sentences
