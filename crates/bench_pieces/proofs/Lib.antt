@@ -1,2 +1,0 @@
--- The twelve examples (RULES 11).
-pub mod Table

@@ -1,1 +1,0 @@
--- No definitions: the pieces are about those of the crates below.

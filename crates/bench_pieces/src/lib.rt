@@ -1,1 +1,0 @@
-// The twelve examples (RULES 11) together: theorems only, no code.

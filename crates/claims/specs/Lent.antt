@@ -1,0 +1,59 @@
+-- Lent records as bytes, for the examples: entries, resolved targets, relocation records, hints, and an image of words.
+use mathlib.Core.List.{List, [], _∷_, _++_}
+use Prim.Native.Nat.{ℕ, _+_, _*_, _^_}
+use lib.ListN.{length}
+use Rattle.util.specs.Word.{bytes}
+use Rattle.macho.specs.Types.{ARM64-RELOC-PAGE21, ARM64-RELOC-PAGEOFF12}
+use Rattle.macho.specs.Reloc.{relocBytes}
+use Rattle.macho.specs.Resolved.{resolvedBytes}
+use Rattle.macho.specs.Hint.{noEntry, hintBytes}
+use Rattle.macho.specs.declared.resolved.Resolved.{Resolved}
+use Rattle.macho.specs.declared.hint.HintInsn.{HintInsn}
+
+-- words, one after another
+abbrev pub words : List ℕ → List ℕ
+words [] = []
+words (w ∷ ws) = bytes 4 w ++ words ws
+
+-- a relocation record: its offset, and the bits of its second word
+abbrev pub machRel : ℕ → ℕ → List ℕ
+machRel offset bits = bytes 4 offset ++ bytes 4 bits
+
+-- an entry of a type at an offset, with its target field; no addend
+abbrev pub entry : (ty offset target : ℕ) → List ℕ
+entry ty offset target =
+    relocBytes (record { offset = offset; ty = ty; size = 8; «is_pcrel» = 0; «is_subtracted» = 0; target = target; spare = 0; addend = 0 })
+
+-- the flags of a resolved target that the examples set: has an address, GOT can be relaxed (Twelve.flags holds them against macho's)
+abbrev pub has-address : ℕ
+has-address = 2 ^ 2
+
+abbrev pub can-relax-got : ℕ
+can-relax-got = 2 ^ 3
+
+-- a resolved target at an address, its branch target the same, with flags
+abbrev pub target : (addr flags : ℕ) → Resolved
+target addr flags = record { addr = addr; got = 0; branch = addr; thunk = 0; helper = 0; flags = flags; zero = 0 }
+
+abbrev pub resolved : (addr flags : ℕ) → List ℕ
+resolved addr flags = resolvedBytes (target addr flags)
+
+-- the halves of one reference, entries 0 and 1 of a hint run
+abbrev pub half : ℕ → List ℕ
+half ty = relocBytes (record { offset = 0; ty = ty; size = 4; «is_pcrel» = 1; «is_subtracted» = 0; target = 5; spare = 0; addend = 0 })
+
+abbrev pub pair : List ℕ
+pair = half ARM64-RELOC-PAGE21 ++ half ARM64-RELOC-PAGEOFF12
+
+-- a place of a hint: offset, entry number, address
+abbrev pub place : (off rel addr : ℕ) → HintInsn
+place off rel addr = record { off = off; rel = rel; addr = addr }
+
+-- a hint of a kind with n words, of object 0, with its part and its places
+abbrev pub hint : (kind n start len : ℕ) (a b c : HintInsn) → List ℕ
+hint kind n start len a b c =
+    hintBytes (record { kind = kind; n = n; object = 0; start = start; len = len; insn0 = a; insn1 = b; insn2 = c })
+
+-- one whose n words stand one after another from the image's start, at an address; the entries 0 and 1 on the first two
+abbrev pub plain : (kind n addr : ℕ) → List ℕ
+plain kind n addr = hint kind n 0 (4 * n) (place 0 0 addr) (place 4 1 (addr + 4)) (place 8 noEntry (addr + 8))
