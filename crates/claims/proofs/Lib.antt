@@ -1,2 +1,12 @@
 -- The claims hold.
 pub mod Claims
+pub mod Calls
+pub mod Numbers
+pub mod Ignored
+pub mod Manual
+pub mod Words
+pub mod Header
+pub mod Fixup
+pub mod Hints
+pub mod Kept
+pub mod Twelve

@@ -1,25 +1,59 @@
--- The calls that a linker makes (RULES 1.1 to 1.3, 2.28): each meets its contract, and a refusal changes nothing that was lent.
+-- The calls that a linker makes (RULES 1.1 to 1.3, 2.28): each meets its contract, and one that is refused has changed nothing that it was lent.
 use mathlib.Core.Path.{_≡_}
 use mathlib.Core.List.{List}
-use Prim.Native.Nat.{ℕ, _<_}
-use Rattle.hauklivo.proofs.reader.hauklivo_read_relocs.Statement as Reader
-use Rattle.hauklivo.proofs.fixup.hauklivo_apply_reloc_alloc.Statement as Fixup
-use Rattle.hauklivo.proofs.stub.hauklivo_write_stub.Statement as Stub
-use Rattle.hauklivo.proofs.stub.hauklivo_write_thunk.Statement as Thunk
-use Rattle.hauklivo.proofs.hints.hauklivo_apply_hints.Statement as Hints
-use Rattle.hauklivo.proofs.lister.hauklivo_list.Statement as Lister
+use Prim.Native.Nat.{ℕ, _≤_}
+use Rattle.macho.specs.Refusal as Refusal
+use Rattle.macho.specs.declared.refusal.Refusal.{Refusal}
+use Rattle.arm64_reader.specs.Read as Read
+use Rattle.arm64_fixup.specs.Answer as Answer
+use Rattle.arm64_hint_work.specs.declared.tally.Tally.{Tally}
+use Rattle.arm64_hint_run.specs.Run.{runOf, imageOf, numberOf, tallyAfter}
+use Rattle.lister_text.specs.Listing.{outAfter}
+use Rattle.hauklivo.specs.Reader as Reader
+use Rattle.hauklivo.specs.Fixup as Fixup
+use Rattle.hauklivo.specs.Stub as Stub
+use Rattle.hauklivo.specs.Lister as Lister
+use Rattle.hauklivo.proofs.reader.hauklivo_read_relocs.Statement as ReadRelocs
+use Rattle.hauklivo.proofs.fixup.hauklivo_apply_reloc_alloc.Statement as ApplyRelocAlloc
+use Rattle.hauklivo.proofs.stub.hauklivo_write_stub.Statement as WriteStub
+use Rattle.hauklivo.proofs.stub.hauklivo_write_thunk.Statement as WriteThunk
+use Rattle.hauklivo.proofs.hints.hauklivo_apply_hints.Statement as ApplyHints
+use Rattle.hauklivo.proofs.lister.hauklivo_list.Statement as List′
 
--- `statement M` says of a compiled function: called with lent memory as its signature has it, and with nothing else asked (no call here has a
--- `requires`), it touches no other memory, ends, and its answer and every lent byte are what its `ensures` say
+-- `statement M` is made by the toolchain from the code and its contract. It says of the compiled function, in every memory that can be lent as its
+-- parameters say: it touches no other memory, it returns, and its answer and every lent byte are what its `ensures` say. No call here has a `requires`
 pub record Calls : Type 2 where
-  -- hauklivo/src/reader.rt
-  pub read-relocs : (M : Type 1) → Reader.statement M
-  -- hauklivo/src/fixup.rt
-  pub apply-reloc-alloc : (M : Type 1) → Fixup.statement M
-  -- hauklivo/src/stub.rt
-  pub write-stub : (M : Type 1) → Stub.statement M
-  pub write-thunk : (M : Type 1) → Thunk.statement M
-  -- hauklivo/src/hints.rt
-  pub apply-hints : (M : Type 1) → Hints.statement M
-  -- hauklivo/src/lister.rt
-  pub list : (M : Type 1) → Lister.statement M
+  -- RULES 1.1 to 1.3: the reader (hauklivo/src/reader.rt)
+  pub read-relocs : (M : Type 1) → ReadRelocs.statement M
+  -- the fix-up (hauklivo/src/fixup.rt)
+  pub apply-reloc-alloc : (M : Type 1) → ApplyRelocAlloc.statement M
+  -- one stub entry (hauklivo/src/stub.rt)
+  pub write-stub : (M : Type 1) → WriteStub.statement M
+  -- one thunk entry (hauklivo/src/stub.rt)
+  pub write-thunk : (M : Type 1) → WriteThunk.statement M
+  -- the hint run (hauklivo/src/hints.rt)
+  pub apply-hints : (M : Type 1) → ApplyHints.statement M
+  -- the lister (hauklivo/src/lister.rt)
+  pub list : (M : Type 1) → List′.statement M
+  -- RULES 3.1: a refusal's number is one of 1 to 12
+  pub numbered : (x : Refusal) → (1 ≤ Refusal.numberOf x) × (Refusal.numberOf x ≤ 12)
+  -- RULES 1.3, 3.2: a refused reader leaves slots and count
+  pub read-relocs-refused : (contents records sections slots : List ℕ) (count : ℕ) → (Reader.numberTo contents records sections slots ≡ 0 → ⊥)
+      → (Read.slotsTo contents records sections slots ≡ slots) × (Reader.countTo contents records sections slots count ≡ count)
+  -- a refused fix-up leaves section, slots and count
+  pub apply-reloc-alloc-refused : (section : List ℕ) (base tls : ℕ) (entries targets slots : List ℕ) (count : ℕ)
+      → (Fixup.numberTo section base tls entries targets slots ≡ 0 → ⊥)
+      → (Answer.sectionTo section base tls entries targets slots ≡ section)
+      × (Answer.slotsTo section base tls entries targets slots ≡ slots)
+      × (Fixup.countTo section base tls entries targets slots count ≡ count)
+  -- a refused stub entry leaves its bytes and whether it reaches
+  pub write-stub-refused : (buf : List ℕ) (addr ptr reaches : ℕ) → (Stub.stubNumberTo buf addr ptr ≡ 0 → ⊥)
+      → (Stub.stubTo buf addr ptr ≡ buf) × (Stub.reachesTo buf addr ptr reaches ≡ reaches)
+  -- a refused thunk entry leaves its bytes
+  pub write-thunk-refused : (buf : List ℕ) (addr target : ℕ) → (Stub.thunkNumberTo buf ≡ 0 → ⊥) → Stub.thunkTo buf addr target ≡ buf
+  -- a refused hint run leaves image and tally
+  pub apply-hints-refused : (image hints entries : List ℕ) (tally : Tally) → (numberOf (runOf image hints entries) ≡ 0 → ⊥)
+      → (imageOf image hints entries ≡ image) × (tallyAfter tally (runOf image hints entries) ≡ tally)
+  -- a refused lister leaves the bytes for the text and the count
+  pub list-refused : (words out : List ℕ) (count : ℕ) → (Lister.numberTo words out ≡ 0 → ⊥)
+      → (outAfter words out ≡ out) × (Lister.countTo words out count ≡ count)

@@ -1,7 +1,27 @@
 -- What is proved: the records of claims, in the order of RULES 1.
 use Rattle.claims.specs.Calls.{Calls}
+use Rattle.claims.specs.Numbers.{Numbers}
+use Rattle.claims.specs.Ignored.{Ignored}
+use Rattle.claims.specs.Manual.{Manual}
+use Rattle.claims.specs.Words.{Words}
+use Rattle.claims.specs.Header.{Header}
+use Rattle.claims.specs.Fixup.{Fixup}
+use Rattle.claims.specs.Hints.{Hints}
+use Rattle.claims.specs.Kept.{Kept}
 use Rattle.claims.specs.Twelve.{Twelve}
 
 pub record Claims : Type 2 where
+  -- lent memory, ending, refusals (RULES 1.1 to 1.3)
   pub calls : Calls
+  pub numbers : Numbers
+  pub ignored : Ignored
+  -- public documents (RULES 1.4 to 1.8)
+  pub manual : Manual
+  pub words : Words
+  pub header : Header
+  pub fixup : Fixup
+  pub hints : Hints
+  -- what a hint keeps (RULES 1.9 to 1.14)
+  pub kept : Kept
+  -- the twelve examples (RULES 11)
   pub twelve : Twelve

@@ -1,5 +1,13 @@
 -- The claims, and the records of each.
 pub mod Claims
 pub mod Calls
-pub mod Lent
+pub mod Numbers
+pub mod Ignored
+pub mod Manual
+pub mod Words
+pub mod Header
+pub mod Fixup
+pub mod Hints
+pub mod Kept
 pub mod Twelve
+pub mod Lent

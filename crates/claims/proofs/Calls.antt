@@ -1,0 +1,113 @@
+-- The calls' contracts are the toolchain's; a refusal leaves what was lent, by cases on the answers.
+use mathlib.Core.Path.{_≡_, refl, sym}
+use mathlib.Core.Bool.{Bool, true, false}
+use mathlib.Core.List.{List}
+use Prim.Native.Nat.{ℕ, _≤_}
+use lib.Dec.{ltb, lit≤}
+use lib.ListN.{length}
+use Rattle.util.specs.Choice.{choose}
+use Rattle.util.proofs.Choice.{chosen}
+use Rattle.macho.specs.Refusal as Refusal
+use Rattle.macho.specs.Refusal.{answerNumber, checkNumber}
+use Rattle.macho.specs.declared.refusal.Refusal.{Refusal}
+use Rattle.macho.specs.declared.refusal.Refusal.the-variants.{Lengths, Slots, Bounds, LoneAddend, Unsupported, Unfit}
+use Rattle.macho.specs.declared.refusal.Refusal.the-variants.{NoSection, LoneSubtractor, Overflow, NeedsSymbol, Flags, NoEntry}
+use Rattle.macho.specs.declared.refusal.Answer.{Answer}
+use Rattle.macho.specs.declared.refusal.Answer.the-variants as A
+use Rattle.arch.specs.Walk as Walk
+use Rattle.arch.specs.Walk.{Reading}
+use Rattle.arm64_insn.specs.Reach.{adrpReaches}
+use Rattle.arm64_reader.specs.Read.{readRelocs}
+use Rattle.arm64_fixup.specs.Answer as Answer
+use Rattle.arm64_fixup.specs.Answer.{Outcome, basesOf, outcomeOf}
+use Rattle.arm64_fixup.specs.Stub.{wordsIn, stubAnswer, stubNumber, thunkCheck}
+use Rattle.arm64_fixup.specs.declared.stub.StubAnswer.{StubAnswer}
+use Rattle.arm64_fixup.specs.declared.stub.StubAnswer.the-variants as S
+use Rattle.arm64_hint_work.specs.declared.tally.Tally.{Tally}
+use Rattle.arm64_hint_run.specs.Run.{runOf, imageOf, numberOf, tallyAfter}
+use Rattle.arm64_hint_run.specs.declared.run.RunAnswer.{RunAnswer}
+use Rattle.arm64_hint_run.specs.declared.run.RunAnswer.the-variants as R
+use Rattle.arm64_hint_run.proofs.Answers.{refused-leaves}
+use Rattle.lister_text.specs.Listing.{lines, listOf, outBy}
+use Rattle.hauklivo.specs.Lent.{lentNumber, lentCount}
+use Rattle.hauklivo.specs.Stub as Stub
+use Rattle.hauklivo.proofs.Lent.{count-kept}
+use Rattle.hauklivo.proofs.reader.hauklivo_read_relocs.Met as ReadRelocs
+use Rattle.hauklivo.proofs.fixup.hauklivo_apply_reloc_alloc.Met as ApplyRelocAlloc
+use Rattle.hauklivo.proofs.stub.hauklivo_write_stub.Met as WriteStub
+use Rattle.hauklivo.proofs.stub.hauklivo_write_thunk.Met as WriteThunk
+use Rattle.hauklivo.proofs.hints.hauklivo_apply_hints.Met as ApplyHints
+use Rattle.hauklivo.proofs.lister.hauklivo_list.Met as List′
+use Rattle.claims.specs.Calls.{Calls}
+
+numbered : (x : Refusal) → (1 ≤ Refusal.numberOf x) × (Refusal.numberOf x ≤ 12)
+numbered Lengths = (lit≤ tt, lit≤ tt)
+numbered Slots = (lit≤ tt, lit≤ tt)
+numbered Bounds = (lit≤ tt, lit≤ tt)
+numbered LoneAddend = (lit≤ tt, lit≤ tt)
+numbered Unsupported = (lit≤ tt, lit≤ tt)
+numbered Unfit = (lit≤ tt, lit≤ tt)
+numbered NoSection = (lit≤ tt, lit≤ tt)
+numbered LoneSubtractor = (lit≤ tt, lit≤ tt)
+numbered Overflow = (lit≤ tt, lit≤ tt)
+numbered NeedsSymbol = (lit≤ tt, lit≤ tt)
+numbered Flags = (lit≤ tt, lit≤ tt)
+numbered NoEntry = (lit≤ tt, lit≤ tt)
+
+reader : (a : Reading) (slots : List ℕ) (count : ℕ) → (answerNumber (Walk.answerOf a) ≡ 0 → ⊥)
+    → (Walk.slotsAfter a slots ≡ slots) × (lentCount (Walk.answerOf a) count ≡ count)
+reader (Walk.refused x) slots count ne = (refl, sym (count-kept x (A.Refused x) count refl))
+reader (Walk.entries es) slots count ne = absurd (ne refl)
+
+fix-up : (a : Outcome) (section slots : List ℕ) (count : ℕ) → (answerNumber (Answer.answerOf a) ≡ 0 → ⊥)
+    → (Answer.sectionAfter a section ≡ section) × (Answer.slotsAfter a slots ≡ slots) × (lentCount (Answer.answerOf a) count ≡ count)
+fix-up (Answer.refused x) section slots count ne = (refl, refl, sym (count-kept x (A.Refused x) count refl))
+fix-up (Answer.fixed f) section slots count ne = absurd (ne refl)
+
+lister : (a : Answer) (text out : List ℕ) (count : ℕ) → (answerNumber a ≡ 0 → ⊥) → (outBy a text out ≡ out) × (lentCount a count ≡ count)
+lister (A.Refused x) text out count ne = (refl, sym (count-kept x (A.Refused x) count refl))
+lister (A.Filled n) text out count ne = absurd (ne refl)
+
+stub : (buf : List ℕ) (addr ptr reaches : ℕ) → (Stub.stubNumberTo buf addr ptr ≡ 0 → ⊥)
+    → (Stub.stubTo buf addr ptr ≡ buf) × (Stub.reachesTo buf addr ptr reaches ≡ reaches)
+unfolding stubAnswer wordsIn lentNumber choose
+stub buf addr ptr reaches ne = go (ltb (length buf) 12) refl
+  where
+    go : (t : Bool) → ltb (length buf) 12 ≡ t → (Stub.stubTo buf addr ptr ≡ buf) × (Stub.reachesTo buf addr ptr reaches ≡ reaches)
+    go true e = (rw e, rw e)
+    go false e = absurd (ne (rw e (chosen (λ (a : StubAnswer). stubNumber a ≡ 0) (adrpReaches ptr addr) S.Reaches S.OutOfReach refl refl)))
+
+thunk : (buf : List ℕ) (addr target : ℕ) → (Stub.thunkNumberTo buf ≡ 0 → ⊥) → Stub.thunkTo buf addr target ≡ buf
+unfolding thunkCheck wordsIn choose
+thunk buf addr target ne = go (ltb (length buf) 12) refl
+  where
+    go : (t : Bool) → ltb (length buf) 12 ≡ t → Stub.thunkTo buf addr target ≡ buf
+    go true e = rw e
+    go false e = absurd (ne (rw e))
+
+hint-run : (image hints entries : List ℕ) (tally : Tally) → (numberOf (runOf image hints entries) ≡ 0 → ⊥)
+    → (imageOf image hints entries ≡ image) × (tallyAfter tally (runOf image hints entries) ≡ tally)
+hint-run image hints entries tally = go (runOf image hints entries) refl
+  where
+    go : (a : RunAnswer) → runOf image hints entries ≡ a → (numberOf a ≡ 0 → ⊥) → (imageOf image hints entries ≡ image) × (tallyAfter tally a ≡ tally)
+    go (R.Done t) e ne = absurd (ne refl)
+    go (R.Refused x) e ne = (refused-leaves image hints entries x e, refl)
+
+pub calls : Calls
+calls =
+    record {
+      read-relocs = λ M. ReadRelocs.met;
+      apply-reloc-alloc = λ M. ApplyRelocAlloc.met;
+      write-stub = λ M. WriteStub.met;
+      write-thunk = λ M. WriteThunk.met;
+      apply-hints = λ M. ApplyHints.met;
+      list = λ M. List′.met;
+      numbered = numbered;
+      read-relocs-refused = λ contents records sections slots count. reader (readRelocs contents records sections slots) slots count;
+      apply-reloc-alloc-refused = λ section base tls entries targets slots count.
+          fix-up (outcomeOf section (basesOf base tls) entries targets slots) section slots count;
+      write-stub-refused = stub;
+      write-thunk-refused = thunk;
+      apply-hints-refused = hint-run;
+      list-refused = λ words out count. lister (listOf words (length out)) (lines words) out count;
+    }

@@ -1,0 +1,31 @@
+-- Linker optimization hints: the laws of every decision, and of a run's answers.
+use mathlib.Core.Path.{_≡_, subst}
+use Prim.Native.Nat.{ℕ, _^_, _<_}
+use Rattle.arm64_hint_terms.specs.declared.answer.NewWord.{NewWord}
+use Rattle.arm64_hint_terms.specs.declared.answer.NewWord.the-variants.{Set}
+use Rattle.arm64_hint_laws.proofs.Hinted as Hinted
+use Rattle.arm64_hint_laws.proofs.Hinted.{KeepsThird, Worded}
+use Rattle.arm64_hint_laws.proofs.Written as Written
+use Rattle.arm64_hint_laws.proofs.Written.{Fits, AllFit}
+use Rattle.arm64_hint_run.proofs.Answers as Answers
+use Rattle.claims.specs.Hints.{Hints}
+
+-- a new word that fits is a word of 32 bits
+set-fits : {n : NewWord} {w : ℕ} → Fits n → n ≡ Set w → w < 2 ^ 32
+set-fits h e = subst Fits e h
+
+pub hints : Hints
+hints =
+    record {
+      skipped = Answers.skipped-kinds;
+      counts = Hinted.counts;
+      no-kind = Hinted.no-kind;
+      entries = Hinted.entries;
+      words = λ n s r p e. subst (Worded s n) e (Hinted.worded n s r);
+      written = Written.written;
+      two-words = λ n s r p two e. subst KeepsThird e (Hinted.two-words n s r two);
+      all-fit = λ n s r p w e. let f = subst AllFit e (Written.all-fit n s r) in (set-fits (f .0), set-fits (f .1), set-fits (f .2));
+      counts-sum = Answers.counts-sum;
+      nine-leaves = Answers.nine-leaves;
+      nine-goes-on = Answers.nine-goes-on;
+    }

@@ -1,0 +1,125 @@
+-- Apple's header (RULES 1.5, 1.6, 2, 4): records and their bytes, and what a table of relocation records means against what the reader reads.
+use mathlib.Core.Path.{_≡_}
+use mathlib.Core.Bool.{Bool, true, false}
+use mathlib.Core.Logic.{_⊎_}
+use mathlib.Core.List.{List, [], _∷_, _++_, map}
+use Prim.Native.Nat.{ℕ, _+_, _*_, _/_, _%_, _^_, _≤_, _<_}
+use lib.ListN.{length, getD, set, replicate}
+use Rattle.util.specs.Part.{part}
+use Rattle.util.specs.Word.{put, bytes}
+use Rattle.macho.specs.Record.{Field, Fits, Zeros}
+use Rattle.macho.specs.MachRel.{machRelSize, machRelAt, machRelFields, machRelBytes, idxOf, pcrelOf, p2sizeOf, externOf, typeOf, formOf, bitsOf}
+use Rattle.macho.specs.Reloc.{relocSize, relocAt, relocFields, relocBytes}
+use Rattle.macho.specs.Resolved.{resolvedSize, resolvedAt, resolvedFields, resolvedBytes}
+use Rattle.macho.specs.Report.{reportSize, reportAt, reportFields, reportBytes}
+use Rattle.macho.specs.Hint.{hintSize, hintAt, hintFields, hintBytes}
+use Rattle.macho.specs.declared.rel.MachRel.{MachRel}
+use Rattle.macho.specs.declared.reloc.Reloc.{Reloc}
+use Rattle.macho.specs.declared.refusal.Refusal.{Refusal}
+use Rattle.macho.specs.declared.refusal.Refusal.the-variants.{Unsupported, Unfit}
+use Rattle.macho.specs.Refusal.{filledOf}
+use Rattle.arch.specs.Table.{recordsOf}
+use Rattle.arch.specs.Walk.{refused, entries, answerOf}
+use Rattle.arm64_reader.specs.Read.{readRecords, readRelocs}
+use Rattle.arm64_reader.specs.Fields.{starts, pairs, entryAt}
+use Rattle.arm64_reader.specs.Header.{Relocation, symbol, nothing, Meaning, undefined, relocations, meaningOf, Inside, hasLonePointer32, Reason, isTolerated}
+use Rattle.arm64_reader.specs.Header.{subtractor-last, subtractor-type, subtractor-place, subtractor-size, addend-form, addend-type, addend-place}
+use Rattle.arm64_reader.specs.Said.{said}
+use Rattle.hauklivo.specs.Reader as Reader
+use Rattle.claims.specs.Lent.{machRel}
+
+-- a kind of record: the value of the bytes of a value is the value, wherever they stand; the bytes of the value of bytes are the bytes, where the unused
+-- ones are zero
+abbrev pub RoundTrip : {A : Type 0} (size : ℕ) (value : List ℕ → ℕ → A) (fields : A → List Field) (image : A → List ℕ) → Type 0
+RoundTrip {A} size value fields image =
+    ((a : A) (xs ys : List ℕ) → Fits (fields a) → value (xs ++ (image a ++ ys)) (length xs) ≡ a)
+    × ((s : List ℕ) (at : ℕ) → ((i : ℕ) → getD s i 0 < 256) → at + size ≤ length s → Zeros (fields (value s at)) s at → image (value s at) ≡ part s at size)
+
+-- an entry with other spare bytes
+abbrev pub withSpare : Reloc → ℕ → Reloc
+withSpare r x =
+    record {
+      offset = r .offset;
+      ty = r .ty;
+      size = r .size;
+      «is_pcrel» = r .«is_pcrel»;
+      «is_subtracted» = r .«is_subtracted»;
+      target = r .target;
+      spare = x;
+      addend = r .addend;
+    }
+
+-- what the header says of records, and how many entries the reader fills; or its number
+abbrev pub reads : (contents records : List ℕ) → Meaning × ℕ
+reads contents records = (meaningOf contents [] (recordsOf records), filledOf (answerOf (readRelocs contents records [] (replicate 48 0))))
+
+abbrev pub refuses : (contents records : List ℕ) → Meaning × ℕ
+refuses contents records = (meaningOf contents [] (recordsOf records), Reader.numberTo contents records [] (replicate 24 0))
+
+-- a NOP
+abbrev pub nop : List ℕ
+nop = bytes 4 0xd503201f
+
+pub record Header : Type 0 where
+  -- RULES 2.10, 2.15, 2.17, 2.20, 2.22: the five records
+  pub relocation-record : RoundTrip machRelSize machRelAt machRelFields machRelBytes
+  pub entry : RoundTrip relocSize relocAt relocFields relocBytes
+  pub resolved-target : RoundTrip resolvedSize resolvedAt resolvedFields resolvedBytes
+  pub report : RoundTrip reportSize reportAt reportFields reportBytes
+  pub hint : RoundTrip hintSize hintAt hintFields hintBytes
+  -- RULES 2.10, 2.11: the bit fields of a relocation record taken apart and put together; its form
+  pub packed : (i p l e t : ℕ) → i < 2 ^ 24 → p < 2 → l < 4 → e < 2 → t < 16
+      → (idxOf (bitsOf i p l e t) ≡ i) × (pcrelOf (bitsOf i p l e t) ≡ p) × (p2sizeOf (bitsOf i p l e t) ≡ l)
+      × (externOf (bitsOf i p l e t) ≡ e) × (typeOf (bitsOf i p l e t) ≡ t)
+  pub unpacked : (bits : ℕ) → bits < 2 ^ 32 → bitsOf (idxOf bits) (pcrelOf bits) (p2sizeOf bits) (externOf bits) (typeOf bits) ≡ bits
+  pub form-fields : (bits : ℕ) → formOf bits ≡ pcrelOf bits + 2 * p2sizeOf bits + 8 * externOf bits
+  -- RULES 2.8: unused bytes of a report and of a hint change nothing; an entry's spare bytes are its spare field alone
+  pub report-ignores : (s : List ℕ) (at u v : ℕ) → reportAt (set (set s (at + 6) u) (at + 7) v) at ≡ reportAt s at
+  pub hint-ignores : (s : List ℕ) (at u v : ℕ) → hintAt (set (set s (at + 2) u) (at + 3) v) at ≡ hintAt s at
+  pub entry-spare : (s : List ℕ) (at v : ℕ) → at + 16 ≤ length s → relocAt (put 4 s (at + 12) v) at ≡ withSpare (relocAt s at) (v % 2 ^ 32)
+  -- RULES 4.21: where the header defines a table and it is read, the entries say what the header says
+  pub same-meaning : (contents sections : List ℕ) (rs : List MachRel) (ms : List Relocation) (es : List Reloc)
+      → meaningOf contents sections rs ≡ relocations ms → readRecords contents sections false rs ≡ entries es → said es ≡ ms
+  -- RULES 4.22: where it defines a table whose places and sections are there, the table is refused only by an unfit word or a lone 4-byte pointer
+  pub refused-only : (contents sections : List ℕ) (rs : List MachRel) (ms : List Relocation) (x : Refusal)
+      → meaningOf contents sections rs ≡ relocations ms → Inside (length contents) (length sections) ms
+      → readRecords contents sections false rs ≡ refused x → (x ≡ Unfit) ⊎ ((x ≡ Unsupported) × (hasLonePointer32 ms ≡ true))
+  -- the same of a call that is lent whole records and slots enough
+  pub call-refused-only : (contents records sections slots : List ℕ) (ms : List Relocation) (x : Refusal)
+      → length records % 8 ≡ 0 → length records / 8 < 2 ^ 32 → length sections < 2 ^ 32 → 24 * (length records / 8) ≤ length slots
+      → meaningOf contents sections (recordsOf records) ≡ relocations ms → Inside (length contents) (length sections) ms
+      → readRelocs contents records sections slots ≡ refused x → (x ≡ Unfit) ⊎ ((x ≡ Unsupported) × (hasLonePointer32 ms ≡ true))
+  -- RULES 4.20: where a table is read that the header does not define, the reason is one of the seven
+  pub tolerated-only : (contents sections : List ℕ) (rs : List MachRel) (y : Reason) (es : List Reloc)
+      → meaningOf contents sections rs ≡ undefined y → readRecords contents sections false rs ≡ entries es → isTolerated y ≡ true
+  -- each of the seven occurs: SUBTRACTOR alone; before BRANCH26; before UNSIGNED at another place; of another size; ADDEND with another type's fields;
+  -- before BRANCH26; before PAGE21 at another place
+  pub tolerated : reads (replicate 16 0) (machRel 0 0x1e000000)
+      ∷ reads (replicate 16 0) (machRel 0 0x1e000000 ++ machRel 0 0x2d000000)
+      ∷ reads (replicate 16 0) (machRel 0 0x1e000000 ++ machRel 8 0x0e000000)
+      ∷ reads (replicate 16 0) (machRel 0 0x1e000000 ++ machRel 0 0x0c000000)
+      ∷ reads (replicate 16 0) (machRel 0 0xaf000000 ++ machRel 0 0x3d000000)
+      ∷ reads (replicate 16 0) (machRel 0 0xa4000000 ++ machRel 0 0x2d000000)
+      ∷ reads (replicate 16 0) (machRel 0 0xa4000000 ++ machRel 4 0x3d000000)
+      ∷ []
+      ≡ (undefined subtractor-last, 1)
+      ∷ (undefined subtractor-type, 2)
+      ∷ (undefined subtractor-place, 2)
+      ∷ (undefined subtractor-size, 2)
+      ∷ (undefined addend-form, 1)
+      ∷ (undefined addend-type, 1)
+      ∷ (undefined addend-place, 1)
+      ∷ []
+  -- and so do both refusals: a TLVP page offset on NOP, a pointer of 4 bytes alone
+  pub defined-refused : refuses nop (machRel 0 0x9c000000)
+      ∷ refuses nop (machRel 0 0x0c000000)
+      ∷ []
+      ≡ (relocations (record { kind = 9; place = 0; size = 4; target = symbol 0; addend = 0; minus = nothing } ∷ []), 6)
+      ∷ (relocations (record { kind = 0; place = 0; size = 4; target = symbol 0; addend = 0xffffffff_d503201f; minus = nothing } ∷ []), 5)
+      ∷ []
+  -- RULES 4.2 to 4.12: each entry of a table that is read is the function of its records that Fields has
+  pub fields : (contents sections : List ℕ) (first : Bool) (rs : List MachRel) (es : List Reloc)
+      → readRecords contents sections first rs ≡ entries es → es ≡ map (entryAt contents sections first rs) (starts 0 false rs)
+  -- RULES 4.14: as many entries as records, less the ADDEND records that head a pair
+  pub count : (contents sections : List ℕ) (first : Bool) (rs : List MachRel) (es : List Reloc)
+      → readRecords contents sections first rs ≡ entries es → length es + pairs false rs ≡ length rs

@@ -1,0 +1,52 @@
+-- Linker optimization hints (RULES 1.4, 1.5, 8): LLVM's kinds, what a rewrite writes, the counts, and a sum that passes 2^64 - 1.
+use mathlib.Core.Path.{_≡_}
+use mathlib.Core.Bool.{false, _||_, not}
+use mathlib.Core.List.{List, [], _∷_}
+use Prim.Native.Nat.{ℕ, _^_, _<_}
+use lib.Dec.{eqb}
+use lib.ListN.{length}
+use Rattle.macho.specs.Hint.{wordCount, hintCount}
+use Rattle.macho.specs.declared.hint.HintRecord.{HintRecord}
+use Rattle.image.specs.Steps.{Work, answered, stepOf}
+use Rattle.arm64_hint_terms.specs.Kinds.{wordsOf, AreWords, areCarried}
+use Rattle.arm64_hint_terms.specs.declared.answer.Insns.{Insns}
+use Rattle.arm64_hint_terms.specs.declared.answer.Plan.{Plan}
+use Rattle.arm64_hint_terms.specs.declared.answer.NewWord.the-variants.{Keep, Set}
+use Rattle.arm64_hint_terms.specs.declared.answer.Decision.the-variants.{Declined, Nine, Rewritten}
+use Rattle.arm64_hint_terms.specs.declared.rels.Rels.{Rels}
+use Rattle.arm64_hint_laws.specs.Decide.{decide}
+use Rattle.arm64_hint_laws.proofs.Written.{Written}
+use Rattle.arm64_hint_order.specs.Lists.{runList}
+use Rattle.arm64_hint_places.specs.Hint.{isSkipped}
+use Rattle.arm64_hint_rules.specs.declared.outcome.Outcome.the-variants.{Worked}
+use Rattle.arm64_hint_work.specs.Step.{addDecision, total, stepsOf}
+use Rattle.arm64_hint_work.specs.declared.tally.Tally.{Tally}
+use Rattle.arm64_hint_run.specs.Run.{runOf}
+use Rattle.arm64_hint_run.specs.declared.run.RunAnswer.the-variants.{Done}
+
+pub record Hints : Type 0 where
+  -- RULES 8.3: a hint is skipped where there is no such kind, or its word count is not the number of that kind's words
+  pub skipped : (h : HintRecord) → isSkipped h ≡ (eqb (length (wordsOf (h .kind))) 0 || not (eqb (h .n) (length (wordsOf (h .kind)))))
+  -- RULES 8.2: the word counts are those of LLVM's kinds
+  pub counts : (n : ℕ) → wordCount n ≡ length (wordsOf n)
+  -- RULES 8.4: a number that is no kind, and entries that are not what the kind's words carry, decline
+  pub no-kind : (n : ℕ) (s : Insns) (r : Rels) → wordsOf n ≡ [] → decide n s r ≡ Declined
+  pub entries : (n : ℕ) (s : Insns) (r : Rels) → areCarried (wordsOf n) (r .r0 ∷ r .r1 ∷ r .r2 ∷ []) ≡ false → decide n s r ≡ Declined
+  -- what is rewritten has the kind's words, by the manual's forms, or what may stand there instead
+  pub words : (n : ℕ) (s : Insns) (r : Rels) (p : Plan) → decide n s r ≡ Rewritten p → AreWords (wordsOf n) (s .w0 ∷ s .w1 ∷ s .w2 ∷ [])
+  -- RULES 8.12: what each rewrite writes, and which kinds may answer nine: the table Written (arm64_hint_laws/proofs/Written)
+  pub written : (kind : ℕ) (s : Insns) (r : Rels) → Written kind (decide kind s r)
+  -- a kind of two words writes no third place
+  pub two-words : (n : ℕ) (s : Insns) (r : Rels) (p : Plan) → length (wordsOf n) ≡ 2 → decide n s r ≡ Rewritten p → p .w2 ≡ Keep
+  -- each new word has 32 bits
+  pub all-fit : (n : ℕ) (s : Insns) (r : Rels) (p : Plan) (w : ℕ) → decide n s r ≡ Rewritten p
+      → (p .w0 ≡ Set w → w < 2 ^ 32) × (p .w1 ≡ Set w → w < 2 ^ 32) × (p .w2 ≡ Set w → w < 2 ^ 32)
+  -- RULES 8.32: the four counts are together the number of hints
+  pub counts-sum : (image hints entries : List ℕ) (t : Tally) → runOf image hints entries ≡ Done t → total t ≡ hintCount hints
+  -- RULES 1.4: a hint answered nine leaves the image and is counted
+  pub nine-leaves : (hints entries : List ℕ) (k : ℕ) (w : Work Tally) (s : Insns) → answered (stepsOf hints entries) k (w .image) ≡ Worked Nine s
+      → stepOf (stepsOf hints entries) k w ≡ record { image = w .image; tally = addDecision Nine (w .tally) }
+  -- and the hints after it are worked on that
+  pub nine-goes-on : (hints entries : List ℕ) (k : ℕ) (w : Work Tally) (s : Insns) → answered (stepsOf hints entries) k (w .image) ≡ Worked Nine s
+      → (l : List ℕ) → runList (stepOf (stepsOf hints entries)) (k ∷ l) w
+      ≡ runList (stepOf (stepsOf hints entries)) l (record { image = w .image; tally = addDecision Nine (w .tally) })

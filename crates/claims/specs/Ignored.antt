@@ -1,0 +1,107 @@
+-- Empty lists succeed, and what is not looked at changes nothing (RULES 3.14 to 3.17).
+use mathlib.Core.Path.{_≡_}
+use mathlib.Core.Bool.{Bool, true, false}
+use mathlib.Core.Logic.{_⊎_}
+use mathlib.Core.List.{List, [], _∷_, _++_}
+use Prim.Native.Nat.{ℕ, _+_, _*_, _-_, _/_, _^_, _≤_, _<_}
+use lib.Dec.{eqb}
+use lib.ListN.{length, getD, set}
+use Rattle.util.specs.Word.{le}
+use Rattle.macho.specs.MachRel.{idxOf, externOf, typeOf}
+use Rattle.macho.specs.Types.{ARM64-RELOC-ADDEND}
+use Rattle.macho.specs.Reloc.{relocAt}
+use Rattle.macho.specs.Hint.{hintOf}
+use Rattle.macho.specs.declared.rel.MachRel.{MachRel}
+use Rattle.macho.specs.declared.reloc.Reloc.{Reloc}
+use Rattle.macho.specs.declared.refusal.Answer.the-variants.{Filled}
+use Rattle.arch.specs.Table.{recordAt}
+use Rattle.arch.specs.Walk as Walk
+use Rattle.arch.specs.Walk.{Fills}
+use Rattle.arm64_reader.specs.Read.{readRecords, readRelocs}
+use Rattle.arm64_reader.specs.Fields.{ownOf, lookedAt}
+use Rattle.arm64_fixup_entry.specs.declared.target.Bases.{Bases}
+use Rattle.arm64_fixup.specs.Walk.{entryAt, targetAt, entryCount, consumed}
+use Rattle.arm64_fixup.specs.Answer.{outcomeOf, answerOf, sectionAfter, slotsAfter}
+use Rattle.arm64_hint_check.specs.Check.{isList}
+use Rattle.arm64_hint_run.specs.Run.{zeros, runOf, imageOf}
+use Rattle.arm64_hint_run.specs.declared.run.RunAnswer.the-variants.{Done}
+
+-- an entry with zeros for its spare bytes, its pc-relative and its subtracted mark, which the fix-up does not look at
+abbrev pub seen : Reloc → Reloc
+seen e =
+    record {
+      offset = e .offset;
+      ty = e .ty;
+      size = e .size;
+      «is_pcrel» = 0;
+      «is_subtracted» = 0;
+      target = e .target;
+      spare = 0;
+      addend = e .addend;
+    }
+
+-- two runs give the same answer and leave the same image
+abbrev pub SameRuns : (image hints hints′ entries entries′ : List ℕ) → Type 0
+SameRuns image hints hints′ entries entries′ =
+    (runOf image hints entries ≡ runOf image hints′ entries′) × (imageOf image hints entries ≡ imageOf image hints′ entries′)
+
+pub record Ignored : Type 0 where
+  -- RULES 3.14: no records give no entries
+  pub no-records : (contents sections slots : List ℕ) → length sections < 2 ^ 32 → readRelocs contents [] sections slots ≡ Walk.entries []
+  -- no entries with no targets give no reports, and leave section and slots
+  pub no-entries : (section : List ℕ) (b : Bases) (slots : List ℕ)
+      → (answerOf (outcomeOf section b [] [] slots) ≡ Filled 0)
+      × (sectionAfter (outcomeOf section b [] [] slots) section ≡ section)
+      × (slotsAfter (outcomeOf section b [] [] slots) slots ≡ slots)
+  -- no hints give four zeros, and leave the image
+  pub no-hints : (image entries : List ℕ) → isList (length entries) 24 ≡ true
+      → (runOf image [] entries ≡ Done zeros) × (imageOf image [] entries ≡ image)
+  -- RULES 3.15: the reader looks at no byte of the slots
+  pub reader-slots : (contents records sections slots others : List ℕ) → length slots ≡ length others
+      → readRelocs contents records sections slots ≡ readRelocs contents records sections others
+  -- nor at contents outside the words and pointers of its records, nor at addresses of sections that no record names
+  pub reader-contents : (contents others sections addresses : List ℕ) (first : Bool) (rs : List MachRel)
+      → length contents ≡ length others → length sections ≡ length addresses
+      → ((i : ℕ) → i < length rs
+      → le (lookedAt (recordAt rs (ownOf rs i))) contents (recordAt rs i .offset) ≡ le (lookedAt (recordAt rs (ownOf rs i))) others (recordAt rs i .offset))
+      → ((i : ℕ) → i < length rs → eqb (externOf (recordAt rs (ownOf rs i) .bits)) 1 ≡ false
+      → getD sections (idxOf (recordAt rs (ownOf rs i) .bits) - 1) 0 ≡ getD addresses (idxOf (recordAt rs (ownOf rs i) .bits) - 1) 0)
+      → readRecords contents sections first rs ≡ readRecords others addresses first rs
+  -- of an ADDEND record at which a turn starts, as the last of xs is none or xs reads by itself, offset, index and type count; of the one after it the bits
+  pub reader-addend : (contents sections : List ℕ) (first : Bool) (xs ys : List MachRel) (a b r q : MachRel)
+      → typeOf (a .bits) ≡ ARM64-RELOC-ADDEND → typeOf (b .bits) ≡ ARM64-RELOC-ADDEND → a .offset ≡ b .offset → idxOf (a .bits) ≡ idxOf (b .bits)
+      → r .bits ≡ q .bits
+      → (typeOf (recordAt xs (length xs - 1) .bits) ≡ ARM64-RELOC-ADDEND → ⊥) ⊎ Fills (readRecords contents sections first xs)
+      → readRecords contents sections first (xs ++ (a ∷ (r ∷ ys))) ≡ readRecords contents sections first (xs ++ (b ∷ (q ∷ ys)))
+  -- RULES 3.16: lists that agree but for spare bytes and marks, and for all but addend and address of a taken entry, have the same outcome
+  pub fix-up-alike : (b : Bases) (entries entries′ targets targets′ section slots : List ℕ)
+      → length entries ≡ length entries′ → length targets ≡ length targets′
+      → ((i : ℕ) → i < entryCount entries → consumed entries i ≡ false
+      → (seen (entryAt entries i) ≡ seen (entryAt entries′ i)) × (targetAt targets i ≡ targetAt targets′ i))
+      → ((i : ℕ) → i < entryCount entries → consumed entries i ≡ true
+      → (entryAt entries i .addend ≡ entryAt entries′ i .addend) × (targetAt targets i .addr ≡ targetAt targets′ i .addr))
+      → outcomeOf section b entries targets slots ≡ outcomeOf section b entries′ targets′ slots
+  -- a spare byte of an entry may hold anything
+  pub fix-up-spare : (section : List ℕ) (b : Bases) (entries targets slots : List ℕ) (i j v : ℕ) → j < 4
+      → outcomeOf section b entries targets slots ≡ outcomeOf section b (set entries (24 * i + 12 + j) v) targets slots
+  -- and so may each byte of a taken entry but its addend's, and of its target but its address's
+  pub fix-up-taken : (section : List ℕ) (b : Bases) (entries targets slots : List ℕ) (i j v : ℕ) → consumed entries i ≡ true → j < 16
+      → outcomeOf section b entries targets slots ≡ outcomeOf section b (set entries (24 * i + j) v) targets slots
+  pub fix-up-taken-target : (section : List ℕ) (b : Bases) (entries targets slots : List ℕ) (i j v : ℕ) → consumed entries i ≡ true → 8 ≤ j → j < 48
+      → outcomeOf section b entries targets slots ≡ outcomeOf section b entries (set targets (48 * i + j) v) slots
+  -- RULES 3.17: the hint run does not look at bytes 2 and 3 of a hint
+  pub hint-bytes : (hints : List ℕ) (k i v : ℕ) (entries image : List ℕ) → (i ≡ 2) ⊎ (i ≡ 3)
+      → SameRuns image (set hints (64 * k + i) v) hints entries entries
+  -- nor at a third place of a hint that has not three words
+  pub hint-places : (hints : List ℕ) (k i v : ℕ) (entries image : List ℕ) → 48 ≤ i → i < 64 → (hintOf hints k .n ≡ 3 → ⊥)
+      → SameRuns image (set hints (64 * k + i) v) hints entries entries
+  -- of an entry it looks at type, target and addend alone
+  pub hint-entries : (entries entries′ image hints : List ℕ) → length entries ≡ length entries′
+      → ((k : ℕ) → k < length entries / 24
+      → (relocAt entries (24 * k) .ty ≡ relocAt entries′ (24 * k) .ty)
+      × (relocAt entries (24 * k) .target ≡ relocAt entries′ (24 * k) .target)
+      × (relocAt entries (24 * k) .addend ≡ relocAt entries′ (24 * k) .addend))
+      → SameRuns image hints hints entries entries′
+  -- so its spare bytes may hold anything
+  pub hint-spare : (entries : List ℕ) (k i v : ℕ) → 12 ≤ i → i < 16 → (image hints : List ℕ)
+      → SameRuns image hints hints (set entries (24 * k + i) v) entries

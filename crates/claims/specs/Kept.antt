@@ -1,0 +1,203 @@
+-- What a run of hints keeps (RULES 1.9 to 1.14, 9): the statement of every list of a run's hint steps, that it is not vacuous, and that each premise is needed.
+-- The statement itself (Fair, Same, HintsKept, Premises, Literally) is arm64_hint_kept/specs/HintsKept, the machine arm64_machine/specs.
+use mathlib.Core.Path.{_≡_}
+use mathlib.Core.Logic.{_≢_}
+use mathlib.Core.Bool.{true, false}
+use mathlib.Core.List.{List, [], _∷_}
+use Prim.Native.Nat.{ℕ, _^_, _<_}
+use lib.ListN.{take}
+use Rattle.macho.specs.Hint.{noEntry, wordCount, hintCount, hintOf}
+use Rattle.macho.specs.declared.hint.HintRecord.{HintRecord}
+use Rattle.arm64_insn.specs.LoadStoreTable as Table
+use Rattle.arm64_insn.specs.LoadStoreTable.{Row, Mnemonic, general, zeros, sign64}
+use Rattle.arm64_insn.specs.ManualTargets.{literalTarget, accessAddress}
+use Rattle.arm64_insn.specs.Page.{adrpPage}
+use Rattle.arm64_machine.specs.Machine.{Placed, placed, State, Other, action, adrp, access, literal, nop, other}
+use Rattle.arm64_machine.specs.SameRun.{SameRun}
+use Rattle.arm64_machine.specs.Premises as Machine
+use Rattle.arm64_hint_terms.specs.declared.answer.Insns.{Insns}
+use Rattle.arm64_hint_terms.specs.declared.answer.NewWord.{NewWord}
+use Rattle.arm64_hint_terms.specs.declared.answer.NewWord.the-variants.{Keep, Set}
+use Rattle.arm64_hint_terms.specs.declared.answer.Decision.{Decision}
+use Rattle.arm64_hint_terms.specs.declared.answer.Decision.the-variants.{Declined, Nine, Rewritten}
+use Rattle.arm64_hint_terms.specs.declared.rels.Rels.{Rels}
+use Rattle.arm64_hint_laws.specs.Decide.{decide}
+use Rattle.arm64_hint_order.specs.Lists.{Once}
+use Rattle.arm64_hint_order.specs.Cursor.{objectAt, lateAt, orderOf}
+use Rattle.arm64_hint_order.specs.Rising.{Rising}
+use Rattle.arm64_hint_work.specs.declared.tally.Tally.{Tally}
+use Rattle.arm64_hint_run.specs.Run.{worked, runOf, imageOf}
+use Rattle.arm64_hint_run.specs.declared.run.RunAnswer.{RunAnswer}
+use Rattle.arm64_hint_run.specs.declared.run.RunAnswer.the-variants.{Done}
+use Rattle.arm64_hint_kept.specs.HintsKept.{Fair, Same, HintsKept, Premises, Literally}
+use Rattle.arm64_hint_kept.specs.HintsKept as Order
+use Rattle.arm64_hint_kept.proofs.Examples as Examples
+use Rattle.arm64_hint_kept.proofs.Examples.{none-at, hint, lent, single, plain, got, counts, start, idle}
+use Rattle.arm64_hint_kept.proofs.Needed as Needed
+use Rattle.arm64_hint_kept.proofs.Needed.{Fails}
+use Rattle.claims.specs.Lent.{words, place}
+
+-- the first n words of a hint with their addresses
+abbrev pub placedOf : ℕ → Insns → List Placed
+placedOf n s = take n (placed (s .w0) (s .p0) ∷ placed (s .w1) (s .p1) ∷ placed (s .w2) (s .p2) ∷ [])
+
+-- a word after a decision, and the words
+abbrev pub wordAfter : NewWord → ℕ → ℕ
+wordAfter Keep w = w
+wordAfter (Set u) w = u
+
+abbrev pub after : Decision → Insns → Insns
+after Declined s = s
+after Nine s = s
+after (Rewritten p) s =
+    record {
+      w0 = wordAfter (p .w0) (s .w0);
+      w1 = wordAfter (p .w1) (s .w1);
+      w2 = wordAfter (p .w2) (s .w2);
+      p0 = s .p0;
+      p1 = s .p1;
+      p2 = s .p2;
+    }
+
+-- one word at an address, and two, one after another
+abbrev pub one : (p w : ℕ) → List Placed
+one p w = placed w p ∷ []
+
+abbrev pub two : (p q w u : ℕ) → List Placed
+two p q w u = placed w p ∷ placed u q ∷ []
+
+-- ---- hints of the examples
+
+-- positions 0 to 3: example 6, of object 2; then of object 1 one of no kind, one out of reach, and one whose sum passes 2^64 - 1
+abbrev pub four : List HintRecord
+four =
+    hint 2 2 0 8 (place 0 0 0x1000) (place 4 1 0x1004) none-at
+    ∷ hint 9 1 0 0 none-at none-at none-at
+    ∷ hint 7 1 8 8 (place 0 0 0x1000) (place 4 1 0x1004) none-at
+    ∷ hint 2 1 16 8 (place 0 0 0xfffffffffffff000) (place 4 1 0xfffffffffffff004) none-at
+    ∷ []
+
+abbrev pub fourWords : List ℕ
+fourWords = words (0x90000000 ∷ 0xf9400401 ∷ 0x90008000 ∷ 0x91000000 ∷ 0x90000001 ∷ 0xbd29d025 ∷ [])
+
+abbrev pub fourAfter : List ℕ
+fourAfter = words (0xd503201f ∷ 0x58000021 ∷ 0x90008000 ∷ 0x91000000 ∷ 0x90000001 ∷ 0xbd29d025 ∷ [])
+
+-- two hints in one part, whose words share no byte: adrp x0; ldr x1, [x0, #8]; adrp x0; add x0, x0, #3
+abbrev pub beside : List HintRecord
+beside =
+    hint 2 0 0 16 (place 0 0 0x1000) (place 4 1 0x1004) none-at
+    ∷ hint 7 0 0 16 (place 8 0 0x1008) (place 12 1 0x100c) none-at
+    ∷ []
+
+abbrev pub besideWords : List ℕ
+besideWords = words (0x90000000 ∷ 0xf9400401 ∷ 0x90000000 ∷ 0x91000c00 ∷ [])
+
+abbrev pub besideAfter : List ℕ
+besideAfter = words (0xd503201f ∷ 0x58000021 ∷ 0x70ffffc0 ∷ 0xd503201f ∷ [])
+
+-- a hint whose first word stands after its second
+abbrev pub falling : List HintRecord
+falling = hint 2 0 0 8 (place 4 0 0x1004) (place 0 1 0x1000) none-at ∷ []
+
+-- one object, whose hint of kind 1 stands first and is worked last: adrp x0; adrp x0; ldr x1, [x0, #8]
+abbrev pub late : List HintRecord
+late =
+    hint 1 0 0 12 (place 0 0 0x1000) (place 4 0 0x1004) none-at
+    ∷ hint 2 0 0 12 (place 4 0 0x1004) (place 8 1 0x1008) none-at
+    ∷ []
+
+abbrev pub lateWords : List ℕ
+lateWords = words (0x90000000 ∷ 0x90000000 ∷ 0xf9400401 ∷ [])
+
+abbrev pub lateAfter : List ℕ
+lateAfter = words (0x90000000 ∷ 0xd503201f ∷ 0x58000001 ∷ [])
+
+pub record Kept : Type 0 where
+  -- RULES 1.11 to 1.14, 9.27 to 9.29: of every list of a run's hint steps with each hint once
+  pub hints-kept : (image hints entries : List ℕ) (t : Tally) → runOf image hints entries ≡ Done t
+      → (l : List ℕ) → Once (hintCount hints) l → HintsKept image hints entries l t
+  -- RULES 9.30: the run's own list has each hint once and keeps each object's own order
+  pub own-list : (hints : List ℕ) → Once (hintCount hints) (orderOf hints) × Order.Kept hints (orderOf hints)
+  -- RULES 8.27, 8.28: it rises by object, pass and position, and no other list with each hint once does
+  pub own-rising : (hints : List ℕ) → Rising (objectAt hints) (lateAt hints) (orderOf hints)
+  pub own-only : (hints l : List ℕ) → Once (hintCount hints) l → Rising (objectAt hints) (lateAt hints) l → l ≡ orderOf hints
+  -- image and tally of that list are the run's
+  pub run-is : (image hints entries : List ℕ) (t : Tally) → runOf image hints entries ≡ Done t
+      → worked image hints entries (orderOf hints) ≡ record { image = imageOf image hints entries; tally = t }
+  -- RULES 9.21: every premise gives those that are needed, and so the claim with every premise follows
+  pub premises-fair : (h : HintRecord) (image : List ℕ) (o : Other) (s : State) → Premises h image o s → Fair h image
+  pub literally : (image hints entries l : List ℕ) (t : Tally) → HintsKept image hints entries l t → Literally image hints entries l t
+  -- RULES 1.9 to 1.13 of the compiled run: `answer` and `left` are what its promise says that it returns and leaves
+  pub of-the-run : (image hints entries left : List ℕ) (answer : RunAnswer) → answer ≡ runOf image hints entries → left ≡ imageOf image hints entries
+      → (t : Tally) → answer ≡ Done t
+      → (worked image hints entries (orderOf hints) ≡ record { image = left; tally = t })
+      × (Once (hintCount hints) (orderOf hints))
+      × (Order.Kept hints (orderOf hints))
+      × ((l : List ℕ) → Once (hintCount hints) l → Literally image hints entries l t)
+  -- RULES 1.9: fair words run as what is decided of them, for every kind and whatever the entries say
+  pub decided : (kind : ℕ) (s : Insns) (r : Rels) → s .p0 < 2 ^ 64 → s .p1 < 2 ^ 64 → s .p2 < 2 ^ 64 → Machine.Fair (placedOf (wordCount kind) s)
+      → SameRun (placedOf (wordCount kind) s) (placedOf (wordCount kind) (after (decide kind s r) s))
+  -- not vacuous: hints of each kind and rewrite that meet the premises and are rewritten (the list: arm64_hint_kept/proofs/Examples)
+  pub rewritten : Examples.Rewritten
+  -- examples 6 and 8 meet every premise
+  pub meets-all : Premises (hintOf (lent (single 2 0x1000 2)) 0) (words (0x90000000 ∷ 0xf9400401 ∷ [])) idle start
+  pub meets-all-three : Premises (hintOf (lent (single 5 0x1000 3)) 0) (words (0x90001000 ∷ 0x91004000 ∷ 0xf9000001 ∷ [])) idle start
+  -- one hint of each count, in the order 1, 2, 3, 0; the list 0, 1, 2, 3 leaves the same
+  pub one-of-each : (orderOf (lent four) ≡ 1 ∷ 2 ∷ 3 ∷ 0 ∷ [])
+      × (runOf fourWords (lent four) plain ≡ Done (counts 1 1 1 1))
+      × (worked fourWords (lent four) plain (0 ∷ 1 ∷ 2 ∷ 3 ∷ []) ≡ record { image = fourAfter; tally = counts 1 1 1 1 })
+      × Same (hintOf (lent four) 0) fourWords fourAfter
+  -- two hints in one part are both rewritten, and each one's words run as before
+  pub both : (runOf besideWords (lent beside) plain ≡ Done (counts 2 0 0 0))
+      × Same (hintOf (lent beside) 0) besideWords besideAfter
+      × Same (hintOf (lent beside) 1) besideWords besideAfter
+  -- a hint whose places fall
+  pub falls : Same (hintOf (lent falling) 0) (words (0xf9400401 ∷ 0x90000000 ∷ [])) (words (0x58000041 ∷ 0xd503201f ∷ []))
+  -- kind 1 is worked last: the literal load is made, and ADRP_ADRP then declines; by list position the image would be another
+  pub kind-1-last : (orderOf (lent late) ≡ 1 ∷ 0 ∷ [])
+      × (runOf lateWords (lent late) plain ≡ Done (counts 1 0 1 0))
+      × (imageOf lateWords (lent late) plain ≡ lateAfter)
+      × (worked lateWords (lent late) plain (0 ∷ 1 ∷ []) ≡ record { image = words (0x90000000 ∷ 0xd503201f ∷ 0xf9400401 ∷ []); tally = counts 1 0 1 0 })
+      × (Order.Kept (lent late) (0 ∷ 1 ∷ []) → ⊥)
+  -- RULES 9.21: without one premise, and with all the others, a rewrite need not run alike (Fails: arm64_hint_kept/proofs/Needed). Disjoint
+  pub needs-disjoint : Fails plain (hint 1 0 0 4 (place 0 0 0x1000) (place 0 0 0x1000) none-at) (0x90000000 ∷ [])
+      (false ∷ true ∷ true ∷ true ∷ true ∷ true ∷ []) (0xd503201f ∷ [])
+  -- allocated
+  pub needs-allocated : Fails plain (hint 2 0 0 8 (place 0 0 0x9ff019ccdecb92c) (place 4 1 0x9ff019ccdecb930) none-at) (0xb0fffbe1 ∷ 0xbd800820 ∷ [])
+      (true ∷ false ∷ true ∷ true ∷ true ∷ true ∷ []) (0xd503201f ∷ 0x1cbe36c0 ∷ [])
+  -- aligned
+  pub needs-aligned : Fails plain (hint 2 0 0 8 (place 0 0 0x1002) (place 4 1 0x1006) none-at) (0x90000000 ∷ 0x3ded9c01 ∷ [])
+      (true ∷ true ∷ false ∷ true ∷ true ∷ true ∷ []) (0xd503201f ∷ 0x9c05b341 ∷ [])
+  -- no link by 31
+  pub needs-no-31-link : Fails plain (hint 2 0 0 8 (place 0 0 0x1000) (place 4 1 0x1004) none-at) (0x9000001f ∷ 0xbd4003e1 ∷ [])
+      (true ∷ true ∷ true ∷ false ∷ true ∷ true ∷ []) (0xd503201f ∷ 0x1cffffe1 ∷ [])
+  -- no ADD to 31
+  pub needs-no-31-added : Fails plain (hint 7 0 0 8 (place 0 0 0x1000) (place 4 1 0x1004) none-at) (0xd0000340 ∷ 0x9100401f ∷ [])
+      (true ∷ true ∷ true ∷ true ∷ false ∷ true ∷ []) (0x1035009f ∷ 0xd503201f ∷ [])
+  -- no store of what was made
+  pub needs-no-store : Fails got (hint 6 0 0 12 (place 0 0 0x1000) (place 4 1 0x1004) (place 8 noEntry 0x1008))
+      (0x90000000 ∷ 0x91004002 ∷ 0xf9000040 ∷ []) (true ∷ true ∷ true ∷ true ∷ true ∷ false ∷ []) (0x10000082 ∷ 0xd503201f ∷ 0xf9000040 ∷ [])
+  -- hints that share a byte, and parts of different objects that meet
+  pub needs-alone : Needed.Shared
+  pub needs-apart : Needed.Meeting
+  -- wrong rewrites do not run alike: an access dropped; a literal load of another address; an ADRP dropped, last or before another word; one other word
+  -- for another; a load that copies the sign replaced by one that does not
+  pub access-dropped : (w n : ℕ) {p rt rn i : ℕ} {row : Row} → action w ≡ access row rt rn i → action n ≡ nop → SameRun (one p w) (one p n) → ⊥
+  pub literal-elsewhere : (a b n l : ℕ) {p q d k t i j : ℕ} {row : Row} → action a ≡ adrp d k → action b ≡ access row t d i → action n ≡ nop
+      → action l ≡ literal row t j → d < 31 → accessAddress row (adrpPage k p) i ≢ literalTarget j q → SameRun (two p q a b) (two p q n l) → ⊥
+  pub adrp-dropped : (w n : ℕ) {p d k : ℕ} → action w ≡ adrp d k → action n ≡ nop → d < 31 → SameRun (one p w) (one p n) → ⊥
+  pub adrp-dropped-before : (w n u : ℕ) {p q d k : ℕ} → action w ≡ adrp d k → action n ≡ nop → action u ≡ other → d < 31
+      → SameRun (two p q w u) (two p q n u) → ⊥
+  pub other-replaced : (w u : ℕ) {p : ℕ} → action w ≡ other → action u ≡ other → w ≢ u → SameRun (one p w) (one p u) → ⊥
+  pub sign-lost : (a b n l : ℕ) {p q d k t i j : ℕ} {m m′ : Mnemonic} → action a ≡ adrp d k → action b ≡ access (Table.load m general 4 sign64) t d i
+      → action n ≡ nop → action l ≡ literal (Table.load m′ general 4 zeros) t j → t < 31 → SameRun (two p q a b) (two p q n l) → ⊥
+  -- on closed words: a load, a store, an ADRP by NOP; an ADRP before PRFM by NOP; BR by MOVZ; LDRSW by the literal load of W
+  pub refuted : (SameRun (one 0x1004 0xf9400401) (one 0x1004 0xd503201f) → ⊥)
+      × (SameRun (one 0x1004 0xb9000801) (one 0x1004 0xd503201f) → ⊥)
+      × (SameRun (one 0x1000 0x90000000) (one 0x1000 0xd503201f) → ⊥)
+      × (SameRun (two 0x1000 0x1004 0x90000000 0xf9800000) (two 0x1000 0x1004 0xd503201f 0xf9800000) → ⊥)
+      × (SameRun (one 0x1000 0xd61f0200) (one 0x1000 0xd2800000) → ⊥)
+      × (SameRun (two 0x1000 0x1004 0x90000000 0xb9800401) (two 0x1000 0x1004 0xd503201f 0x18000001) → ⊥)
+  -- example 6 with the literal load 4 bytes off
+  pub off-by-4 : SameRun (two 0x1000 0x1004 0x90000000 0xf9400401) (two 0x1000 0x1004 0xd503201f 0x58000041) → ⊥

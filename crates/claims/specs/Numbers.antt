@@ -1,0 +1,108 @@
+-- Which number a refused call answers (RULES 3.1 to 3.6): the examples of RULES 3.1, and which comes first where several apply.
+use mathlib.Core.Path.{_≡_}
+use mathlib.Core.List.{List, [], _∷_, _++_}
+use Prim.Native.Nat.{ℕ, _-_, _/_, _%_, _^_, _≤_}
+use lib.ListN.{length, replicate}
+use Rattle.util.specs.Word.{bytes}
+use Rattle.macho.specs.Types.{MCLOH-AdrpLdr, ARM64-RELOC-UNSIGNED, ARM64-RELOC-SUBTRACTOR, ARM64-RELOC-PAGE21}
+use Rattle.macho.specs.Types.{ARM64-RELOC-POINTER-TO-GOT, ARM64-RELOC-ADDEND}
+use Rattle.macho.specs.Hint.{noEntry}
+use Rattle.arm64_hint_run.specs.Run.{runOf, numberOf}
+use Rattle.hauklivo.specs.Reader as Reader
+use Rattle.hauklivo.specs.Fixup as Fixup
+use Rattle.claims.specs.Lent.{machRel, entry, resolved, half, pair, place, hint, plain}
+
+-- the number of the reader without sections, of the fix-up, and of a hint run on an image of so many zeros
+abbrev pub reader : (contents records slots : List ℕ) → ℕ
+reader contents records slots = Reader.numberTo contents records [] slots
+
+abbrev pub fixUp : (section : List ℕ) (base : ℕ) (entries targets slots : List ℕ) → ℕ
+fixUp section base entries targets slots = Fixup.numberTo section base 0 entries targets slots
+
+abbrev pub hintRun : (size : ℕ) (hints entries : List ℕ) → ℕ
+hintRun size hints entries = numberOf (runOf (bytes size 0) hints entries)
+
+-- n zeros, and a NOP
+abbrev pub zeros : ℕ → List ℕ
+zeros n = replicate n 0
+
+abbrev pub nop : List ℕ
+nop = bytes 4 0xd503201f
+
+-- a hint whose second word ends past its part, and one that names the entries 0 and 1
+abbrev pub pastPart : List ℕ
+pastPart = hint MCLOH-AdrpLdr 2 0 8 (place 0 0 0) (place 5 0 0) (place 0 0 0)
+
+abbrev pub entryOne : List ℕ
+entryOne = plain MCLOH-AdrpLdr 2 0
+
+pub record Numbers : Type 0 where
+  -- RULES 3.1: 7 bytes of relocation records; 7 bytes of entries; 7 bytes of hints; 23 bytes of entries in a hint run
+  pub number-1 : (reader [] (zeros 7) (zeros 24) ≡ 1)
+      × (fixUp [] 0 (bytes 7 0) [] [] ≡ 1)
+      × (hintRun 8 (bytes 7 0) [] ≡ 1)
+      × (hintRun 8 [] (bytes 23 0) ≡ 1)
+  -- one record or one entry, and 23 bytes of slots
+  pub number-2 : (reader [] (machRel 0 0x3d000000) (zeros 23) ≡ 2)
+      × (fixUp (bytes 8 0) 0 (entry ARM64-RELOC-UNSIGNED 0 0) (resolved 0 0) (bytes 23 0) ≡ 2)
+  -- an 8-byte UNSIGNED at offset 4 of 8 bytes, as a record and as an entry; a part of 8 bytes in an image of 7; a word at offset 5 of a part of 8
+  pub number-3 : (reader (zeros 8) (machRel 4 0x0e000000) (zeros 24) ≡ 3)
+      × (fixUp (bytes 8 0) 0 (entry ARM64-RELOC-UNSIGNED 4 0) (resolved 0 0) (bytes 24 0) ≡ 3)
+      × (hintRun 7 entryOne pair ≡ 3)
+      × (hintRun 8 pastPart pair ≡ 3)
+  -- one record with the bits 0xa4000000
+  pub number-4 : reader [] (machRel 0 0xa4000000) (zeros 24) ≡ 4
+  -- one record with the bits 0x0c000000; an entry of type 10
+  pub number-5 : (reader (zeros 8) (machRel 0 0x0c000000) (zeros 24) ≡ 5)
+      × (fixUp (bytes 8 0) 0 (entry ARM64-RELOC-ADDEND 0 0) (resolved 0 0) (bytes 24 0) ≡ 5)
+  -- a TLVP page offset on NOP
+  pub number-6 : reader nop (machRel 0 0x9c000000) (zeros 24) ≡ 6
+  -- ordinal 0
+  pub number-7 : reader (zeros 8) (machRel 0 0x06000000) (zeros 24) ≡ 7
+  -- one SUBTRACTOR entry
+  pub number-8 : fixUp (bytes 8 0) 0 (entry ARM64-RELOC-SUBTRACTOR 0 0) (resolved 0 0) (bytes 24 0) ≡ 8
+  -- base 2^64 - 1 and offset 1
+  pub number-9 : fixUp (bytes 8 0) (2 ^ 64 - 1) (entry ARM64-RELOC-UNSIGNED 1 0) (resolved 0 0) (bytes 24 0) ≡ 9
+  -- POINTER_TO_GOT with bit 31 of the target set
+  pub number-10 : fixUp (bytes 8 0) 0 (entry ARM64-RELOC-POINTER-TO-GOT 0 (2 ^ 31)) (resolved 0 0) (bytes 24 0) ≡ 10
+  -- flags 0x200; flags 0x180; byte 47 not zero
+  pub number-11 : (fixUp (bytes 8 0) 0 (entry ARM64-RELOC-UNSIGNED 0 0) (resolved 0 0x200) (bytes 24 0) ≡ 11)
+      × (fixUp (bytes 8 0) 0 (entry ARM64-RELOC-UNSIGNED 0 0) (resolved 0 0x180) (bytes 24 0) ≡ 11)
+      × (fixUp (bytes 8 0) 0 (entry ARM64-RELOC-UNSIGNED 0 0) (bytes 47 0 ++ bytes 1 1) (bytes 24 0) ≡ 11)
+  -- entry 1 of a list of 1
+  pub number-12 : hintRun 8 entryOne (half ARM64-RELOC-PAGE21) ≡ 12
+  -- RULES 3.4: 9 bytes and no slot; past the contents and 23 bytes; past the contents, ADDEND the last; ADDEND the last, of a form of no type;
+  -- a form of no type, and no word there; no pointer there, and ordinal 0; ordinal 0, and after it a record past the contents
+  pub reader-first : (reader [] (zeros 9) [] ≡ 1)
+      × (reader [] (machRel 1 0x3d000000) (zeros 23) ≡ 2)
+      × (reader [] (machRel 1 0xa4000000) (zeros 24) ≡ 3)
+      × (reader [] (machRel 0 0xaf000000) (zeros 24) ≡ 4)
+      × (reader [] (machRel 0 0x94000000) (zeros 24) ≡ 5)
+      × (reader (zeros 7) (machRel 0 0x06000000) (zeros 24) ≡ 3)
+      × (reader (zeros 8) (machRel 0 0x06000000 ++ machRel 9 0x3d000000) (zeros 24 ++ zeros 24) ≡ 7)
+  -- RULES 3.5: 1 before 2 before 3; an offset's 3 before 11 before 9 before 5, 8 and 10, and these before the last 3; the first entry's before the second's
+  pub fix-up-first : (fixUp [] 0 (bytes 25 0) [] [] ≡ 1)
+      × (fixUp (bytes 8 0) 0 (entry ARM64-RELOC-UNSIGNED 9 0) (resolved 0 0) (bytes 23 0) ≡ 2)
+      × (fixUp (bytes 8 0) 0 (entry ARM64-RELOC-UNSIGNED 9 0) (resolved 0 0x200) (bytes 24 0) ≡ 3)
+      × (fixUp (bytes 8 0) (2 ^ 64 - 1) (entry ARM64-RELOC-UNSIGNED 1 0) (resolved 0 0x200) (bytes 24 0) ≡ 11)
+      × (fixUp (bytes 8 0) (2 ^ 64 - 1) (entry ARM64-RELOC-ADDEND 1 0) (resolved 0 0) (bytes 24 0) ≡ 9)
+      × (fixUp (bytes 8 0) (2 ^ 64 - 1) (entry ARM64-RELOC-SUBTRACTOR 1 0) (resolved 0 0) (bytes 24 0) ≡ 9)
+      × (fixUp (bytes 8 0) (2 ^ 64 - 1) (entry ARM64-RELOC-POINTER-TO-GOT 1 (2 ^ 31)) (resolved 0 0) (bytes 24 0) ≡ 9)
+      × (fixUp (bytes 8 0) 0 (entry ARM64-RELOC-ADDEND 8 0) (resolved 0 0) (bytes 24 0) ≡ 5)
+      × (fixUp (bytes 8 0) 0 (entry ARM64-RELOC-SUBTRACTOR 8 0) (resolved 0 0) (bytes 24 0) ≡ 8)
+      × (fixUp (bytes 8 0) 0 (entry ARM64-RELOC-POINTER-TO-GOT 8 (2 ^ 31)) (resolved 0 0) (bytes 24 0) ≡ 10)
+      × (fixUp (bytes 8 0) 0 (entry ARM64-RELOC-UNSIGNED 4 0 ++ entry ARM64-RELOC-UNSIGNED 0 0) (resolved 0 0 ++ resolved 0 0x200) (bytes 48 0) ≡ 3)
+  -- RULES 3.6: a hint's part and its words before its entries; by list position between two hints
+  pub hint-run-first : (hintRun 7 entryOne (half ARM64-RELOC-PAGE21) ≡ 3)
+      × (hintRun 8 (hint MCLOH-AdrpLdr 2 0 8 (place 0 1 0) (place 5 1 0) (place 0 0 0)) (half ARM64-RELOC-PAGE21) ≡ 3)
+      × (hintRun 8 (entryOne ++ pastPart) (half ARM64-RELOC-PAGE21) ≡ 12)
+      × (hintRun 8 (pastPart ++ entryOne) (half ARM64-RELOC-PAGE21) ≡ 3)
+  -- a skipped hint is not checked (no such kind, a wrong word count), nor is a third place of a hint of two words
+  pub hint-run-left-out : (hintRun 0 (hint 9 2 1 1 (place 1 1 0) (place 1 1 0) (place 1 1 0)) [] ≡ 0)
+      × (hintRun 0 (hint MCLOH-AdrpLdr 3 1 1 (place 1 1 0) (place 1 1 0) (place 1 1 0)) [] ≡ 0)
+      × (hintRun 8 (hint MCLOH-AdrpLdr 2 0 8 (place 0 noEntry 0) (place 4 noEntry 0) (place 8 7 0)) [] ≡ 0)
+  -- RULES 3.9: lists of 2^32 records and more
+  pub many-records : (contents records sections slots : List ℕ) → length records % 8 ≡ 0 → 2 ^ 32 ≤ length records / 8
+      → Reader.numberTo contents records sections slots ≡ 1
+  pub many-hints : (image hints entries : List ℕ) → 2 ^ 32 ≤ length hints / 64 → numberOf (runOf image hints entries) ≡ 1
+  pub many-entries : (image hints entries : List ℕ) → 2 ^ 32 ≤ length entries / 24 → numberOf (runOf image hints entries) ≡ 1
