@@ -14,6 +14,7 @@ use Rattle.arm64_fixup.proofs.Bits as Bits
 use Rattle.arm64_fixup.proofs.Footprint as Footprint
 use Rattle.arm64_fixup.proofs.Bytewise.{reads-touch}
 use Rattle.arm64_fixup.proofs.StubEntry as Stub
+use Rattle.arm64_fixup.proofs.Examples as Examples
 use Rattle.claims.specs.Fixup.{Entry, Pair, Fixup}
 
 module _ {section : List ℕ} {b : Bases} {entries targets slots : List ℕ} {f : Fixed} {k : ℕ} (l : Lone section b entries targets slots f k) where
@@ -66,6 +67,7 @@ fixup =
     record {
       entry-alone = λ section b entries targets slots f k l. entry l;
       pair-alone = λ section b entries targets slots f k m l l′ u rd imm d. pair l l′ u rd imm d;
+      second-alone = Examples.second-lone;
       unwritten = Footprint.unwritten;
       only = λ section b entries targets slots {f} a k below alone. Footprint.only section b entries targets slots a k below alone;
       last-written = λ section b entries targets slots {f} a k below. Footprint.last-written section b entries targets slots a k below;

@@ -7,6 +7,10 @@ use Rattle.arm64_hint_laws.proofs.Hinted as Hinted
 use Rattle.arm64_hint_laws.proofs.Hinted.{KeepsThird, Worded}
 use Rattle.arm64_hint_laws.proofs.Written as Written
 use Rattle.arm64_hint_laws.proofs.Written.{Fits, AllFit}
+use Rattle.arm64_hint_words.proofs.hint.Hint.get.Met as Get
+use Rattle.arm64_hint_words.proofs.hint.Hint.set.Met as Set′
+use Rattle.arm64_hint_words.proofs.hint.Hint.addr.Met as Addr
+use Rattle.arm64_hint_words.proofs.hint.Hint.has_page_pair.Met as HasPagePair
 use Rattle.arm64_hint_run.proofs.Answers as Answers
 use Rattle.claims.specs.Hints.{Hints}
 
@@ -28,4 +32,8 @@ hints =
       counts-sum = Answers.counts-sum;
       nine-leaves = Answers.nine-leaves;
       nine-goes-on = Answers.nine-goes-on;
+      hint-get = λ M. Get.met;
+      hint-set = λ M. Set′.met;
+      hint-addr = λ M. Addr.met;
+      hint-has-page-pair = λ M. HasPagePair.met;
     }

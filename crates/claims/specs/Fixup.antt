@@ -3,11 +3,11 @@
 use mathlib.Core.Path.{_≡_}
 use mathlib.Core.Bool.{true, false}
 use mathlib.Core.Logic.{_⊎_}
-use mathlib.Core.List.{List}
+use mathlib.Core.List.{List, [], _∷_, _++_}
 use Prim.Native.Nat.{ℕ, _+_, _/_, _%_, _^_, _≤_, _<_}
 use lib.ListN.{length, getD}
 use Rattle.util.specs.Bits.{field}
-use Rattle.util.specs.Word.{le}
+use Rattle.util.specs.Word.{le, bytes}
 use Rattle.util.specs.Wrap.{sum, diff}
 use Rattle.macho.specs.Types.{ARM64-RELOC-UNSIGNED, ARM64-RELOC-SUBTRACTOR, ARM64-RELOC-BRANCH26, ARM64-RELOC-PAGE21, ARM64-RELOC-PAGEOFF12}
 use Rattle.macho.specs.Types.{ARM64-RELOC-GOT-LOAD-PAGE21, ARM64-RELOC-POINTER-TO-GOT}
@@ -30,9 +30,11 @@ use Rattle.arm64_fixup_entry.specs.Roles.{Page, GotOffset, Offset, Relaxed}
 use Rattle.arm64_fixup_entry.specs.declared.change.Traced.the-variants.{Untraced}
 use Rattle.arm64_fixup_entry.specs.declared.target.Bases.{Bases}
 use Rattle.arm64_fixup.specs.Walk.{entryAt, targetAt, entryCount, consumed, Fixed, stored, changeAt}
-use Rattle.arm64_fixup.specs.Answer.{fixed, outcomeOf, sectionAfter}
+use Rattle.arm64_fixup.specs.Answer.{basesOf, fixed, outcomeOf, sectionAfter}
 use Rattle.arm64_fixup.specs.Footprint.{offsetAt, Touches, Writes, Alone, Lone, Unreported, wordAt, pointerAt}
 use Rattle.arm64_fixup.specs.Stub.{wordsIn, stubAnswer, stubNumber, thunkCheck}
+use Rattle.claims.specs.Lent as Lent
+use Rattle.claims.specs.Lent.{has-address, resolved}
 
 -- ---- entry k of a call that was lent section, bases b, entries and targets, and ended with f
 
@@ -200,6 +202,13 @@ pub record Fixup : Type 0 where
   pub pair-alone : (section : List ℕ) (b : Bases) (entries targets slots : List ℕ) (f : Fixed) (k m : ℕ)
       → Lone section b entries targets slots f k → Lone section b entries targets slots f m → Unreported f k
       → (rd imm : ℕ) → decode (wordAt entries section k) ≡ form (ADRP rd imm) → Pair section b entries targets f k m rd
+  -- not vacuous: of two PAGEOFF12 on the word of example 9, to 0x1234, which is reported and writes nothing, and to 0x1238, the second stands alone
+  pub second-alone : Lone (bytes 4 0xf9400000) (basesOf 0x1000 0)
+      (Lent.entry ARM64-RELOC-PAGEOFF12 0 0 ++ Lent.entry ARM64-RELOC-PAGEOFF12 0 0)
+      (resolved 0x1234 has-address ++ resolved 0x1238 has-address)
+      (bytes 48 0)
+      (record { section = bytes 4 0xf9411c00; reports = record { entry = 0; kind = 3; size = 8; place = 0; target = 0 } ∷ [] })
+      1
   -- RULES 5.24: a byte that no entry writes stays, whatever the call answers
   pub unwritten : (section : List ℕ) (b : Bases) (entries targets slots : List ℕ) (p : ℕ)
       → ((i : ℕ) → i < entryCount entries → Writes section b entries targets i p → ⊥)
@@ -227,22 +236,22 @@ pub record Fixup : Type 0 where
   pub imported-width : (e : Reloc) (t : Resolved) → e .ty ≡ ARM64-RELOC-UNSIGNED → importedSymbol e t ≡ true → widthOf e t ≡ 0
   pub unaddressed-width : (e : Reloc) (t : Resolved) → (e .ty ≡ ARM64-RELOC-PAGE21) ⊎ (e .ty ≡ ARM64-RELOC-PAGEOFF12) → hasAddress t ≡ false
       → widthOf e t ≡ 0
-  -- RULES 6.2, 6.3: the words of a stub entry; in reach it loads the pointer
+  -- RULES 6.2: the words of a stub entry; in reach it loads the pointer
   pub stub-entry : (s : List ℕ) (addr ptr : ℕ) → 12 ≤ length s
       → (decode (le 4 (wordsIn s (stubWords addr ptr)) 0) ≡ form (ADRP 16 (pageImm ptr addr)))
       × (decode (le 4 (wordsIn s (stubWords addr ptr)) 4) ≡ form (LDST 0b11 0 0b01 16 16 (field ptr 3 9)))
       × (decode (le 4 (wordsIn s (stubWords addr ptr)) 8) ≡ form (BR 16))
       × (addr < 2 ^ 64 → ptr < 2 ^ 64 → adrpReaches ptr addr ≡ true → ptr % 8 ≡ 0
       → Manual.accessAddress (rowOf 0b11 0 0b01) (adrpPage (pageImm ptr addr) addr) (field ptr 3 9) ≡ ptr)
-  -- RULES 6.4: the words of a thunk entry; in reach it makes the target
+  -- RULES 6.3: the words of a thunk entry; in reach it makes the target
   pub thunk-entry : (s : List ℕ) (addr target : ℕ) → 12 ≤ length s
       → (decode (le 4 (wordsIn s (thunkWords addr target)) 0) ≡ form (ADRP 16 (pageImm target addr)))
       × (decode (le 4 (wordsIn s (thunkWords addr target)) 4) ≡ form (ADD 1 0 16 16 (field target 0 12)))
       × (decode (le 4 (wordsIn s (thunkWords addr target)) 8) ≡ form (BR 16))
       × (addr < 2 ^ 64 → target < 2 ^ 64 → adrpReaches target addr ≡ true
       → Manual.addValue 1 0 (adrpPage (pageImm target addr) addr) (field target 0 12) ≡ target)
-  -- the bytes past the 12 stay
+  -- RULES 6.4: the bytes past the 12 stay
   pub past-entry : (s : List ℕ) (w : Words3) → 12 ≤ length s → (p : ℕ) → 12 ≤ p → getD (wordsIn s w) p 0 ≡ getD s p 0
-  -- RULES 3.7: fewer than 12 bytes are number 3
+  -- RULES 3.7, 6.4: fewer than 12 bytes are number 3, and nothing is written
   pub short-entry : (s : List ℕ) (addr ptr : ℕ) → length s < 12
       → (stubNumber (stubAnswer s addr ptr) ≡ 3) × (checkNumber (thunkCheck s) ≡ 3) × ((w : Words3) → wordsIn s w ≡ s)

@@ -17,6 +17,10 @@ use Rattle.arm64_hint_terms.specs.declared.rels.Rels.{Rels}
 use Rattle.arm64_hint_laws.specs.Decide.{decide}
 use Rattle.arm64_hint_laws.proofs.Written.{Written}
 use Rattle.arm64_hint_order.specs.Lists.{runList}
+use Rattle.arm64_hint_words.proofs.hint.Hint.get.Statement as Get
+use Rattle.arm64_hint_words.proofs.hint.Hint.set.Statement as Set′
+use Rattle.arm64_hint_words.proofs.hint.Hint.addr.Statement as Addr
+use Rattle.arm64_hint_words.proofs.hint.Hint.has_page_pair.Statement as HasPagePair
 use Rattle.arm64_hint_places.specs.Hint.{isSkipped}
 use Rattle.arm64_hint_rules.specs.declared.outcome.Outcome.the-variants.{Worked}
 use Rattle.arm64_hint_work.specs.Step.{addDecision, total, stepsOf}
@@ -24,7 +28,7 @@ use Rattle.arm64_hint_work.specs.declared.tally.Tally.{Tally}
 use Rattle.arm64_hint_run.specs.Run.{runOf}
 use Rattle.arm64_hint_run.specs.declared.run.RunAnswer.the-variants.{Done}
 
-pub record Hints : Type 0 where
+pub record Hints : Type 2 where
   -- RULES 8.3: a hint is skipped where there is no such kind, or its word count is not the number of that kind's words
   pub skipped : (h : HintRecord) → isSkipped h ≡ (eqb (length (wordsOf (h .kind))) 0 || not (eqb (h .n) (length (wordsOf (h .kind)))))
   -- RULES 8.2: the word counts are those of LLVM's kinds
@@ -50,3 +54,8 @@ pub record Hints : Type 0 where
   pub nine-goes-on : (hints entries : List ℕ) (k : ℕ) (w : Work Tally) (s : Insns) → answered (stepsOf hints entries) k (w .image) ≡ Worked Nine s
       → (l : List ℕ) → runList (stepOf (stepsOf hints entries)) (k ∷ l) w
       ≡ runList (stepOf (stepsOf hints entries)) l (record { image = w .image; tally = addDecision Nine (w .tally) })
+  -- RULES 12.8: the Rust's `Hint` (arm64_hint_words/src/hint.rt), through which the rules read and store: each method meets its contract
+  pub hint-get : (M : Type 1) → Get.statement M
+  pub hint-set : (M : Type 1) → Set′.statement M
+  pub hint-addr : (M : Type 1) → Addr.statement M
+  pub hint-has-page-pair : (M : Type 1) → HasPagePair.statement M
