@@ -24,7 +24,7 @@ use Rattle.arm64_fixup.specs.Stub.{wordsIn, stubAnswer, stubNumber, thunkCheck}
 use Rattle.arm64_fixup.specs.declared.stub.StubAnswer.{StubAnswer}
 use Rattle.arm64_fixup.specs.declared.stub.StubAnswer.the-variants as S
 use Rattle.arm64_hint_work.specs.declared.tally.Tally.{Tally}
-use Rattle.arm64_hint_run.specs.Run.{runOf, imageOf, numberOf, tallyAfter}
+use Rattle.arm64_hint_run.specs.Run.{runOf, imageOf, runNumber, tallyAfter}
 use Rattle.arm64_hint_run.specs.declared.run.RunAnswer.{RunAnswer}
 use Rattle.arm64_hint_run.specs.declared.run.RunAnswer.the-variants as R
 use Rattle.arm64_hint_run.proofs.Answers.{refused-leaves}
@@ -85,11 +85,11 @@ thunk buf addr target ne = go (ltb (length buf) 12) refl
     go true e = rw e
     go false e = absurd (ne (rw e))
 
-hint-run : (image hints entries : List ℕ) (tally : Tally) → (numberOf (runOf image hints entries) ≡ 0 → ⊥)
+hint-run : (image hints entries : List ℕ) (tally : Tally) → (runNumber (runOf image hints entries) ≡ 0 → ⊥)
     → (imageOf image hints entries ≡ image) × (tallyAfter tally (runOf image hints entries) ≡ tally)
 hint-run image hints entries tally = go (runOf image hints entries) refl
   where
-    go : (a : RunAnswer) → runOf image hints entries ≡ a → (numberOf a ≡ 0 → ⊥) → (imageOf image hints entries ≡ image) × (tallyAfter tally a ≡ tally)
+    go : (a : RunAnswer) → runOf image hints entries ≡ a → (runNumber a ≡ 0 → ⊥) → (imageOf image hints entries ≡ image) × (tallyAfter tally a ≡ tally)
     go (R.Done t) e ne = absurd (ne refl)
     go (R.Refused x) e ne = (refused-leaves image hints entries x e, refl)
 

@@ -2,7 +2,7 @@
 use mathlib.Core.Path.{_≡_, refl}
 use mathlib.Core.List.{List}
 use Prim.Native.Nat.{ℕ}
-use Rattle.arm64_insn.specs.Manual.{ADRP, form, decode}
+use Rattle.arm64_insn.specs.Manual.{ADRP, instruction, decode}
 use Rattle.arm64_fixup_entry.specs.declared.target.Bases.{Bases}
 use Rattle.arm64_fixup.specs.Walk.{Fixed}
 use Rattle.arm64_fixup.specs.Footprint.{Lone, Unreported, wordAt}
@@ -50,7 +50,7 @@ module _ {section : List ℕ} {b : Bases} {entries targets slots : List ℕ} {f 
       }
 
 module _ {section : List ℕ} {b : Bases} {entries targets slots : List ℕ} {f : Fixed} {k m : ℕ} (l : Lone section b entries targets slots f k)
-    (l′ : Lone section b entries targets slots f m) (u : Unreported f k) (rd imm : ℕ) (d : decode (wordAt entries section k) ≡ form (ADRP rd imm))
+    (l′ : Lone section b entries targets slots f m) (u : Unreported f k) (rd imm : ℕ) (d : decode (wordAt entries section k) ≡ instruction (ADRP rd imm))
   where
     pair : Pair section b entries targets f k m rd
     pair =

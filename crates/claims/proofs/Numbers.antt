@@ -8,7 +8,7 @@ use Rattle.arch.specs.Walk.{Reading, answerOf}
 use Rattle.arm64_reader.proofs.Examples.{turned-down, first-number}
 use Rattle.arm64_reader.proofs.Lengths as Lengths
 use Rattle.arm64_fixup.proofs.Examples as Fix
-use Rattle.arm64_hint_run.specs.Run.{numberOf}
+use Rattle.arm64_hint_run.specs.Run.{runNumber}
 use Rattle.arm64_hint_run.specs.declared.run.RunAnswer.{RunAnswer}
 use Rattle.arm64_hint_run.proofs.Examples as Hints
 use Rattle.arm64_hint_run.proofs.Answers.{too-many-hints, too-many-entries}
@@ -44,6 +44,6 @@ numbers =
       hint-run-left-out = (h .9, h .10, h .11);
       many-records = λ contents records sections slots w m.
           ap (λ (a : Reading). answerNumber (answerOf a)) (Lengths.many-records contents records sections slots w m);
-      many-hints = λ image hints entries m. ap numberOf (too-many-hints image hints entries m);
-      many-entries = λ image hints entries m. ap numberOf (too-many-entries image hints entries m);
+      many-hints = λ image hints entries m. ap runNumber (too-many-hints image hints entries m);
+      many-entries = λ image hints entries m. ap runNumber (too-many-entries image hints entries m);
     }

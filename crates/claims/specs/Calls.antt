@@ -7,7 +7,7 @@ use Rattle.macho.specs.declared.refusal.Refusal.{Refusal}
 use Rattle.arm64_reader.specs.Read as Read
 use Rattle.arm64_fixup.specs.Answer as Answer
 use Rattle.arm64_hint_work.specs.declared.tally.Tally.{Tally}
-use Rattle.arm64_hint_run.specs.Run.{runOf, imageOf, numberOf, tallyAfter}
+use Rattle.arm64_hint_run.specs.Run.{runOf, imageOf, runNumber, tallyAfter}
 use Rattle.lister_text.specs.Listing.{outAfter}
 use Rattle.hauklivo.specs.Reader as Reader
 use Rattle.hauklivo.specs.Fixup as Fixup
@@ -52,7 +52,7 @@ pub record Calls : Type 2 where
   -- a refused thunk entry leaves its bytes
   pub write-thunk-refused : (buf : List ℕ) (addr target : ℕ) → (Stub.thunkNumberTo buf ≡ 0 → ⊥) → Stub.thunkTo buf addr target ≡ buf
   -- a refused hint run leaves image and tally
-  pub apply-hints-refused : (image hints entries : List ℕ) (tally : Tally) → (numberOf (runOf image hints entries) ≡ 0 → ⊥)
+  pub apply-hints-refused : (image hints entries : List ℕ) (tally : Tally) → (runNumber (runOf image hints entries) ≡ 0 → ⊥)
       → (imageOf image hints entries ≡ image) × (tallyAfter tally (runOf image hints entries) ≡ tally)
   -- a refused lister leaves the bytes for the text and the count
   pub list-refused : (words out : List ℕ) (count : ℕ) → (Lister.numberTo words out ≡ 0 → ⊥)

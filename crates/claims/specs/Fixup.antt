@@ -16,7 +16,7 @@ use Rattle.macho.specs.Resolved.{isTls, hasAddress, canRelaxGot, hasHelper, hel
 use Rattle.macho.specs.declared.reloc.Reloc.{Reloc}
 use Rattle.macho.specs.declared.resolved.Resolved.{Resolved}
 use Rattle.arm64_insn.specs.LoadStoreTable.{rowOf, movedBy}
-use Rattle.arm64_insn.specs.Manual.{ADRP, ADD, LDST, PRFM, B, BL, BR, NOP, MOVZ, form, decode, rdIn, rnIn, imm12In, imm21In, imm26In}
+use Rattle.arm64_insn.specs.Manual.{ADRP, ADD, LDST, PRFM, B, BL, BR, NOP, MOVZ, instruction, decode, rdIn, rnIn, imm12In, imm21In, imm26In}
 use Rattle.arm64_insn.specs.ManualTargets as Manual
 use Rattle.arm64_insn.specs.Page.{pageOf, adrpPage}
 use Rattle.arm64_insn.specs.Reach.{pageImm, adrpReaches}
@@ -65,29 +65,29 @@ module _ (section : List ℕ) (b : Bases) (entries targets : List ℕ) (f : Fixe
   -- what is claimed of it, where it stands alone (RULES 5.25)
   pub record Entry : Type 0 where
     -- RULES 5.14, 5.18: a page into an ADRP: in reach, the ADRP of the old register makes the page
-    pub page : {a : ℕ} → Page entry target a → (rd imm : ℕ) → decode old ≡ form (ADRP rd imm) → adrpReaches a P ≡ true
-        → (decode new ≡ form (ADRP rd (pageImm a P))) × (adrpPage (pageImm a P) P ≡ pageOf a)
+    pub page : {a : ℕ} → Page entry target a → (rd imm : ℕ) → decode old ≡ instruction (ADRP rd imm) → adrpReaches a P ≡ true
+        → (decode new ≡ instruction (ADRP rd (pageImm a P))) × (adrpPage (pageImm a P) P ≡ pageOf a)
     -- RULES 5.15, 5.19: a page offset into an ADD
-    pub offset-add : {a : ℕ} → Offset entry target a → (sf sh rd rn imm12 : ℕ) → decode old ≡ form (ADD sf sh rd rn imm12)
-        → decode new ≡ form (ADD sf sh rd rn (field a 0 12))
+    pub offset-add : {a : ℕ} → Offset entry target a → (sf sh rd rn imm12 : ℕ) → decode old ≡ instruction (ADD sf sh rd rn imm12)
+        → decode new ≡ instruction (ADD sf sh rd rn (field a 0 12))
     -- into a load or store whose size divides the address
-    pub offset-access : {a : ℕ} → Offset entry target a → (size v opc rt rn imm12 : ℕ) → decode old ≡ form (LDST size v opc rt rn imm12)
+    pub offset-access : {a : ℕ} → Offset entry target a → (size v opc rt rn imm12 : ℕ) → decode old ≡ instruction (LDST size v opc rt rn imm12)
         → a % movedBy (rowOf size v opc) ≡ 0
-        → decode new ≡ form (LDST size v opc rt rn (a % 2 ^ 12 / movedBy (rowOf size v opc)))
+        → decode new ≡ instruction (LDST size v opc rt rn (a % 2 ^ 12 / movedBy (rowOf size v opc)))
     -- into a prefetch
-    pub offset-prefetch : {a : ℕ} → Offset entry target a → (rt rn imm12 : ℕ) → decode old ≡ form (PRFM rt rn imm12) → a % 8 ≡ 0
-        → decode new ≡ form (PRFM rt rn (a % 2 ^ 12 / 8))
+    pub offset-prefetch : {a : ℕ} → Offset entry target a → (rt rn imm12 : ℕ) → decode old ≡ instruction (PRFM rt rn imm12) → a % 8 ≡ 0
+        → decode new ≡ instruction (PRFM rt rn (a % 2 ^ 12 / 8))
     -- where the word's scale does not divide the address, it stays
     pub offset-kept : {a : ℕ} → Offset entry target a → (a % 2 ^ scaleOf old ≡ 0 → ⊥) → new ≡ old
     -- RULES 5.20: a relaxed load becomes the ADD of S + A; a word that can't be relaxed stays
     pub relaxed : Relaxed entry target → canRelax (entry .ty) old ≡ true
-        → decode new ≡ form (ADD 1 0 (rdIn old) (rnIn old) (field (targetOf entry target) 0 12))
+        → decode new ≡ instruction (ADD 1 0 (rdIn old) (rnIn old) (field (targetOf entry target) 0 12))
     pub relaxed-kept : Relaxed entry target → canRelax (entry .ty) old ≡ false → new ≡ old
     -- RULES 5.13: a B stays a B, a BL a BL
-    pub b-stays : entry .ty ≡ ARM64-RELOC-BRANCH26 → dtraceSiteInsn entry target ≡ Untraced → (imm26 : ℕ) → decode old ≡ form (B imm26)
-        → decode new ≡ form (B branchImm)
-    pub bl-stays : entry .ty ≡ ARM64-RELOC-BRANCH26 → dtraceSiteInsn entry target ≡ Untraced → (imm26 : ℕ) → decode old ≡ form (BL imm26)
-        → decode new ≡ form (BL branchImm)
+    pub b-stays : entry .ty ≡ ARM64-RELOC-BRANCH26 → dtraceSiteInsn entry target ≡ Untraced → (imm26 : ℕ) → decode old ≡ instruction (B imm26)
+        → decode new ≡ instruction (B branchImm)
+    pub bl-stays : entry .ty ≡ ARM64-RELOC-BRANCH26 → dtraceSiteInsn entry target ≡ Untraced → (imm26 : ℕ) → decode old ≡ instruction (BL imm26)
+        → decode new ≡ instruction (BL branchImm)
     -- in reach it goes to T
     pub goes : entry .ty ≡ ARM64-RELOC-BRANCH26 → dtraceSiteInsn entry target ≡ Untraced → branchReaches T P ≡ true → T % 4 ≡ 0 → P % 4 ≡ 0
         → Manual.branchTarget branchImm P ≡ T
@@ -98,21 +98,21 @@ module _ (section : List ℕ) (b : Bases) (entries targets : List ℕ) (f : Fixe
     -- one that is not reported, and takes no thunk, goes to T
     pub b-goes : entry .ty ≡ ARM64-RELOC-BRANCH26 → dtraceSiteInsn entry target ≡ Untraced → Unreported f k
         → (branchReaches T P ≡ true) ⊎ (thunkServes entry target T ≡ false) → T % 4 ≡ 0 → P % 4 ≡ 0
-        → (imm26 : ℕ) → decode old ≡ form (B imm26)
-        → (decode new ≡ form (B branchImm)) × (Manual.branchTarget branchImm P ≡ T)
+        → (imm26 : ℕ) → decode old ≡ instruction (B imm26)
+        → (decode new ≡ instruction (B branchImm)) × (Manual.branchTarget branchImm P ≡ T)
     pub bl-goes : entry .ty ≡ ARM64-RELOC-BRANCH26 → dtraceSiteInsn entry target ≡ Untraced → Unreported f k
         → (branchReaches T P ≡ true) ⊎ (thunkServes entry target T ≡ false) → T % 4 ≡ 0 → P % 4 ≡ 0
-        → (imm26 : ℕ) → decode old ≡ form (BL imm26)
-        → (decode new ≡ form (BL branchImm)) × (Manual.branchTarget branchImm P ≡ T)
+        → (imm26 : ℕ) → decode old ≡ instruction (BL imm26)
+        → (decode new ≡ instruction (BL branchImm)) × (Manual.branchTarget branchImm P ≡ T)
     -- RULES 5.12: tracing sites
-    pub probe-site : entry .ty ≡ ARM64-RELOC-BRANCH26 → isSymbol entry ≡ true → isProbe target ≡ true → decode new ≡ form NOP
+    pub probe-site : entry .ty ≡ ARM64-RELOC-BRANCH26 → isSymbol entry ≡ true → isProbe target ≡ true → decode new ≡ instruction NOP
     pub is-enabled-site : entry .ty ≡ ARM64-RELOC-BRANCH26 → isSymbol entry ≡ true → isProbe target ≡ false → isEnabled target ≡ true
-        → decode new ≡ form (MOVZ 1 0 0 0)
+        → decode new ≡ instruction (MOVZ 1 0 0 0)
     -- RULES 5.16: a GOT page with a helper becomes a B to one of its own, else a BL, and in reach goes there
     pub helper-own : entry .ty ≡ ARM64-RELOC-GOT-LOAD-PAGE21 → hasHelper target ≡ true → helperIsOwn target ≡ true
-        → decode new ≡ form (B (field (diff (target .helper) P) 2 26))
+        → decode new ≡ instruction (B (field (diff (target .helper) P) 2 26))
     pub helper-shared : entry .ty ≡ ARM64-RELOC-GOT-LOAD-PAGE21 → hasHelper target ≡ true → helperIsOwn target ≡ false
-        → decode new ≡ form (BL (field (diff (target .helper) P) 2 26))
+        → decode new ≡ instruction (BL (field (diff (target .helper) P) 2 26))
     pub helper-goes : entry .ty ≡ ARM64-RELOC-GOT-LOAD-PAGE21 → hasHelper target ≡ true → branchReaches (target .helper) P ≡ true
         → target .helper < 2 ^ 64 → target .helper % 4 ≡ 0 → P % 4 ≡ 0
         → Manual.branchTarget (field (diff (target .helper) P) 2 26) P ≡ target .helper
@@ -160,32 +160,32 @@ module _ (section : List ℕ) (b : Bases) (entries targets : List ℕ) (f : Fixe
 
   -- k's word is the ADRP to that page
   abbrev pub PageAt : (rd a : ℕ) → Type 0
-  PageAt rd a = decode (new section b entries targets f k) ≡ form (ADRP rd (pageImm a (P section b entries targets f k)))
+  PageAt rd a = decode (new section b entries targets f k) ≡ instruction (ADRP rd (pageImm a (P section b entries targets f k)))
 
   -- m's word is an ADD that makes an address, or a load or store that accesses it
   abbrev pub AddAt : (rd rn a : ℕ) → Type 0
   AddAt rd rn a =
-      (decode (new section b entries targets f m) ≡ form (ADD 1 0 rd rn (field a 0 12))) × (Manual.addValue 1 0 (pageTo a) (field a 0 12) ≡ a)
+      (decode (new section b entries targets f m) ≡ instruction (ADD 1 0 rd rn (field a 0 12))) × (Manual.addValue 1 0 (pageTo a) (field a 0 12) ≡ a)
 
   abbrev pub AccessAt : (size v opc rt rn a : ℕ) → Type 0
   AccessAt size v opc rt rn a =
-      (decode (new section b entries targets f m) ≡ form (LDST size v opc rt rn (a % 2 ^ 12 / movedBy (rowOf size v opc))))
+      (decode (new section b entries targets f m) ≡ instruction (LDST size v opc rt rn (a % 2 ^ 12 / movedBy (rowOf size v opc))))
       × (Manual.accessAddress (rowOf size v opc) (pageTo a) (a % 2 ^ 12 / movedBy (rowOf size v opc)) ≡ a)
 
   pub record Pair (rd : ℕ) : Type 0 where
     -- PAGE21 and PAGEOFF12 make, or access, S + A; so do pairs whose page and page offset are of one address
     pub pair-add : {a : ℕ} → Page (entryAt entries k) (targetAt targets k) a → Offset (entryAt entries m) (targetAt targets m) a
-        → (rd′ rn imm12 : ℕ) → decode (wordAt entries section m) ≡ form (ADD 1 0 rd′ rn imm12) → PageAt rd a × AddAt rd′ rn a
+        → (rd′ rn imm12 : ℕ) → decode (wordAt entries section m) ≡ instruction (ADD 1 0 rd′ rn imm12) → PageAt rd a × AddAt rd′ rn a
     pub pair-access : {a : ℕ} → Page (entryAt entries k) (targetAt targets k) a → Offset (entryAt entries m) (targetAt targets m) a
-        → (size v opc rt rn imm12 : ℕ) → decode (wordAt entries section m) ≡ form (LDST size v opc rt rn imm12) → Unreported f m
+        → (size v opc rt rn imm12 : ℕ) → decode (wordAt entries section m) ≡ instruction (LDST size v opc rt rn imm12) → Unreported f m
         → PageAt rd a × AccessAt size v opc rt rn a
     -- a GOT or TLVP pair that is not relaxed G + A
     pub got-add : Page (entryAt entries k) (targetAt targets k) (gotTarget (entryAt entries k) (targetAt targets k)) → GotOffset (entryAt entries m)
         → canRelaxGot (targetAt targets k) ≡ false → canRelaxGot (targetAt targets m) ≡ false → G+A k ≡ G+A m
-        → (rd′ rn imm12 : ℕ) → decode (wordAt entries section m) ≡ form (ADD 1 0 rd′ rn imm12) → PageAt rd (G+A m) × AddAt rd′ rn (G+A m)
+        → (rd′ rn imm12 : ℕ) → decode (wordAt entries section m) ≡ instruction (ADD 1 0 rd′ rn imm12) → PageAt rd (G+A m) × AddAt rd′ rn (G+A m)
     pub got-access : Page (entryAt entries k) (targetAt targets k) (gotTarget (entryAt entries k) (targetAt targets k)) → GotOffset (entryAt entries m)
         → canRelaxGot (targetAt targets k) ≡ false → canRelaxGot (targetAt targets m) ≡ false → G+A k ≡ G+A m
-        → (size v opc rt rn imm12 : ℕ) → decode (wordAt entries section m) ≡ form (LDST size v opc rt rn imm12) → Unreported f m
+        → (size v opc rt rn imm12 : ℕ) → decode (wordAt entries section m) ≡ instruction (LDST size v opc rt rn imm12) → Unreported f m
         → PageAt rd (G+A m) × AccessAt size v opc rt rn (G+A m)
     -- one that is relaxed S + A, by the ADD in the load's place
     pub got-relaxed : Page (entryAt entries k) (targetAt targets k) (gotTarget (entryAt entries k) (targetAt targets k))
@@ -201,7 +201,7 @@ pub record Fixup : Type 0 where
   -- two that stand alone, the first an ADRP that no report names
   pub pair-alone : (section : List ℕ) (b : Bases) (entries targets slots : List ℕ) (f : Fixed) (k m : ℕ)
       → Lone section b entries targets slots f k → Lone section b entries targets slots f m → Unreported f k
-      → (rd imm : ℕ) → decode (wordAt entries section k) ≡ form (ADRP rd imm) → Pair section b entries targets f k m rd
+      → (rd imm : ℕ) → decode (wordAt entries section k) ≡ instruction (ADRP rd imm) → Pair section b entries targets f k m rd
   -- not vacuous: of two PAGEOFF12 on the word of example 9, to 0x1234, which is reported and writes nothing, and to 0x1238, the second stands alone
   pub second-alone : Lone (bytes 4 0xf9400000) (basesOf 0x1000 0)
       (Lent.entry ARM64-RELOC-PAGEOFF12 0 0 ++ Lent.entry ARM64-RELOC-PAGEOFF12 0 0)
@@ -238,16 +238,16 @@ pub record Fixup : Type 0 where
       → widthOf e t ≡ 0
   -- RULES 6.2: the words of a stub entry; in reach it loads the pointer
   pub stub-entry : (s : List ℕ) (addr ptr : ℕ) → 12 ≤ length s
-      → (decode (le 4 (wordsIn s (stubWords addr ptr)) 0) ≡ form (ADRP 16 (pageImm ptr addr)))
-      × (decode (le 4 (wordsIn s (stubWords addr ptr)) 4) ≡ form (LDST 0b11 0 0b01 16 16 (field ptr 3 9)))
-      × (decode (le 4 (wordsIn s (stubWords addr ptr)) 8) ≡ form (BR 16))
+      → (decode (le 4 (wordsIn s (stubWords addr ptr)) 0) ≡ instruction (ADRP 16 (pageImm ptr addr)))
+      × (decode (le 4 (wordsIn s (stubWords addr ptr)) 4) ≡ instruction (LDST 0b11 0 0b01 16 16 (field ptr 3 9)))
+      × (decode (le 4 (wordsIn s (stubWords addr ptr)) 8) ≡ instruction (BR 16))
       × (addr < 2 ^ 64 → ptr < 2 ^ 64 → adrpReaches ptr addr ≡ true → ptr % 8 ≡ 0
       → Manual.accessAddress (rowOf 0b11 0 0b01) (adrpPage (pageImm ptr addr) addr) (field ptr 3 9) ≡ ptr)
   -- RULES 6.3: the words of a thunk entry; in reach it makes the target
   pub thunk-entry : (s : List ℕ) (addr target : ℕ) → 12 ≤ length s
-      → (decode (le 4 (wordsIn s (thunkWords addr target)) 0) ≡ form (ADRP 16 (pageImm target addr)))
-      × (decode (le 4 (wordsIn s (thunkWords addr target)) 4) ≡ form (ADD 1 0 16 16 (field target 0 12)))
-      × (decode (le 4 (wordsIn s (thunkWords addr target)) 8) ≡ form (BR 16))
+      → (decode (le 4 (wordsIn s (thunkWords addr target)) 0) ≡ instruction (ADRP 16 (pageImm target addr)))
+      × (decode (le 4 (wordsIn s (thunkWords addr target)) 4) ≡ instruction (ADD 1 0 16 16 (field target 0 12)))
+      × (decode (le 4 (wordsIn s (thunkWords addr target)) 8) ≡ instruction (BR 16))
       × (addr < 2 ^ 64 → target < 2 ^ 64 → adrpReaches target addr ≡ true
       → Manual.addValue 1 0 (adrpPage (pageImm target addr) addr) (field target 0 12) ≡ target)
   -- RULES 6.4: the bytes past the 12 stay

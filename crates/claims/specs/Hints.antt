@@ -6,7 +6,9 @@ use Prim.Native.Nat.{ℕ, _^_, _<_}
 use lib.Dec.{eqb}
 use lib.ListN.{length}
 use Rattle.macho.specs.Hint.{wordCount, hintCount}
+use Rattle.macho.specs.Refusal.{numberOf}
 use Rattle.macho.specs.declared.hint.HintRecord.{HintRecord}
+use Rattle.macho.specs.declared.refusal.Refusal.the-variants.{Overflow}
 use Rattle.image.specs.Steps.{Work, answered, stepOf}
 use Rattle.arm64_hint_terms.specs.Kinds.{wordsOf, AreWords, areCarried}
 use Rattle.arm64_hint_terms.specs.declared.answer.Insns.{Insns}
@@ -22,7 +24,7 @@ use Rattle.arm64_hint_words.proofs.hint.Hint.set.Statement as Set′
 use Rattle.arm64_hint_words.proofs.hint.Hint.addr.Statement as Addr
 use Rattle.arm64_hint_words.proofs.hint.Hint.has_page_pair.Statement as HasPagePair
 use Rattle.arm64_hint_places.specs.Hint.{isSkipped}
-use Rattle.arm64_hint_rules.specs.declared.outcome.Outcome.the-variants.{Worked}
+use Rattle.arm64_hint_rules.specs.Rule.{outcomeNumber}
 use Rattle.arm64_hint_work.specs.Step.{addDecision, total, stepsOf}
 use Rattle.arm64_hint_work.specs.declared.tally.Tally.{Tally}
 use Rattle.arm64_hint_run.specs.Run.{runOf}
@@ -48,10 +50,10 @@ pub record Hints : Type 2 where
   -- RULES 8.32: the four counts are together the number of hints
   pub counts-sum : (image hints entries : List ℕ) (t : Tally) → runOf image hints entries ≡ Done t → total t ≡ hintCount hints
   -- RULES 1.4: a hint answered nine leaves the image and is counted
-  pub nine-leaves : (hints entries : List ℕ) (k : ℕ) (w : Work Tally) (s : Insns) → answered (stepsOf hints entries) k (w .image) ≡ Worked Nine s
+  pub nine-leaves : (hints entries : List ℕ) (k : ℕ) (w : Work Tally) → outcomeNumber (answered (stepsOf hints entries) k (w .image)) ≡ numberOf Overflow
       → stepOf (stepsOf hints entries) k w ≡ record { image = w .image; tally = addDecision Nine (w .tally) }
   -- and the hints after it are worked on that
-  pub nine-goes-on : (hints entries : List ℕ) (k : ℕ) (w : Work Tally) (s : Insns) → answered (stepsOf hints entries) k (w .image) ≡ Worked Nine s
+  pub nine-goes-on : (hints entries : List ℕ) (k : ℕ) (w : Work Tally) → outcomeNumber (answered (stepsOf hints entries) k (w .image)) ≡ numberOf Overflow
       → (l : List ℕ) → runList (stepOf (stepsOf hints entries)) (k ∷ l) w
       ≡ runList (stepOf (stepsOf hints entries)) l (record { image = w .image; tally = addDecision Nine (w .tally) })
   -- RULES 12.8: the Rust's `Hint` (arm64_hint_words/src/hint.rt), through which the rules read and store: each method meets its contract

@@ -136,7 +136,7 @@ pub record Kept : Type 0 where
       × (Order.Kept hints (orderOf hints))
       × ((l : List ℕ) → Once (hintCount hints) l → Literally image hints entries l t)
   -- RULES 1.9: fair words run as what is decided of them, for every kind and whatever the entries say
-  pub decided : (kind : ℕ) (s : Insns) (r : Rels) → s .p0 < 2 ^ 64 → s .p1 < 2 ^ 64 → s .p2 < 2 ^ 64 → Machine.Fair (placedOf (wordCount kind) s)
+  pub decided : (kind : ℕ) (s : Insns) (r : Rels) → s .p0 < 2 ^ 64 → s .p1 < 2 ^ 64 → s .p2 < 2 ^ 64 → Machine.FairWords (placedOf (wordCount kind) s)
       → SameRun (placedOf (wordCount kind) s) (placedOf (wordCount kind) (after (decide kind s r) s))
   -- not vacuous: hints of each kind and rewrite that meet the premises and are rewritten (the list: arm64_hint_kept/proofs/Examples)
   pub rewritten : Examples.Rewritten

@@ -11,7 +11,7 @@ use Rattle.util.specs.Diagram.{Part, matches, maskOf, valueOf, sound}
 use Rattle.arm64_insn.specs.Encoding.{adr, adrp, addImmediate, add, addUnshifted, loadStore, ldrImmediate, loadLiteral, branch, br, nop, movz}
 use Rattle.arm64_insn.specs.LoadStoreTable as Table
 use Rattle.arm64_insn.specs.Fix.{quad}
-use Rattle.arm64_insn.specs.Manual.{Insn, Class, class, classes, form, none, encode, InRange, decode, allocated, vIn, sizeIn}
+use Rattle.arm64_insn.specs.Manual.{Insn, Class, class, classes, instruction, none, encode, InRange, decode, allocated, vIn, sizeIn}
 use Rattle.arm64_insn.proofs.ManualAssembled.{Made, assembled}
 use Rattle.arm64_insn.proofs.ManualLines.{lines, literalLines, lineOf, literalLineOf, widenedSigned, namedSigned}
 
@@ -25,15 +25,15 @@ Tests diagram mask value = (w : ℕ) → eqb (bitAnd w mask) value ≡ matches d
 
 pub record Manual : Type 0 where
   -- RULES 1.6, 7.8: decoding undoes encoding, and encoding decoding
-  pub decode-encode : (i : Insn) → InRange i → decode (encode i) ≡ form i
-  pub encode-decode : (w : ℕ) (i : Insn) → w < 2 ^ 32 → decode w ≡ form i → encode i ≡ w
+  pub decode-encode : (i : Insn) → InRange i → decode (encode i) ≡ instruction i
+  pub encode-decode : (w : ℕ) (i : Insn) → w < 2 ^ 32 → decode w ≡ instruction i → encode i ≡ w
   -- what a word decodes to is in range
-  pub decode-in-range : (w : ℕ) (i : Insn) → decode w ≡ form i → InRange i
+  pub decode-in-range : (w : ℕ) (i : Insn) → decode w ≡ instruction i → InRange i
   -- no word is of two classes, so the order in which decoding tries them does not matter
   pub one-class : (i j w : ℕ) → i < 9 → j < 9 → i ≢ j → matches (diagramAt i) w ≡ true → matches (diagramAt j) w ≡ false
-  -- RULES 7.9: a word with a form is allocated
-  pub decode-allocated : (w : ℕ) (i : Insn) → decode w ≡ form i → allocated w ≡ true
-  -- one of these classes without a form is not, but for PRFM (literal)
+  -- RULES 7.9: a word with an instruction is allocated
+  pub decode-allocated : (w : ℕ) (i : Insn) → decode w ≡ instruction i → allocated w ≡ true
+  -- one of these classes without an instruction is not, but for PRFM (literal)
   pub load-store-unallocated : (w : ℕ) → decode w ≡ none → matches loadStore w ≡ true → allocated w ≡ false
   pub literal-unallocated : (w : ℕ) → decode w ≡ none → matches loadLiteral w ≡ true → vIn w * 4 + sizeIn w ≢ 3 → allocated w ≡ false
   pub movz-unallocated : (w : ℕ) → decode w ≡ none → matches movz w ≡ true → allocated w ≡ false
@@ -55,7 +55,7 @@ pub record Manual : Type 0 where
       × Tests movz 0x7f80_0000 0x5280_0000
   -- RULES 11.14: forms encode as llvm-mc assembles them, and decode back (the list: arm64_insn/proofs/ManualAssembled)
   pub assembled-encodes : map (λ (m : Made). encode (m .insn)) assembled ≡ map (λ (m : Made). m .word) assembled
-  pub assembled-decodes : map (λ (m : Made). decode (m .word)) assembled ≡ map (λ (m : Made). form (m .insn)) assembled
+  pub assembled-decodes : map (λ (m : Made). decode (m .word)) assembled ≡ map (λ (m : Made). instruction (m .insn)) assembled
   -- the tables of loads and stores, and of literal loads, are what llvm-objdump prints (the lines: arm64_insn/proofs/ManualLines)
   pub table-printed : map lineOf Table.unsignedImmediate ≡ lines
   pub literal-table-printed : map literalLineOf Table.literal ≡ literalLines

@@ -7,7 +7,7 @@ use Rattle.util.specs.Word.{bytes}
 use Rattle.macho.specs.Types.{MCLOH-AdrpLdr, ARM64-RELOC-UNSIGNED, ARM64-RELOC-SUBTRACTOR, ARM64-RELOC-PAGE21}
 use Rattle.macho.specs.Types.{ARM64-RELOC-POINTER-TO-GOT, ARM64-RELOC-ADDEND}
 use Rattle.macho.specs.Hint.{noEntry}
-use Rattle.arm64_hint_run.specs.Run.{runOf, numberOf}
+use Rattle.arm64_hint_run.specs.Run.{runOf, runNumber}
 use Rattle.hauklivo.specs.Reader as Reader
 use Rattle.hauklivo.specs.Fixup as Fixup
 use Rattle.claims.specs.Lent.{machRel, entry, resolved, half, pair, place, hint, plain}
@@ -20,7 +20,7 @@ abbrev pub fixUp : (section : List ℕ) (base : ℕ) (entries targets slots : Li
 fixUp section base entries targets slots = Fixup.numberTo section base 0 entries targets slots
 
 abbrev pub hintRun : (size : ℕ) (hints entries : List ℕ) → ℕ
-hintRun size hints entries = numberOf (runOf (bytes size 0) hints entries)
+hintRun size hints entries = runNumber (runOf (bytes size 0) hints entries)
 
 -- n zeros, and a NOP
 abbrev pub zeros : ℕ → List ℕ
@@ -104,5 +104,5 @@ pub record Numbers : Type 0 where
   -- RULES 3.9: lists of 2^32 records and more
   pub many-records : (contents records sections slots : List ℕ) → length records % 8 ≡ 0 → 2 ^ 32 ≤ length records / 8
       → Reader.numberTo contents records sections slots ≡ 1
-  pub many-hints : (image hints entries : List ℕ) → 2 ^ 32 ≤ length hints / 64 → numberOf (runOf image hints entries) ≡ 1
-  pub many-entries : (image hints entries : List ℕ) → 2 ^ 32 ≤ length entries / 24 → numberOf (runOf image hints entries) ≡ 1
+  pub many-hints : (image hints entries : List ℕ) → 2 ^ 32 ≤ length hints / 64 → runNumber (runOf image hints entries) ≡ 1
+  pub many-entries : (image hints entries : List ℕ) → 2 ^ 32 ≤ length entries / 24 → runNumber (runOf image hints entries) ≡ 1

@@ -9,7 +9,7 @@ use Rattle.util.specs.Wrap.{sum, diff}
 use Rattle.util.specs.Diagram.{matches}
 use Rattle.arm64_insn.specs.Encoding.{addUnshifted, loadStore, ldrImmediate}
 use Rattle.arm64_insn.specs.LoadStoreTable.{rowOf, literalRowOf, movedBy, moves}
-use Rattle.arm64_insn.specs.Manual.{ADR, ADRP, ADD, LDST, PRFM, LDR-literal, B, BL, BR, NOP, MOVZ, form, none, encode, decode, allocated}
+use Rattle.arm64_insn.specs.Manual.{ADR, ADRP, ADD, LDST, PRFM, LDR-literal, B, BL, BR, NOP, MOVZ, instruction, none, encode, decode, allocated}
 use Rattle.arm64_insn.specs.Manual.{rdIn, rnIn, imm12In, sfIn, sizeIn, vIn, opcIn, rowIn}
 use Rattle.arm64_insn.specs.ManualTargets.{adrTarget, literalTarget, branchTarget, accessAddress, addValue, movzValue}
 use Rattle.arm64_insn.specs.Page.{pageOf, adrpPage}
@@ -33,18 +33,18 @@ use Rattle.arm64_reader.specs.Words.{isUnshiftedAdd, loadedBy}
 
 pub record Words : Type 0 where
   -- RULES 7.16: `Adrp::decode` answers the manual's ADRP, and nothing else
-  pub adrp-decodes : (w : ℕ) (a : A.Adrp) → adrpOf w ≡ AdrpWord.Adrp a → decode w ≡ form (ADRP (a .rd) (a .imm))
-  pub decodes-adrp : (w rd imm : ℕ) → decode w ≡ form (ADRP rd imm) → adrpOf w ≡ AdrpWord.Adrp (record { rd = rd; imm = imm })
+  pub adrp-decodes : (w : ℕ) (a : A.Adrp) → adrpOf w ≡ AdrpWord.Adrp a → decode w ≡ instruction (ADRP (a .rd) (a .imm))
+  pub decodes-adrp : (w rd imm : ℕ) → decode w ≡ instruction (ADRP rd imm) → adrpOf w ≡ AdrpWord.Adrp (record { rd = rd; imm = imm })
   -- RULES 7.17: `Add::decode` answers the manual's ADD of 64 bits with an unshifted immediate, and nothing else
-  pub add-decodes : (w : ℕ) (a : D.Add) → addOf w ≡ AddWord.Add a → decode w ≡ form (ADD 1 0 (a .rd) (a .rn) (a .imm))
-  pub decodes-add : (w rd rn imm : ℕ) → w < 2 ^ 32 → decode w ≡ form (ADD 1 0 rd rn imm)
+  pub add-decodes : (w : ℕ) (a : D.Add) → addOf w ≡ AddWord.Add a → decode w ≡ instruction (ADD 1 0 (a .rd) (a .rn) (a .imm))
+  pub decodes-add : (w rd rn imm : ℕ) → w < 2 ^ 32 → decode w ≡ instruction (ADD 1 0 rd rn imm)
       → addOf w ≡ AddWord.Add (record { rd = rd; rn = rn; imm = imm })
   -- RULES 7.18: `LoadStore::decode` answers every load and store of the manual, and, but for the words taken as loads, nothing else
-  pub decodes-load-store : (w size v opc rt rn imm12 : ℕ) → decode w ≡ form (LDST size v opc rt rn imm12)
+  pub decodes-load-store : (w size v opc rt rn imm12 : ℕ) → decode w ≡ instruction (LDST size v opc rt rn imm12)
       → loadStoreOf w ≡ LoadStoreWord.LoadStore (loadStoreFrom w v rt rn imm12 (rowOf size v opc))
   pub load-store-decodes : (w : ℕ) (l : L.LoadStore) → loadStoreOf w ≡ LoadStoreWord.LoadStore l → takenWord w ≡ false
-      → decode w ≡ form (LDST (sizeIn w) (vIn w) (opcIn w) (l .reg) (l .base) (imm12In w))
-  -- RULES 7.19: the words taken as loads have no form and are not allocated
+      → decode w ≡ instruction (LDST (sizeIn w) (vIn w) (opcIn w) (l .reg) (l .base) (imm12In w))
+  -- RULES 7.19: the words taken as loads have no instruction and are not allocated
   pub taken-decodes : (w : ℕ) → takenWord w ≡ true → (decode w ≡ none) × (allocated w ≡ false) × (loadStoreOf w ≡ LoadStoreWord.LoadStore (takenIn w))
   -- RULES 4.8: what a GOT page offset may stand on: an unshifted ADD of either width, an 8-byte load
   pub got-fits : (w : ℕ) → w < 2 ^ 32 → gotFits w ≡ (isUnshiftedAdd (decode w) || eqb (loadedBy (decode w)) 8)
@@ -54,57 +54,57 @@ pub record Words : Type 0 where
   pub add-is : (w : ℕ) → w < 2 ^ 32 → matches addUnshifted w ≡ isUnshiftedAdd (decode w)
   pub loaded-is : (w : ℕ) → loadedBytes w ≡ choose (takenWord w) (2 ^ sizeIn w) (loadedBy (decode w))
   -- `is_add_either` holds of the ADDs with an unshifted immediate
-  pub add-either-decodes : (w : ℕ) → matches addUnshifted w ≡ true → decode w ≡ form (ADD (sfIn w) 0 (rdIn w) (rnIn w) (imm12In w))
-  pub decodes-add-either : (w sf rd rn imm12 : ℕ) → w < 2 ^ 32 → decode w ≡ form (ADD sf 0 rd rn imm12) → matches addUnshifted w ≡ true
+  pub add-either-decodes : (w : ℕ) → matches addUnshifted w ≡ true → decode w ≡ instruction (ADD (sfIn w) 0 (rdIn w) (rnIn w) (imm12In w))
+  pub decodes-add-either : (w sf rd rn imm12 : ℕ) → w < 2 ^ 32 → decode w ≡ instruction (ADD sf 0 rd rn imm12) → matches addUnshifted w ≡ true
   -- `is_ldr_imm` holds of LDR of a W or X register
   pub ldr-imm-decodes : (w : ℕ) → matches ldrImmediate w ≡ true
-      → (2 ≤ sizeIn w) × (decode w ≡ form (LDST (sizeIn w) 0 0b01 (rdIn w) (rnIn w) (imm12In w)))
-  pub decodes-ldr-imm : (w size rt rn imm12 : ℕ) → w < 2 ^ 32 → 2 ≤ size → decode w ≡ form (LDST size 0 0b01 rt rn imm12) → matches ldrImmediate w ≡ true
+      → (2 ≤ sizeIn w) × (decode w ≡ instruction (LDST (sizeIn w) 0 0b01 (rdIn w) (rnIn w) (imm12In w)))
+  pub decodes-ldr-imm : (w size rt rn imm12 : ℕ) → w < 2 ^ 32 → 2 ≤ size → decode w ≡ instruction (LDST size 0 0b01 rt rn imm12) → matches ldrImmediate w ≡ true
   -- the scale of a page offset is that of the bytes that a load or store moves; of one that moves none its size field's; of any other word none
-  pub load-store-scale : (w size v opc rt rn imm12 : ℕ) → decode w ≡ form (LDST size v opc rt rn imm12) → 2 ^ scaleOf w ≡ movedBy (rowOf size v opc)
+  pub load-store-scale : (w size v opc rt rn imm12 : ℕ) → decode w ≡ instruction (LDST size v opc rt rn imm12) → 2 ^ scaleOf w ≡ movedBy (rowOf size v opc)
   pub unmoved-scale : (w : ℕ) → matches loadStore w ≡ true → moves (rowIn w) ≡ false → scaleOf w ≡ sizeIn w
   pub other-scale : (w : ℕ) → matches loadStore w ≡ false → scaleOf w ≡ 0
-  -- RULES 7.22 to 7.31: each made word is the form meant, each patched word the old form with one field replaced. ADR
-  pub adr-made : (rd target pc : ℕ) → rd < 32 → decode (adrWord rd target pc) ≡ form (ADR rd (field (diff target pc) 0 21))
+  -- RULES 7.22 to 7.31: each made word is the instruction meant, each patched word the old instruction with one field replaced. ADR
+  pub adr-made : (rd target pc : ℕ) → rd < 32 → decode (adrWord rd target pc) ≡ instruction (ADR rd (field (diff target pc) 0 21))
   -- a patched ADRP
-  pub adrp-patched : (w rd imm hi lo : ℕ) → w < 2 ^ 32 → decode w ≡ form (ADRP rd imm) → decode (adrpWith w hi lo) ≡ form (ADRP rd (pageImm hi lo))
+  pub adrp-patched : (w rd imm hi lo : ℕ) → w < 2 ^ 32 → decode w ≡ instruction (ADRP rd imm) → decode (adrpWith w hi lo) ≡ instruction (ADRP rd (pageImm hi lo))
   -- an ADD, a load or store, a prefetch with the page offset
-  pub add-patched : (w sf sh rd rn imm12 val : ℕ) → decode w ≡ form (ADD sf sh rd rn imm12)
+  pub add-patched : (w sf sh rd rn imm12 val : ℕ) → decode w ≡ instruction (ADD sf sh rd rn imm12)
       → offsetWith w val ≡ Word (encode (ADD sf sh rd rn (field val 0 12)))
-  pub load-store-patched : (w size v opc rt rn imm12 val : ℕ) → decode w ≡ form (LDST size v opc rt rn imm12)
+  pub load-store-patched : (w size v opc rt rn imm12 val : ℕ) → decode w ≡ instruction (LDST size v opc rt rn imm12)
       → offsetWith w val
       ≡ choose (eqb (val % movedBy (rowOf size v opc)) 0)
       (Word (encode (LDST size v opc rt rn (val % 2 ^ 12 / movedBy (rowOf size v opc)))))
       (Misaligned (movedBy (rowOf size v opc)))
-  pub prefetch-patched : (w rt rn imm12 val : ℕ) → decode w ≡ form (PRFM rt rn imm12)
+  pub prefetch-patched : (w rt rn imm12 val : ℕ) → decode w ≡ instruction (PRFM rt rn imm12)
       → offsetWith w val ≡ choose (eqb (val % 8) 0) (Word (encode (PRFM rt rn (val % 2 ^ 12 / 8)))) (Misaligned 8)
   -- a patched B or BL, and a helper's
-  pub b-patched : (w imm26 d : ℕ) → decode w ≡ form (B imm26) → decode (branchWord w d) ≡ form (B (field d 2 26))
-  pub bl-patched : (w imm26 d : ℕ) → decode w ≡ form (BL imm26) → decode (branchWord w d) ≡ form (BL (field d 2 26))
-  pub helper-made : (d : ℕ) → (decode (helperWord true d) ≡ form (B (field d 2 26))) × (decode (helperWord false d) ≡ form (BL (field d 2 26)))
+  pub b-patched : (w imm26 d : ℕ) → decode w ≡ instruction (B imm26) → decode (branchWord w d) ≡ instruction (B (field d 2 26))
+  pub bl-patched : (w imm26 d : ℕ) → decode w ≡ instruction (BL imm26) → decode (branchWord w d) ≡ instruction (BL (field d 2 26))
+  pub helper-made : (d : ℕ) → (decode (helperWord true d) ≡ instruction (B (field d 2 26))) × (decode (helperWord false d) ≡ instruction (BL (field d 2 26)))
   -- a relaxed load is a 64-bit ADD of its registers
-  pub relaxed-made : (w target : ℕ) → decode (relaxedWord w target) ≡ form (ADD 1 0 (rdIn w) (rnIn w) (field target 0 12))
+  pub relaxed-made : (w target : ℕ) → decode (relaxedWord w target) ≡ instruction (ADD 1 0 (rdIn w) (rnIn w) (field target 0 12))
   -- the words of probes
-  pub nop-made : decode nopWord ≡ form NOP
-  pub is-enabled-made : (decode isEnabledWord ≡ form (MOVZ 1 0 0 0)) × (movzValue 0 0 ≡ 0)
+  pub nop-made : decode nopWord ≡ instruction NOP
+  pub is-enabled-made : (decode isEnabledWord ≡ instruction (MOVZ 1 0 0 0)) × (movzValue 0 0 ≡ 0)
   -- a stub: ADRP x16; LDR x16, [x16]; BR x16. A thunk has an ADD in the middle
   pub stub-made : (addr pointer : ℕ)
-      → (decode (stubWords addr pointer .first) ≡ form (ADRP 16 (pageImm pointer addr)))
-      × (decode (stubWords addr pointer .second) ≡ form (LDST 0b11 0 0b01 16 16 (field pointer 3 9)))
-      × (decode (stubWords addr pointer .third) ≡ form (BR 16))
+      → (decode (stubWords addr pointer .first) ≡ instruction (ADRP 16 (pageImm pointer addr)))
+      × (decode (stubWords addr pointer .second) ≡ instruction (LDST 0b11 0 0b01 16 16 (field pointer 3 9)))
+      × (decode (stubWords addr pointer .third) ≡ instruction (BR 16))
   pub thunk-made : (addr target : ℕ)
-      → (decode (thunkWords addr target .first) ≡ form (ADRP 16 (pageImm target addr)))
-      × (decode (thunkWords addr target .second) ≡ form (ADD 1 0 16 16 (field target 0 12)))
-      × (decode (thunkWords addr target .third) ≡ form (BR 16))
+      → (decode (thunkWords addr target .first) ≡ instruction (ADRP 16 (pageImm target addr)))
+      × (decode (thunkWords addr target .second) ≡ instruction (ADD 1 0 16 16 (field target 0 12)))
+      × (decode (thunkWords addr target .third) ≡ instruction (BR 16))
   -- a load or store through another base
-  pub based-made : (w size v opc rt rn imm12 base offset : ℕ) (l : L.LoadStore) → decode w ≡ form (LDST size v opc rt rn imm12)
+  pub based-made : (w size v opc rt rn imm12 base offset : ℕ) (l : L.LoadStore) → decode w ≡ instruction (LDST size v opc rt rn imm12)
       → loadStoreOf w ≡ LoadStoreWord.LoadStore l → Rebased l base offset
-      → decode (baseWord l base offset) ≡ form (LDST size v opc rt base (offset / l .size))
+      → decode (baseWord l base offset) ≡ instruction (LDST size v opc rt base (offset / l .size))
   -- a literal load, and it loads what the load loaded
   pub literal-made : (l : L.LoadStore) (target pc : ℕ) → l .reg < 32
       → decode (literalWord l target pc)
-      ≡ form (LDR-literal (literalOpc (l .size) (l .«is_float») (l .«is_ldrsw»)) (literalV (l .size) (l .«is_float»)) (l .reg) (field (diff target pc) 2 19))
-  pub literal-row : (w size v opc rt rn imm12 : ℕ) (l : L.LoadStore) → decode w ≡ form (LDST size v opc rt rn imm12)
+      ≡ instruction (LDR-literal (literalOpc (l .size) (l .«is_float») (l .«is_ldrsw»)) (literalV (l .size) (l .«is_float»)) (l .reg) (field (diff target pc) 2 19))
+  pub literal-row : (w size v opc rt rn imm12 : ℕ) (l : L.LoadStore) → decode w ≡ instruction (LDST size v opc rt rn imm12)
       → loadStoreOf w ≡ LoadStoreWord.LoadStore l → hasLiteralForm l ≡ true
       → literalRowOf (literalOpc (l .size) (l .«is_float») (l .«is_ldrsw»)) (literalV (l .size) (l .«is_float»)) ≡ rowOf size v opc
   -- RULES 7.11: what ADRP makes is the manual's sum
@@ -121,7 +121,7 @@ pub record Words : Type 0 where
   pub adrp-means : (target pc : ℕ) → target < 2 ^ 64 → pc < 2 ^ 64 → adrpReaches target pc ≡ true → adrpPage (pageImm target pc) pc ≡ pageOf target
   pub add-means : (target pc : ℕ) → target < 2 ^ 64 → pc < 2 ^ 64 → adrpReaches target pc ≡ true
       → addValue 1 0 (adrpPage (pageImm target pc) pc) (field target 0 12) ≡ target
-  pub access-means : (target pc : ℕ) → target < 2 ^ 64 → pc < 2 ^ 64 → (w size v opc rt rn imm12 : ℕ) → decode w ≡ form (LDST size v opc rt rn imm12)
+  pub access-means : (target pc : ℕ) → target < 2 ^ 64 → pc < 2 ^ 64 → (w size v opc rt rn imm12 : ℕ) → decode w ≡ instruction (LDST size v opc rt rn imm12)
       → adrpReaches target pc ≡ true → target % movedBy (rowOf size v opc) ≡ 0
       → accessAddress (rowOf size v opc) (adrpPage (pageImm target pc) pc) (target % 2 ^ 12 / movedBy (rowOf size v opc)) ≡ target
   pub stub-means : (target pc : ℕ) → target < 2 ^ 64 → pc < 2 ^ 64 → adrpReaches target pc ≡ true → target % 8 ≡ 0
