@@ -10,6 +10,7 @@ use Rattle.claims.specs.Hints.{Hints}
 use Rattle.claims.specs.Kept.{Kept}
 use Rattle.claims.specs.Twelve.{Twelve}
 
+-- all that is claimed, by record
 pub record Claims : Type 2 where
   -- lent memory, ending, refusals (RULES 1.1 to 1.3)
   pub calls : Calls

@@ -39,26 +39,31 @@ use Rattle.claims.specs.Lent.{has-address, resolved}
 -- ---- entry k of a call that was lent section, bases b, entries and targets, and ended with f
 
 module _ (section : List ℕ) (b : Bases) (entries targets : List ℕ) (f : Fixed) (k : ℕ) where
-  -- the entry and its target, P, and the 4-byte word at its place before and after
+  -- the entry
   abbrev pub entry : Reloc
   entry = entryAt entries k
 
+  -- its target
   abbrev pub target : Resolved
   target = targetAt targets k
 
+  -- P
   abbrev pub P : ℕ
   P = placeOf b entry
 
+  -- the 4-byte word at its place before
   abbrev pub old : ℕ
   old = wordAt entries section k
 
+  -- and after
   abbrev pub new : ℕ
   new = wordAt entries (f .section) k
 
-  -- T, and where a branch gets its displacement to T from
+  -- T
   abbrev pub T : ℕ
   T = branchTarget entry target
 
+  -- where a branch gets its displacement to T from
   abbrev pub branchImm : ℕ
   branchImm = field (displacement entry target P) 2 26
 
@@ -147,10 +152,11 @@ module _ (section : List ℕ) (b : Bases) (entries targets : List ℕ) (f : Fixe
 -- ---- of a source that holds the ADRP's page: so it is where the source is the ADRP's register
 
 module _ (section : List ℕ) (b : Bases) (entries targets : List ℕ) (f : Fixed) (k m : ℕ) where
-  -- the address that an entry refers to where it is not relaxed, and where it is
+  -- the address that entry i refers to where it is not relaxed
   abbrev pub G+A : ℕ → ℕ
   G+A i = slotOf (entryAt entries i) (targetAt targets i)
 
+  -- where it is relaxed
   abbrev pub S+A : ℕ → ℕ
   S+A i = targetOf (entryAt entries i) (targetAt targets i)
 
@@ -162,16 +168,18 @@ module _ (section : List ℕ) (b : Bases) (entries targets : List ℕ) (f : Fixe
   abbrev pub PageAt : (rd a : ℕ) → Type 0
   PageAt rd a = decode (new section b entries targets f k) ≡ instruction (ADRP rd (pageImm a (P section b entries targets f k)))
 
-  -- m's word is an ADD that makes an address, or a load or store that accesses it
+  -- m's word is an ADD that makes an address
   abbrev pub AddAt : (rd rn a : ℕ) → Type 0
   AddAt rd rn a =
       (decode (new section b entries targets f m) ≡ instruction (ADD 1 0 rd rn (field a 0 12))) × (Manual.addValue 1 0 (pageTo a) (field a 0 12) ≡ a)
 
+  -- m's word is a load or store that accesses an address
   abbrev pub AccessAt : (size v opc rt rn a : ℕ) → Type 0
   AccessAt size v opc rt rn a =
       (decode (new section b entries targets f m) ≡ instruction (LDST size v opc rt rn (a % 2 ^ 12 / movedBy (rowOf size v opc))))
       × (Manual.accessAddress (rowOf size v opc) (pageTo a) (a % 2 ^ 12 / movedBy (rowOf size v opc)) ≡ a)
 
+  -- the words at k, an ADRP into rd, and at m together, where no report names k
   pub record Pair (rd : ℕ) : Type 0 where
     -- PAGE21 and PAGEOFF12 make, or access, S + A; so do pairs whose page and page offset are of one address
     pub pair-add : {a : ℕ} → Page (entryAt entries k) (targetAt targets k) a → Offset (entryAt entries m) (targetAt targets m) a
@@ -194,6 +202,7 @@ module _ (section : List ℕ) (b : Bases) (entries targets : List ℕ) (f : Fixe
 
 -- ---- the claims
 
+-- what the fix-up makes of sections
 pub record Fixup : Type 0 where
   -- RULES 5.25: an entry that stands alone
   pub entry-alone : (section : List ℕ) (b : Bases) (entries targets slots : List ℕ) (f : Fixed) (k : ℕ)

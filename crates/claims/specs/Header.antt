@@ -49,10 +49,11 @@ withSpare r x =
       addend = r .addend;
     }
 
--- what the header says of records, and how many entries the reader fills; or its number
+-- what the header says of records, and how many entries the reader fills
 abbrev pub reads : (contents records : List ℕ) → Meaning × ℕ
 reads contents records = (meaningOf contents [] (recordsOf records), filledOf (answerOf (readRelocs contents records [] (replicate 48 0))))
 
+-- what the header says of records, and the number that the reader answers
 abbrev pub refuses : (contents records : List ℕ) → Meaning × ℕ
 refuses contents records = (meaningOf contents [] (recordsOf records), Reader.numberTo contents records [] (replicate 24 0))
 
@@ -60,6 +61,7 @@ refuses contents records = (meaningOf contents [] (recordsOf records), Reader.nu
 abbrev pub nop : List ℕ
 nop = bytes 4 0xd503201f
 
+-- what Apple's header says, and what is read
 pub record Header : Type 0 where
   -- RULES 2.10, 2.15, 2.17, 2.20, 2.22: the five records
   pub relocation-record : RoundTrip machRelSize machRelAt machRelFields machRelBytes

@@ -30,6 +30,7 @@ use Rattle.arm64_hint_work.specs.declared.tally.Tally.{Tally}
 use Rattle.arm64_hint_run.specs.Run.{runOf}
 use Rattle.arm64_hint_run.specs.declared.run.RunAnswer.the-variants.{Done}
 
+-- what is claimed of single hints
 pub record Hints : Type 2 where
   -- RULES 8.3: a hint is skipped where there is no such kind, or its word count is not the number of that kind's words
   pub skipped : (h : HintRecord) → isSkipped h ≡ (eqb (length (wordsOf (h .kind))) 0 || not (eqb (h .n) (length (wordsOf (h .kind)))))

@@ -45,6 +45,7 @@ abbrev pub SameRuns : (image hints hints′ entries entries′ : List ℕ) → T
 SameRuns image hints hints′ entries entries′ =
     (runOf image hints entries ≡ runOf image hints′ entries′) × (imageOf image hints entries ≡ imageOf image hints′ entries′)
 
+-- empty lists, and what is not looked at
 pub record Ignored : Type 0 where
   -- RULES 3.14: no records give no entries
   pub no-records : (contents sections slots : List ℕ) → length sections < 2 ^ 32 → readRelocs contents [] sections slots ≡ Walk.entries []

@@ -41,11 +41,12 @@ use Rattle.claims.specs.Lent.{words, place}
 abbrev pub placedOf : ℕ → Insns → List Placed
 placedOf n s = take n (placed (s .w0) (s .p0) ∷ placed (s .w1) (s .p1) ∷ placed (s .w2) (s .p2) ∷ [])
 
--- a word after a decision, and the words
+-- a word after a decision
 abbrev pub wordAfter : NewWord → ℕ → ℕ
 wordAfter Keep w = w
 wordAfter (Set u) w = u
 
+-- the words after a decision
 abbrev pub after : Decision → Insns → Insns
 after Declined s = s
 after Nine s = s
@@ -59,10 +60,11 @@ after (Rewritten p) s =
       p2 = s .p2;
     }
 
--- one word at an address, and two, one after another
+-- one word at an address
 abbrev pub one : (p w : ℕ) → List Placed
 one p w = placed w p ∷ []
 
+-- two words, one after another
 abbrev pub two : (p q w u : ℕ) → List Placed
 two p q w u = placed w p ∷ placed u q ∷ []
 
@@ -77,9 +79,11 @@ four =
     ∷ hint 2 1 16 8 (place 0 0 0xfffffffffffff000) (place 4 1 0xfffffffffffff004) none-at
     ∷ []
 
+-- their words before the run
 abbrev pub fourWords : List ℕ
 fourWords = words (0x90000000 ∷ 0xf9400401 ∷ 0x90008000 ∷ 0x91000000 ∷ 0x90000001 ∷ 0xbd29d025 ∷ [])
 
+-- and after it
 abbrev pub fourAfter : List ℕ
 fourAfter = words (0xd503201f ∷ 0x58000021 ∷ 0x90008000 ∷ 0x91000000 ∷ 0x90000001 ∷ 0xbd29d025 ∷ [])
 
@@ -90,9 +94,11 @@ beside =
     ∷ hint 7 0 0 16 (place 8 0 0x1008) (place 12 1 0x100c) none-at
     ∷ []
 
+-- their words before the run
 abbrev pub besideWords : List ℕ
 besideWords = words (0x90000000 ∷ 0xf9400401 ∷ 0x90000000 ∷ 0x91000c00 ∷ [])
 
+-- and after it
 abbrev pub besideAfter : List ℕ
 besideAfter = words (0xd503201f ∷ 0x58000021 ∷ 0x70ffffc0 ∷ 0xd503201f ∷ [])
 
@@ -107,12 +113,15 @@ late =
     ∷ hint 2 0 0 12 (place 4 0 0x1004) (place 8 1 0x1008) none-at
     ∷ []
 
+-- the words before the run
 abbrev pub lateWords : List ℕ
 lateWords = words (0x90000000 ∷ 0x90000000 ∷ 0xf9400401 ∷ [])
 
+-- and after it
 abbrev pub lateAfter : List ℕ
 lateAfter = words (0x90000000 ∷ 0xd503201f ∷ 0x58000001 ∷ [])
 
+-- what a run of hints keeps
 pub record Kept : Type 0 where
   -- RULES 1.11 to 1.14, 9.27 to 9.29: of every list of a run's hint steps with each hint once
   pub hints-kept : (image hints entries : List ℕ) (t : Tally) → runOf image hints entries ≡ Done t

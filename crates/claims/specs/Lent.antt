@@ -24,10 +24,11 @@ abbrev pub entry : (ty offset target : ℕ) → List ℕ
 entry ty offset target =
     relocBytes (record { offset = offset; ty = ty; size = 8; «is_pcrel» = 0; «is_subtracted» = 0; target = target; spare = 0; addend = 0 })
 
--- the flags of a resolved target that the examples set: has an address, GOT can be relaxed (Twelve.flags holds them against macho's)
+-- the flags of a resolved target that the examples set: has an address (Twelve.flags holds them against macho's)
 abbrev pub has-address : ℕ
 has-address = 2 ^ 2
 
+-- GOT can be relaxed
 abbrev pub can-relax-got : ℕ
 can-relax-got = 2 ^ 3
 
@@ -35,13 +36,15 @@ can-relax-got = 2 ^ 3
 abbrev pub target : (addr flags : ℕ) → Resolved
 target addr flags = record { addr = addr; got = 0; branch = addr; thunk = 0; helper = 0; flags = flags; zero = 0 }
 
+-- its bytes
 abbrev pub resolved : (addr flags : ℕ) → List ℕ
 resolved addr flags = resolvedBytes (target addr flags)
 
--- the halves of one reference, entries 0 and 1 of a hint run
+-- a half of one reference, as an entry
 abbrev pub half : ℕ → List ℕ
 half ty = relocBytes (record { offset = 0; ty = ty; size = 4; «is_pcrel» = 1; «is_subtracted» = 0; target = 5; spare = 0; addend = 0 })
 
+-- both of them
 abbrev pub pair : List ℕ
 pair = half ARM64-RELOC-PAGE21 ++ half ARM64-RELOC-PAGEOFF12
 

@@ -23,6 +23,7 @@ diagramAt k = getD classes k (class [] (λ w. none)) .diagram
 abbrev pub Tests : (diagram : List Part) (mask value : ℕ) → Type 0
 Tests diagram mask value = (w : ℕ) → eqb (bitAnd w mask) value ≡ matches diagram w
 
+-- the forms of the Arm manual
 pub record Manual : Type 0 where
   -- RULES 1.6, 7.8: decoding undoes encoding, and encoding decoding
   pub decode-encode : (i : Insn) → InRange i → decode (encode i) ≡ instruction i

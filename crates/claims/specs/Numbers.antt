@@ -12,30 +12,35 @@ use Rattle.hauklivo.specs.Reader as Reader
 use Rattle.hauklivo.specs.Fixup as Fixup
 use Rattle.claims.specs.Lent.{machRel, entry, resolved, half, pair, place, hint, plain}
 
--- the number of the reader without sections, of the fix-up, and of a hint run on an image of so many zeros
+-- the number of the reader without sections
 abbrev pub reader : (contents records slots : List ℕ) → ℕ
 reader contents records slots = Reader.numberTo contents records [] slots
 
+-- of the fix-up
 abbrev pub fixUp : (section : List ℕ) (base : ℕ) (entries targets slots : List ℕ) → ℕ
 fixUp section base entries targets slots = Fixup.numberTo section base 0 entries targets slots
 
+-- of a hint run on an image of so many zeros
 abbrev pub hintRun : (size : ℕ) (hints entries : List ℕ) → ℕ
 hintRun size hints entries = runNumber (runOf (bytes size 0) hints entries)
 
--- n zeros, and a NOP
+-- n zeros
 abbrev pub zeros : ℕ → List ℕ
 zeros n = replicate n 0
 
+-- a NOP
 abbrev pub nop : List ℕ
 nop = bytes 4 0xd503201f
 
--- a hint whose second word ends past its part, and one that names the entries 0 and 1
+-- a hint whose second word ends past its part
 abbrev pub pastPart : List ℕ
 pastPart = hint MCLOH-AdrpLdr 2 0 8 (place 0 0 0) (place 5 0 0) (place 0 0 0)
 
+-- a hint that names the entries 0 and 1
 abbrev pub entryOne : List ℕ
 entryOne = plain MCLOH-AdrpLdr 2 0
 
+-- the numbers of refused calls: an example of each, and their order
 pub record Numbers : Type 0 where
   -- RULES 3.1: 7 bytes of relocation records; 7 bytes of entries; 7 bytes of hints; 23 bytes of entries in a hint run
   pub number-1 : (reader [] (zeros 7) (zeros 24) ≡ 1)

@@ -43,13 +43,15 @@ Rewrites kind old new =
 abbrev pub fixUp : (word ty addr flags : ℕ) → Outcome
 fixUp word ty addr flags = outcomeOf (bytes 4 word) (basesOf 0x1000 0) (entry ty 0 0) (resolved addr flags) (bytes 24 0)
 
--- the word that it leaves: with no report, or with one of alignment 8
+-- the word that it leaves, with no report
 abbrev pub becomes : ℕ → Outcome
 becomes word = fixed (record { section = bytes 4 word; reports = [] })
 
+-- with a report of alignment 8
 abbrev pub misaligned : ℕ → Outcome
 misaligned word = fixed (record { section = bytes 4 word; reports = record { entry = 0; kind = 3; size = 8; place = 0; target = 0 } ∷ [] })
 
+-- the twelve examples of RULES 11
 pub record Twelve : Type 0 where
   -- RULES 11.1: ADR X0 to 0x1008 from 0x1000 is 10000040
   pub example-1 : adrWord 0 0x1008 0x1000 ≡ 0x10000040

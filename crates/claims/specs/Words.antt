@@ -31,6 +31,7 @@ use Rattle.arm64_insn.specs.declared.fix.Fit.the-variants.{Word, Misaligned}
 use Rattle.arm64_reader.specs.Check.{loadedBytes, gotFits, tlvpFits}
 use Rattle.arm64_reader.specs.Words.{isUnshiftedAdd, loadedBy}
 
+-- single words: what is decoded, made and patched, and what they mean
 pub record Words : Type 0 where
   -- RULES 7.16: `Adrp::decode` answers the manual's ADRP, and nothing else
   pub adrp-decodes : (w : ℕ) (a : A.Adrp) → adrpOf w ≡ AdrpWord.Adrp a → decode w ≡ instruction (ADRP (a .rd) (a .imm))
