@@ -39,10 +39,13 @@ fn read_body(fd: i32, head: Head, body: &mut [u8]) -> Head
     head
 }
 
-// The next record; its body is put at the front of `body`, and a title is written out.
+// The next record; its body is put at the front of `body`, and a title is written out. A list that could not be opened is broken.
 pub fn next(fd: i32, body: &mut [u8]) -> Head
     ensures { λ r. ⌜ r .len ≤ length (now (body .exit)) ⌝ }
 {
+    if fd < 0 {
+        return Head::bare(BROKEN);
+    }
     let mut bytes = [0u8; 16];
     let n = io::read_full(fd, &mut bytes);
     if n == 0 {
