@@ -49,8 +49,8 @@ enum hauklivo_number {
     /* The slots have fewer than 24 bytes for each input record; of a listing, more than 16,384
      * bytes of words, or fewer than 27 bytes of room for each word. */
     HAUKLIVO_SLOTS = 2,
-    /* A place is past the bytes that it reads or writes, a hint's word is past its part, or a hint's
-     * part is past the image. */
+    /* A place is past the bytes that it reads or writes, a hint's word is past its part, a hint's
+     * part is past the image, or fewer than 12 bytes are lent for a stub or thunk entry. */
     HAUKLIVO_BOUNDS = 3,
     /* An ADDEND record is the last record. */
     HAUKLIVO_LONE_ADDEND = 4,

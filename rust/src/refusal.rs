@@ -23,8 +23,8 @@ pub enum Refusal {
     /// 2: the slots have fewer than 24 bytes for each input record; of a listing, more than 16,384
     /// bytes of words, or fewer than 27 bytes of room for each word.
     Slots,
-    /// 3: a place is past the bytes that it reads or writes, a hint's word is past its part, or a hint's
-    /// part is past the image.
+    /// 3: a place is past the bytes that it reads or writes, a hint's word is past its part, a hint's part is past
+    /// the image, or fewer than 12 bytes are lent for a stub or thunk entry.
     Bounds,
     /// 4: an ADDEND record is the last record.
     LoneAddend,

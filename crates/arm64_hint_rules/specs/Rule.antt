@@ -1,4 +1,4 @@
--- A rule at work: what is decided of a hint's words, and the section that it leaves (RULES 8.11, 8.16 to 8.26; arch/arm64.rs, `loh_*`).
+-- A rule at work: what is decided of a hint's words, and the section that it leaves (RULES 8.11, 8.16 to 8.25; arch/arm64.rs, `loh_*`).
 use Prim.Native.Nat.{ℕ}
 use mathlib.Core.List.{List, [], _∷_}
 use mathlib.Core.Option.{Option}

@@ -16,7 +16,7 @@ pub record Claims : Type 2 where
   pub calls : Calls
   pub numbers : Numbers
   pub ignored : Ignored
-  -- public documents (RULES 1.4 to 1.8)
+  -- public documents (RULES 1.5 to 1.8); the nine of RULES 1.4 is among the hints
   pub manual : Manual
   pub words : Words
   pub header : Header

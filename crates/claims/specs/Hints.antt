@@ -41,7 +41,7 @@ pub record Hints : Type 2 where
   pub entries : (n : ℕ) (s : Insns) (r : Rels) → areCarried (wordsOf n) (r .r0 ∷ r .r1 ∷ r .r2 ∷ []) ≡ false → decide n s r ≡ Declined
   -- what is rewritten has the kind's words, by the manual's forms, or what may stand there instead
   pub words : (n : ℕ) (s : Insns) (r : Rels) (p : Plan) → decide n s r ≡ Rewritten p → AreWords (wordsOf n) (s .w0 ∷ s .w1 ∷ s .w2 ∷ [])
-  -- RULES 8.12: what each rewrite writes, and which kinds may answer nine: the table Written (arm64_hint_laws/proofs/Written)
+  -- RULES 8.12: which places each rewrite writes, and which kinds may answer nine: the table Written (arm64_hint_laws/proofs/Written)
   pub written : (kind : ℕ) (s : Insns) (r : Rels) → Written kind (decide kind s r)
   -- a kind of two words writes no third place
   pub two-words : (n : ℕ) (s : Insns) (r : Rels) (p : Plan) → length (wordsOf n) ≡ 2 → decide n s r ≡ Rewritten p → p .w2 ≡ Keep

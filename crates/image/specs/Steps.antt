@@ -1,5 +1,5 @@
 -- Steps on an image and a tally: each reads the words at its places, answers them, and its answer says which of the places get a new word
--- (RULES 9.22 to 9.26).
+-- (RULES 8.11, 8.30, 9.22).
 use mathlib.Core.Bool.{Bool}
 use mathlib.Core.List.{List}
 use mathlib.Core.Option.{Option}

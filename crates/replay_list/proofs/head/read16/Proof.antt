@@ -1,3 +1,4 @@
+-- `read16`: two bytes below 256 are the word `le 2` of their place.
 use mathlib.Core.Path.{sym, _∙_}
 use native.Mathlib.Omega.{arith}
 use native.Mathlib.Nat.{mod-eq-of-lt, add-zero}
@@ -11,23 +12,18 @@ use Rattle.replay_list.proofs.head.read16.Reads as reads
 use Rattle.replay_list.proofs.head.read16.Lts as lts
 use Rattle.replay_list.proofs.head.from_le_bytes.Reads as from-le-bytes-reads
 
--- src/head.rt:39:19
 shared-slice-read-from-le-bytes : tie.Need-shared-slice-read-from-le-bytes
 shared-slice-read-from-le-bytes c = search needs
 
--- src/head.rt:39:28
 add-from-le-bytes : tie.Need-add-from-le-bytes
 add-from-le-bytes c = search needs
 
--- src/head.rt:39:26
 shared-slice-read-from-le-bytes-2 : tie.Need-shared-slice-read-from-le-bytes-2
 shared-slice-read-from-le-bytes-2 c = search needs
 
--- src/head.rt:39:5
 from-le-bytes-requires : tie.Need-from-le-bytes-requires
 from-le-bytes-requires c κs = search needs
 
--- src/head.rt:35:1
 returns : tie.Need-returns
 unfolding le
 returns c =

@@ -1,3 +1,4 @@
+-- `are_filled`: up to place i the slots hold what is due (Slots); the first that does not decides.
 use mathlib.Core.Bool.{false≢true}
 use mathlib.Core.Path.{refl, sym}
 use Prim.Native.Nat.{_-_, _≤_}
@@ -18,44 +19,35 @@ Inv-loop slots records i₀ i = (i ≤ length slots) × Due slots records i
 abbrev μ-loop : tie.MeasureT-loop
 μ-loop slots records i₀ i = length slots - i
 
--- src/lent.rt:41:9
 returns : tie.Need-returns Inv-loop μ-loop
 returns c = (λ q. absurd (false≢true q), λ h. absurd (omega (arith, h .0)))
 
--- src/lent.rt:44:5
 loop-holds : tie.Need-loop-holds Inv-loop μ-loop
 loop-holds c = (search needs, λ k l. omega arith)
 
--- src/lent.rt:45:12
 shared-slice-read-if2 : tie.Need-shared-slice-read-if2 Inv-loop μ-loop
 shared-slice-read-if2 c = search needs
 
--- src/lent.rt:45:24
 due-requires : tie.Need-due-requires Inv-loop μ-loop
 due-requires c κs = search needs
 
--- src/lent.rt:46:13
 returns-2 : tie.Need-returns-2 Inv-loop μ-loop
 returns-2 c =
     let p = c .before .before .before .before .loop in
     (λ q. absurd (false≢true q), λ h. absurd (c .if2 .taken (h .1 (p .i) (c .before .before .before .loop-test .taken) ∙ sym (c .before .due .ensures))))
 
--- src/lent.rt:48:9
 add-i : tie.Need-add-i Inv-loop μ-loop
 add-i c = search needs
 
--- src/lent.rt:44:5
 loop-less : tie.Need-loop-less Inv-loop μ-loop
 loop-less c = search needs
 
--- src/lent.rt:44:5
 loop-again : tie.Need-loop-again Inv-loop μ-loop
 loop-again c =
     let p = c .before .before .before .before .loop in
     let a = c .before .before .before .before .before .before .before .before .args in
     (search needs, due-more (a .slots .now) (a .records .now) (p .i) (p .inv .1) (c .if2 .left ∙ c .before .due .ensures))
 
--- src/lent.rt:37:1
 returns-3 : tie.Need-returns-3 Inv-loop μ-loop
 returns-3 c =
     let p = c .before .loop in

@@ -1,3 +1,4 @@
+-- `due`: a byte of the records, or of the pattern after them.
 use borrow.Author.Tests.{lt-ltb, le-ltb}
 use Rattle.util.specs.Choice.{choose}
 use Rattle.replay_list.specs.Lent.{dueAt}
@@ -8,20 +9,16 @@ use Rattle.replay_list.proofs.lent.due.Reads as reads
 use Rattle.replay_list.proofs.lent.due.Lts as lts
 use Rattle.replay_list.proofs.lent.pattern.Reads as pattern-reads
 
--- src/lent.rt:31:16
 shared-slice-read-result : tie.Need-shared-slice-read-result
 shared-slice-read-result c = search needs
 
--- src/lent.rt:31:9
 returns : tie.Need-returns
 unfolding dueAt choose
 returns c = simp (lt-ltb _ _ (c .before .if1 .taken))
 
--- src/lent.rt:33:5
 pattern-requires : tie.Need-pattern-requires
 pattern-requires c κs = search needs
 
--- src/lent.rt:27:1
 returns-2 : tie.Need-returns-2
 unfolding dueAt choose
 returns-2 c = simp (c .pattern .ensures, le-ltb _ _ (c .before .if1 .left))

@@ -1,3 +1,4 @@
+-- `put_pattern`: up to place i the slots hold the pattern (Slots); one more store keeps that.
 use mathlib.Core.Path.{refl}
 use Prim.Native.Nat.{_-_, _≤_}
 use mathlib.Core.List.{[]}
@@ -18,37 +19,29 @@ Inv-loop slots₀ i₀ slots i = (i ≤ length slots₀) × (length slots ≡ le
 abbrev μ-loop : tie.MeasureT-loop
 μ-loop slots₀ i₀ slots i = length slots₀ - i
 
--- src/lent.rt:20:5
 loop-holds : tie.Need-loop-holds Inv-loop μ-loop
 loop-holds c = (search needs, refl, λ k l. omega arith)
 
--- src/lent.rt:21:20
 pattern-requires : tie.Need-pattern-requires Inv-loop μ-loop
 pattern-requires c κs = search needs
 
--- src/lent.rt:21:9
 slice-write-slots : tie.Need-slice-write-slots Inv-loop μ-loop
 slice-write-slots c = search needs
 
--- src/lent.rt:22:9
 add-i : tie.Need-add-i Inv-loop μ-loop
 add-i c = search needs
 
--- src/lent.rt:20:5
 loop-less : tie.Need-loop-less Inv-loop μ-loop
 loop-less c = search needs
 
--- src/lent.rt:20:5
 loop-again : tie.Need-loop-again Inv-loop μ-loop
 loop-again c =
     let p = c .before .before .loop in
     (search needs, simp length-set (p .inv .1), due-stored (p .slots) [] (p .i) _ (omega (arith, p .inv .1)) (p .inv .2) (c .pattern .ensures ∙ sym (due-pattern (p .i))))
 
--- src/lent.rt:16:1
 same-length : tie.Need-same-length Inv-loop μ-loop
 same-length c = search needs
 
--- src/lent.rt:16:1
 returns : tie.Need-returns Inv-loop μ-loop
 returns c =
     let p = c .before .loop in

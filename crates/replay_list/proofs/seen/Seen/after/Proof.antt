@@ -1,3 +1,4 @@
+-- `Seen::after`: the definition tests the same things in the same order; the bounds are arithmetic.
 use native.Mathlib.Omega.{arith}
 use borrow.Author.Tests.{eq-eqb, ne-eqb}
 use Rattle.util.specs.Choice.{choose}
@@ -10,50 +11,39 @@ use Rattle.replay_list.proofs.seen.Seen.after.Lts as lts
 use Rattle.io.proofs.write_all.Reads as write-all-reads
 use Rattle.replay_list.proofs.seen.print_count.Reads as print-count-reads
 
--- src/seen.rt:46:13
 returns : tie.Need-returns
 unfolding after choose
 returns c = (simp (eq-eqb _ _ (c .if1 .taken)), search needs, search needs)
 
--- src/seen.rt:54:13
 print-count-requires : tie.Need-print-count-requires
 print-count-requires c κs = search needs
 
--- src/seen.rt:56:23
 sub-t7 : tie.Need-sub-t7
 sub-t7 c = search needs
 
--- src/seen.rt:55:13
 returns-2 : tie.Need-returns-2
 unfolding after choose
 returns-2 c = (simp (ne-eqb _ _ (c .before .before .before .if1 .left), eq-eqb _ _ (c .before .before .if2 .taken)), search needs, search needs)
 
--- src/seen.rt:64:23
 sub-t8 : tie.Need-sub-t8
 sub-t8 c = search needs
 
--- src/seen.rt:65:22
 add-t9 : tie.Need-add-t9
 add-t9 c = search needs
 
--- src/seen.rt:66:23
 add-t10 : tie.Need-add-t10
 add-t10 c = search needs
 
--- src/seen.rt:63:13
 returns-3 : tie.Need-returns-3
 unfolding after choose
 returns-3 c = (simp (ne-eqb _ _ (c .before .before .before .before .before .if1 .left), ne-eqb _ _ (c .before .before .before .before .if2 .left), c .before .before .before .if3 .taken), search needs, search needs)
 
--- src/seen.rt:70:38
 slice-aggregate-write-all : tie.Need-slice-aggregate-write-all
 slice-aggregate-write-all c = search needs
 
--- src/seen.rt:70:9
 write-all-requires : tie.Need-write-all-requires
 write-all-requires c κs = search needs
 
--- src/seen.rt:41:5
 returns-4 : tie.Need-returns-4
 unfolding after choose
 returns-4 c = (simp (ne-eqb _ _ (c .before .before .before .before .if1 .left), ne-eqb _ _ (c .before .before .before .if2 .left), c .before .before .if3 .left), search needs, search needs)
