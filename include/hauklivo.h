@@ -318,7 +318,7 @@ uint8_t hauklivo_write_thunk(uint8_t *bytes, size_t bytes_len, uint64_t address,
 
 /*
  * Works hints on an image whose bytes are fixed up: objects by rising number, in each the hints of
- * the kinds 2 to 8 by their place in the list, then those of kind 1. Hints that come by rising object
+ * the kinds 2 to 8 by their position in the list, then those of kind 1. Hints that come by rising object
  * number take time linear in their number; another order takes walks over the list for each object,
  * and quadratic time: sort them.
  *

@@ -175,7 +175,7 @@ pub fn write_thunk(bytes: &mut [u8], address: u64, target: u64) -> Result<(), Re
 }
 
 /// Works hints on an image whose bytes are fixed up, and says what became of them: objects by rising
-/// number, in each the hints of the kinds 2 to 8 by their place in the list, then those of kind 1.
+/// number, in each the hints of the kinds 2 to 8 by their position in the list, then those of kind 1.
 /// Hints that come by rising object number take time linear in their number; another order takes
 /// walks over the list for each object, and quadratic time: sort them.
 ///
