@@ -5,7 +5,7 @@ extern _Thread_local int channel;
 _Thread_local int retries = 3;
 static int table[4] = {1, 2, 3, 4};
 int *cells[] = {&table[0], &table[2], &gain};
-const char *names[] = {"upper", "lower", "flask"};
+const char *names[] = {"upper", "lower", "inner"};
 
 static int weigh(int x) { return x * table[x & 3]; }
 

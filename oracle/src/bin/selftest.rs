@@ -92,7 +92,7 @@ fn sequence(kind: u8, list: &[u32]) -> Vec<u32> {
     image.chunks_exact(4).map(|w| u32::from_le_bytes(w.try_into().unwrap())).collect()
 }
 
-fn bench_pieces() {
+fn twelve_examples() {
     assert_eq!(Arm64::adr(0, 0x1008, 0x1000), 0x1000_0040);
     assert_eq!(Arm64::adr(1, 0xfff, 0x1000), 0x70ff_ffe1);
     assert_eq!(Arm64::to_literal(0xf940_0001, 0x1010, 0x1004), Some(0x5800_0061));
@@ -422,7 +422,7 @@ fn overlaps() {
 }
 
 fn main() {
-    bench_pieces();
+    twelve_examples();
     stops();
     facts();
     overlaps();
