@@ -12,3 +12,5 @@ pub mod Literal
 pub mod Branch
 pub mod Stub
 pub mod Fix
+pub mod ManualAssembled
+pub mod ManualLines

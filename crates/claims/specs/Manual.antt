@@ -12,8 +12,8 @@ use Rattle.arm64_insn.specs.Encoding.{adr, adrp, addImmediate, add, addUnshifte
 use Rattle.arm64_insn.specs.LoadStoreTable as Table
 use Rattle.arm64_insn.specs.Fix.{quad}
 use Rattle.arm64_insn.specs.Manual.{Insn, Class, class, classes, instruction, none, encode, InRange, decode, allocated, vIn, sizeIn}
-use Rattle.arm64_insn.proofs.ManualAssembled.{Made, assembled}
-use Rattle.arm64_insn.proofs.ManualLines.{lines, literalLines, lineOf, literalLineOf, widenedSigned, namedSigned}
+use Rattle.arm64_insn.specs.ManualAssembled.{Made, assembled}
+use Rattle.arm64_insn.specs.ManualLines.{lines, literalLines, lineOf, literalLineOf, widenedSigned, namedSigned}
 
 -- the diagram of class k of the manual's nine
 abbrev pub diagramAt : ℕ → List Part
@@ -54,10 +54,10 @@ pub record Manual : Type 0 where
       × Tests br 0xffff_fc1f 0xd61f_0000
       × Tests nop 0xffff_ffff 0xd503_201f
       × Tests movz 0x7f80_0000 0x5280_0000
-  -- RULES 11.14: forms encode as llvm-mc assembles them, and decode back (the list: arm64_insn/proofs/ManualAssembled)
+  -- RULES 11.14: forms encode as llvm-mc assembles them, and decode back (the list: arm64_insn/specs/ManualAssembled)
   pub assembled-encodes : map (λ (m : Made). encode (m .insn)) assembled ≡ map (λ (m : Made). m .word) assembled
   pub assembled-decodes : map (λ (m : Made). decode (m .word)) assembled ≡ map (λ (m : Made). instruction (m .insn)) assembled
-  -- the tables of loads and stores, and of literal loads, are what llvm-objdump prints (the lines: arm64_insn/proofs/ManualLines)
+  -- the tables of loads and stores, and of literal loads, are what llvm-objdump prints (the lines: arm64_insn/specs/ManualLines)
   pub table-printed : map lineOf Table.unsignedImmediate ≡ lines
   pub literal-table-printed : map literalLineOf Table.literal ≡ literalLines
   -- the loads that copy the sign are LDRSB, LDRSH and LDRSW
