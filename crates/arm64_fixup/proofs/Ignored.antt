@@ -10,10 +10,9 @@ use native.Mathlib.Nat.{eq-or-lt-of-le, mul-suc, mul-le-mul-left}
 use borrow.Author.Tests.{ltb-true, ltb-false}
 use lib.Dec.{eqb, ltb, lit≤}
 use lib.ListN.{length, set, length-set}
-use lib.Seq.{getD-set-other}
 use Rattle.util.specs.Choice.{choose}
 use Rattle.util.specs.Word.{le}
-use Rattle.util.proofs.Word.{le-ext}
+use Rattle.util.proofs.Word.{le-set}
 use Rattle.macho.specs.Reloc.{relocAt}
 use Rattle.macho.specs.Resolved.{resolvedAt}
 use Rattle.macho.specs.declared.reloc.Reloc.{Reloc}
@@ -173,10 +172,6 @@ module _ (b : Bases) (entries entries′ targets targets′ : List ℕ) (agree :
           (same-work (length section) e section (entryCount entries) (omega arith) ∙ ap (λ (n : ℕ). fixTo b entries′ targets′ section n) same-count)))
 
 -- ---- the spare bytes of one entry
-
--- a byte stored elsewhere
-le-set : (n : ℕ) (s : List ℕ) (at p v : ℕ) → (p < at) ⊎ (at + n ≤ p) → le n (set s p v) at ≡ le n s at
-le-set n s at p v h = le-ext n (set s p v) s at at (λ j l. getD-set-other s p (at + j) v 0 (λ e. ⊎-elim (λ w. omega arith) (λ w. omega arith) h))
 
 -- spare byte j of entry i is in no other field of any entry
 elsewhere : (i j k off n : ℕ) → j < 4 → (off + n ≤ 12) ⊎ ((16 ≤ off) × (off + n ≤ 24))

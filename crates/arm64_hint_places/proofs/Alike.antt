@@ -1,7 +1,7 @@
 -- What is ignored of a hint: its bytes 2 and 3, and the places past its word count. Hints that agree in the rest are skipped, read and given their entries
 -- alike. Carried by equal fields; a byte of another hint, or a word before a byte, is as it was.
 use mathlib.Core.Path.{_≡_, refl, sym, ap, ap₂, _∙_, subst}
-use mathlib.Core.Logic.{_⊎_, inl, ⊎-elim}
+use mathlib.Core.Logic.{_⊎_, inr, ⊎-elim}
 use mathlib.Core.Bool.{Bool, true, false, _||_, not}
 use mathlib.Core.List.{List, [], _∷_}
 use Prim.Native.Nat.{ℕ, _+_, _*_, _≤_, _<_}
@@ -10,7 +10,7 @@ use lib.Dec.{eqb}
 use lib.ListN.{set}
 use lib.Seq.{getD-set-other}
 use Rattle.util.specs.Word.{le}
-use Rattle.util.proofs.Word.{le-ext}
+use Rattle.util.proofs.Word.{le-set}
 use Rattle.util.proofs.Cases.{same-or}
 use Rattle.macho.specs.Record.{Field, _of_, unused}
 use Rattle.macho.specs.Hint.{insnSize, hintSize, insnAt, hintAt, wordCount, hintOf}
@@ -48,11 +48,6 @@ module _ (h g : HintRecord) (alike : Alike h g) where
   same-rels entries = rw (alike .places)
 
 -- ---- one byte
-
--- a word beside a byte that is stored
-pub le-set : (n : ℕ) (s : List ℕ) (p q v : ℕ) → (p + n ≤ q) ⊎ (q < p) → le n (set s q v) p ≡ le n s p
-le-set n s p q v h =
-    le-ext n (set s q v) s p p (λ k l. getD-set-other s q (p + k) v 0 (λ e. ⊎-elim (λ w. omega arith) (λ w. omega arith) h))
 
 -- the same hint
 same-hint : {h g : HintRecord} → h ≡ g → Alike h g
@@ -118,7 +113,7 @@ module _ (hints : List ℕ) (k i v : ℕ) where
   }
     where
       before : (n p : ℕ) → p + n ≤ hintSize * k + i → le n changed p ≡ le n hints p
-      before n p l = le-set n hints p (hintSize * k + i) v (inl l)
+      before n p l = le-set n hints p (hintSize * k + i) v (inr l)
 
       kind : le 1 changed (hintSize * k) ≡ le 1 hints (hintSize * k)
       kind = before 1 (hintSize * k) (omega arith)

@@ -12,6 +12,7 @@ use lib.ListN.{length, getD, set, length-set}
 use Rattle.util.specs.Choice.{choose}
 use Rattle.util.specs.Word.{le}
 use Rattle.util.specs.All.{All, empty, more}
+use Rattle.util.proofs.Word.{le-set}
 use Rattle.util.proofs.Choice.{choose-true, choose-false}
 use Rattle.util.proofs.Cases.{less-or}
 use Rattle.macho.specs.Reloc.{relocSize, relocAt}
@@ -31,7 +32,6 @@ use Rattle.arm64_hint_order.proofs.Lists.{once-inside}
 use Rattle.arm64_hint_order.proofs.Own.{own-once}
 use Rattle.arm64_hint_order.proofs.Same.{run-same}
 use Rattle.arm64_hint_places.specs.Hint.{isSkipped, insnsOf, relsOf, Named}
-use Rattle.arm64_hint_places.proofs.Alike.{le-set}
 use Rattle.arm64_hint_check.specs.Check.{checkAll}
 use Rattle.arm64_hint_check.proofs.Checks.{ready, each-fit}
 use Rattle.arm64_hint_rules.specs.Rule.{outcomeOf, newsOf}
@@ -131,8 +131,8 @@ spare-bytes entries k i v h l =
   where
     beside : (j n o : ℕ) → o + n ≤ 12 → le n (set entries (relocSize * k + i) v) (relocSize * j + o) ≡ le n entries (relocSize * j + o)
     beside j n o b =
-        le-set n entries (relocSize * j + o) (relocSize * k + i) v (less-or k j (λ w. inr (omega arith)) (λ w. inl (omega arith)))
+        le-set n entries (relocSize * j + o) (relocSize * k + i) v (less-or k j (λ w. inl (omega arith)) (λ w. inr (omega arith)))
 
     after : (j : ℕ) → le 8 (set entries (relocSize * k + i) v) (relocSize * j + 16) ≡ le 8 entries (relocSize * j + 16)
     after j =
-        le-set 8 entries (relocSize * j + 16) (relocSize * k + i) v (less-or j k (λ w. inl (omega arith)) (λ w. inr (omega arith)))
+        le-set 8 entries (relocSize * j + 16) (relocSize * k + i) v (less-or j k (λ w. inr (omega arith)) (λ w. inl (omega arith)))
