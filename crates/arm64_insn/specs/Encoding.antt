@@ -1,4 +1,4 @@
--- The encoding diagrams of the A64 instructions in scope, from bit 0 upwards (Arm Architecture Reference Manual, C4.1 and C6.2; RULES 7.3, 7.4).
+-- The encoding diagrams of the A64 instructions in scope, from bit 0 upwards (Arm Architecture Reference Manual, C4.1, C6.2, C7.2; RULES 7.3, 7.4).
 use mathlib.Core.List.{List, [], _∷_}
 use Rattle.util.specs.Diagram.{Part, free, fixed}
 

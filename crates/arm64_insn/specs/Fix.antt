@@ -27,7 +27,8 @@ adrpWith x hi lo = field x 31 1 * 2 ^ 31 + field x 24 5 * 2 ^ 24 + field x 0 5 +
 abbrev pub quad : List Part
 quad = free 23 ∷ fixed 1 1 ∷ free 2 ∷ fixed 1 1 ∷ free 3 ∷ fixed 2 0 ∷ []
 
--- log2 of the bytes that imm12 counts: 0 where the word is no load or store, unallocated ones being taken as loads and stores too
+-- log2 of the bytes that imm12 counts: of the words of loads and stores the size field, but 4 for 16 bytes. So it is for unallocated ones, and for PRFM
+-- (size 11, V 0, opc 10), which moves nothing and counts 8. Of any other word 0
 unfoldable pub scaleOf : ℕ → ℕ
 scaleOf x = choose (matches loadStore x) (choose (matches quad x) 4 (field x 30 2)) 0
 

@@ -1,4 +1,5 @@
--- The tables "Load/store register (unsigned immediate)" and "Load register (literal)" (Arm Architecture Reference Manual, C4.1, Loads and Stores; RULES 7.5 to 7.7).
+-- The tables "Load/store register (unsigned immediate)" and "Load register (literal)" (Arm Architecture Reference Manual, C4.1, Loads and Stores, with the
+-- operations of C6.2 and, for vector registers, C7.2; RULES 7.5 to 7.7).
 use Prim.Native.Nat.{ℕ, _+_, _*_, _%_, _^_}
 use mathlib.Core.Bool.{Bool, true, false}
 use mathlib.Core.List.{List, [], _∷_}

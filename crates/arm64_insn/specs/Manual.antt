@@ -1,4 +1,4 @@
--- The A64 instructions in scope, how one is encoded, and which one a word is (Arm Architecture Reference Manual, C4.1 and C6.2; RULES 7.8, 7.9).
+-- The A64 instructions in scope, how one is encoded, and which one a word is (Arm Architecture Reference Manual, C4.1, C6.2, C7.2; RULES 7.8, 7.9).
 -- A word that is none of these may be any other instruction; of those nothing is said, but for the unallocated words of the classes in scope.
 use Prim.Native.Nat.{ℕ, zero, suc, _+_, _*_, _/_, _%_, _^_, _<_}
 use mathlib.Core.Path.{_≡_}

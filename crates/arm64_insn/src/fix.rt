@@ -19,7 +19,7 @@ pub fn write_adrp_word(insn: u32, hi: u64, lo: u64) -> u32
     (insn & !Adrp::IMM) + page_offset(hi, lo)
 }
 
-// log2 of the bytes that imm12 of an ADD, LDR or STR counts.
+// log2 of the bytes that imm12 of a word counts.
 fn scale_of(insn: u32) -> u32
     ensures { λ r. ⌜ r ≡ scaleOf insn ⌝ }
 {

@@ -13,6 +13,7 @@ pub enum Access {
 }
 
 // What the size, V and opc fields say. A vector register's 16-byte access takes the encodings of the sign-extending byte loads.
+// With size 11 and opc 1x there are PRFM (V 0, opc 10) and three unallocated encodings.
 fn access_of(size: u32, v: u32, opc: u32) -> Access
     requires { ⌜ (size < 4) × (v < 2) × (opc < 4) ⌝ }
     ensures { λ r. ⌜ r ≡ accessOf size v opc ⌝ }
