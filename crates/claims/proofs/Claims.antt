@@ -9,6 +9,7 @@ use Rattle.claims.proofs.Header.{header}
 use Rattle.claims.proofs.Fixup.{fixup}
 use Rattle.claims.proofs.Hints.{hints}
 use Rattle.claims.proofs.Kept.{kept}
+use Rattle.claims.proofs.Lister.{lister}
 use Rattle.claims.proofs.Twelve.{twelve}
 
 pub claims : Claims
@@ -23,5 +24,6 @@ claims =
       fixup = fixup;
       hints = hints;
       kept = kept;
+      lister = lister;
       twelve = twelve;
     }

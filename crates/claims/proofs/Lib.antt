@@ -9,4 +9,5 @@ pub mod Header
 pub mod Fixup
 pub mod Hints
 pub mod Kept
+pub mod Lister
 pub mod Twelve

@@ -8,6 +8,7 @@ use Rattle.claims.specs.Header.{Header}
 use Rattle.claims.specs.Fixup.{Fixup}
 use Rattle.claims.specs.Hints.{Hints}
 use Rattle.claims.specs.Kept.{Kept}
+use Rattle.claims.specs.Lister.{Lister}
 use Rattle.claims.specs.Twelve.{Twelve}
 
 -- all that is claimed, by record
@@ -24,5 +25,7 @@ pub record Claims : Type 2 where
   pub hints : Hints
   -- what a hint keeps (RULES 1.9 to 1.14)
   pub kept : Kept
+  -- the word lister (RULES 10)
+  pub lister : Lister
   -- the twelve examples (RULES 11)
   pub twelve : Twelve

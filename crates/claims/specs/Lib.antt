@@ -9,5 +9,6 @@ pub mod Header
 pub mod Fixup
 pub mod Hints
 pub mod Kept
+pub mod Lister
 pub mod Twelve
 pub mod Lent
