@@ -7,7 +7,7 @@ use Prim.Native.Nat.{ℕ, zero, suc, _+_, _*_, _/_, _%_, _^_, _≤_, _<_}
 use native.Mathlib.Omega.{arith}
 use native.Mathlib.Nat.{mod-eq-of-lt, zero-add, add-zero, not-suc-le-zero}
 use borrow.Author.Tests.{ltb-true, ltb-false, eqb-true}
-use lib.Dec.{eqb, ltb, lit<, lit≤}
+use lib.Dec.{eqb, ltb}
 use lib.ListN.{length, getD, take, drop, length-append}
 use lib.Seq.{sets, sets-eq, take-all, length-take-le}
 use Rattle.util.specs.All.{All, empty, more}
@@ -38,7 +38,7 @@ use Rattle.arm64_insn.specs.declared.ldst.LoadStoreWord.the-variants as LoadSto
 use Rattle.arm64_insn.proofs.Cells.{each-cell}
 use Rattle.lister_text.specs.Class.{classBy, classOf}
 use Rattle.lister_text.specs.Text.{digitOf, hexOf, className, lineOf, linesOf, textOf}
-use Rattle.lister_text.specs.Listing.{lines, listOf, outAfter}
+use Rattle.lister_text.specs.Listing.{lines, outAfter}
 use Rattle.lister_text.specs.declared.class.Class.{Class}
 use Rattle.lister_text.specs.declared.class.Class.the-variants.{Adrp, Add, Load, Store, Other}
 use Rattle.lister_text.proofs.Classes.{loads, stores}
@@ -185,10 +185,12 @@ call-lists s out count h o n =
     let text : textOf s ≡ lines s = whole-words s h o in
     let left : Leaves s out (Filled (length (lines s))) (sets out 0 (lines s)) =
     list-whole s out h n o (length (lines s)) (sets out 0 (lines s)) (record { ends = sym (zero-add (length (lines s))); stored = refl }) in
+    let stored : sets out 0 (lines s) ≡ lines s ++ drop (length (lines s)) out =
+    sets-eq (lines s) out 0 (omega (arith, lines-length s (length s / 4))) ∙ ap (λ (k : ℕ). lines s ++ drop k out) (zero-add (length (lines s))) in
     rw text (
       number s out _ _ left,
       sym (ap (λ (a : Answer). lentCount a count) (left .0)),
-      sym (left .1) ∙ sets-eq (lines s) out 0 (omega (arith, lines-length s (length s / 4))) ∙ ap (λ (k : ℕ). lines s ++ drop k out) (zero-add (length (lines s))),
+      sym (left .1) ∙ stored,
     )
 
 pub lister : Lister

@@ -1,24 +1,196 @@
--- Which number: the examples that each call's crate computed.
-use mathlib.Core.Path.{_≡_, ap}
+-- Which number: the examples that each call's crate computed; the first entry or hint that has one, by induction over those before it; the lengths, by the
+-- choices of their checks.
+use mathlib.Core.Path.{_≡_, refl, ap, _∙_}
+use mathlib.Core.Bool.{Bool, true, false, _&&_, _||_, not}
+use mathlib.Core.Logic.{_⊎_, ⊎-elim}
 use mathlib.Core.List.{List}
-use Prim.Native.Nat.{ℕ, _/_, _%_, _^_, _≤_}
-use lib.ListN.{getD}
-use Rattle.macho.specs.Refusal.{answerNumber}
-use Rattle.arch.specs.Walk.{Reading, answerOf}
+use Prim.Native.Nat.{ℕ, zero, suc, _*_, _/_, _%_, _^_, _≤_, _<_}
+use native.Mathlib.Omega.{arith}
+use native.Mathlib.Nat.{not-suc-le-zero, eq-or-lt-of-le, le-of-suc-le-suc}
+use borrow.Author.Tests.{eq-eqb, ne-eqb, le-leb, lt-leb, lt-ltb, eqb-true, eqb-false, ltb-true, ltb-false}
+use lib.Dec.{eqb, ltb, leb}
+use lib.ListN.{length, getD}
+use Rattle.util.specs.Choice.{choose}
+use Rattle.util.specs.Word.{le, bytes}
+use Rattle.macho.specs.MachRel.{machRelAt}
+use Rattle.macho.specs.Record.{bytesOf}
+use Rattle.macho.specs.Reloc.{relocSize, relocAt, relocBytes}
+use Rattle.macho.specs.Resolved.{resolvedSize, resolvedAt, resolvedBytes, wellFormed}
+use Rattle.macho.specs.Report.{reportSize}
+use Rattle.macho.specs.Hint.{hintSize, hintCount, hintOf}
+use Rattle.macho.specs.Refusal.{numberOf, answerNumber}
+use Rattle.macho.specs.declared.refusal.Refusal.{Refusal}
+use Rattle.macho.specs.declared.refusal.Check.{Check}
+use Rattle.macho.specs.declared.refusal.Check.the-variants.{Fit, Refused}
+use Rattle.arch.specs.Entry.{targeted}
+use Rattle.arch.specs.Table.{recordsFrom, recordsOf, subtractedAt, lengthsOf}
+use Rattle.arch.specs.Target.{targetOf}
+use Rattle.arch.specs.Walk.{Reading, readFrom, readAll, answerOf}
+use Rattle.arm64_reader.specs.Support.{formsOf, supportedOf}
+use Rattle.arm64_reader.specs.Check.{pointer32, checkReloc}
+use Rattle.arm64_reader.specs.Record.{addendOf, recordOf, stepAt}
+use Rattle.arm64_reader.specs.Read.{readRecords, readRelocs}
 use Rattle.arm64_reader.proofs.Examples.{turned-down, first-number}
 use Rattle.arm64_reader.proofs.Lengths as Lengths
+use Rattle.arm64_fixup_entry.specs.Target.{widthOf}
+use Rattle.arm64_fixup_entry.specs.Check.{checkOf}
+use Rattle.arm64_fixup.specs.Walk.{entryCount, consumed, checkAt, checkTo}
+use Rattle.arm64_fixup.specs.Answer as Answer
+use Rattle.arm64_fixup.specs.Answer.{disagree, basesOf, outcomeOf}
 use Rattle.arm64_fixup.proofs.Examples as Fix
-use Rattle.arm64_hint_run.specs.Run.{runNumber}
-use Rattle.arm64_hint_run.specs.declared.run.RunAnswer.{RunAnswer}
+use Rattle.arm64_hint_check.specs.Check as HintCheck
+use Rattle.arm64_hint_check.specs.Check.{isList, checkAll}
+use Rattle.arm64_hint_run.specs.Run.{runNumber, runOf}
 use Rattle.arm64_hint_run.proofs.Examples as Hints
-use Rattle.arm64_hint_run.proofs.Answers.{too-many-hints, too-many-entries}
+use Rattle.arm64_hint_run.proofs.Answers.{not-lists, too-many-hints, too-many-entries, number-is}
+use Rattle.hauklivo.specs.Reader as Reader
+use Rattle.hauklivo.specs.Fixup as Fixup
 use Rattle.claims.specs.Numbers.{Numbers}
 
 -- one of a list of equal numbers
 at : {l m : List ℕ} (k : ℕ) → l ≡ m → getD l k 0 ≡ getD m k 0
 at k e = ap (λ (l : List ℕ). getD l k 0) e
 
+-- ---- the first that has a number
+
+-- of checks in order: one more after fit ones is its own, one more after a refusal changes nothing
+module _ (each upto : ℕ → Check) (none : upto 0 ≡ Fit) (onward : (k : ℕ) → upto k ≡ Fit → upto (suc k) ≡ each k)
+    (stays : (k : ℕ) (x : Refusal) → upto k ≡ Refused x → upto (suc k) ≡ Refused x) where
+  all-fit : (i : ℕ) → ((j : ℕ) → j < i → each j ≡ Fit) → upto i ≡ Fit
+  all-fit zero fit = none
+  all-fit (suc i) fit = onward i (all-fit i (λ j l. fit j (omega arith))) ∙ fit i (omega arith)
+
+  earliest : (i : ℕ) (x : Refusal) → ((j : ℕ) → j < i → each j ≡ Fit) → each i ≡ Refused x → (k : ℕ) → i < k → upto k ≡ Refused x
+  earliest i x fit e zero h = absurd (not-suc-le-zero h)
+  earliest i x fit e (suc k) h =
+      ⊎-elim (λ (q : i ≡ k). rw (← q) (onward i (all-fit i fit) ∙ e)) (λ (l : i < k). stays k x (earliest i x fit e k l))
+      (eq-or-lt-of-le (le-of-suc-le-suc h))
+
+fix-up-earliest : (section : List ℕ) (base tls : ℕ) (entries targets slots : List ℕ) (i : ℕ) (x : Refusal)
+    → Answer.checkLists (length entries) (length targets) (length slots) ≡ Fit → i < entryCount entries
+    → ((j : ℕ) → j < i → checkAt (length section) (basesOf base tls) entries targets j ≡ Fit)
+    → checkAt (length section) (basesOf base tls) entries targets i ≡ Refused x
+    → Fixup.numberTo section base tls entries targets slots ≡ numberOf x
+unfolding outcomeOf checkTo
+fix-up-earliest section base tls entries targets slots i x lists h fit e =
+    let found : checkTo (length section) (basesOf base tls) entries targets (entryCount entries) ≡ Refused x =
+    earliest (checkAt (length section) (basesOf base tls) entries targets) (checkTo (length section) (basesOf base tls) entries targets)
+    refl (λ k q. rw q) (λ k y q. rw q) i x fit e (entryCount entries) h in
+    rw (lists, found)
+
+hint-run-earliest : (image hints entries : List ℕ) (k : ℕ) (x : Refusal)
+    → HintCheck.checkLists (length hints) (length entries) ≡ Fit → k < hintCount hints
+    → ((j : ℕ) → j < k → HintCheck.checkHint (length image) (length entries / relocSize) (hintOf hints j) ≡ Fit)
+    → HintCheck.checkHint (length image) (length entries / relocSize) (hintOf hints k) ≡ Refused x
+    → runNumber (runOf image hints entries) ≡ numberOf x
+unfolding checkAll HintCheck.checkTo
+hint-run-earliest image hints entries k x lists h fit e =
+    let found : HintCheck.checkTo (length image) (length entries / relocSize) hints (hintCount hints) ≡ Refused x =
+    earliest (λ j. HintCheck.checkHint (length image) (length entries / relocSize) (hintOf hints j))
+    (HintCheck.checkTo (length image) (length entries / relocSize) hints) refl (λ k q. rw q) (λ k y q. rw q) k x fit e (hintCount hints) h in
+    number-is image hints entries ∙ rw (lists, found)
+
+-- ---- lengths
+
+module _ (contents records sections slots : List ℕ) where
+  -- the number of what the reader reads to
+  read-number : {a : Reading} → readRelocs contents records sections slots ≡ a
+      → Reader.numberTo contents records sections slots ≡ answerNumber (answerOf a)
+  read-number e = ap (λ (a : Reading). answerNumber (answerOf a)) e
+
+  many-records : 2 ^ 32 ≤ length records / 8 → Reader.numberTo contents records sections slots ≡ 1
+  many-records h = go (eqb (length records % 8) 0) refl
+    where
+      go : (t : Bool) → eqb (length records % 8) 0 ≡ t → Reader.numberTo contents records sections slots ≡ 1
+      go true e = read-number (Lengths.many-records contents records sections slots (eqb-true (length records % 8) 0 e) h)
+      go false e = read-number (Lengths.not-whole contents records sections slots (eqb-false (length records % 8) 0 e))
+
+  many-sections : 2 ^ 32 ≤ length sections → Reader.numberTo contents records sections slots ≡ 1
+  many-sections h = go (eqb (length records % 8) 0) (ltb (length records / 8) (2 ^ 32)) refl refl
+    where
+      go : (t f : Bool) → eqb (length records % 8) 0 ≡ t → ltb (length records / 8) (2 ^ 32) ≡ f → Reader.numberTo contents records sections slots ≡ 1
+      go true true e l =
+          read-number
+          (Lengths.many-sections contents records sections slots (eqb-true (length records % 8) 0 e) (ltb-true (length records / 8) (2 ^ 32) l) h)
+      go true false e l = many-records (ltb-false (length records / 8) (2 ^ 32) l)
+      go false f e l = read-number (Lengths.not-whole contents records sections slots (eqb-false (length records % 8) 0 e))
+
+-- one of four tests holds
+second : (a b c d : Bool) → b ≡ true → (a || b || c || d) ≡ true
+second true b c d e = refl
+second false b c d e = rw e
+
+third : (a b c d : Bool) → c ≡ true → (a || b || c || d) ≡ true
+third true b c d e = refl
+third false true c d e = refl
+third false false c d e = rw e
+
+fourth : (a b c d : Bool) → d ≡ true → (a || b || c || d) ≡ true
+fourth true b c d e = refl
+fourth false true c d e = refl
+fourth false false true d e = refl
+fourth false false false d e = e
+
+module _ (section : List ℕ) (base tls : ℕ) (entries targets slots : List ℕ) where
+  disagreeing : disagree (length entries) (length targets) ≡ true → Fixup.numberTo section base tls entries targets slots ≡ 1
+  unfolding outcomeOf Answer.checkLists choose
+  disagreeing e = rw e
+
+  -- the four tests
+  abbrev cut : Bool
+  cut = not (eqb (length entries % relocSize) 0)
+
+  abbrev targetsCut : Bool
+  targetsCut = not (eqb (length targets % resolvedSize) 0)
+
+  abbrev many : Bool
+  many = leb (2 ^ 32) (length entries / relocSize)
+
+  abbrev differ : Bool
+  differ = not (eqb (length entries / relocSize) (length targets / resolvedSize))
+
+  entries-not-whole : (length entries % relocSize ≡ 0 → ⊥) → Fixup.numberTo section base tls entries targets slots ≡ 1
+  entries-not-whole h = disagreeing (rw (ne-eqb (length entries % relocSize) 0 h))
+
+  targets-not-whole : (length targets % resolvedSize ≡ 0 → ⊥) → Fixup.numberTo section base tls entries targets slots ≡ 1
+  targets-not-whole h = disagreeing (second cut targetsCut many differ (rw (ne-eqb (length targets % resolvedSize) 0 h)))
+
+  many-fix-up-entries : 2 ^ 32 ≤ length entries / relocSize → Fixup.numberTo section base tls entries targets slots ≡ 1
+  many-fix-up-entries h = disagreeing (third cut targetsCut many differ (le-leb (2 ^ 32) (length entries / relocSize) h))
+
+  counts-differ : (length entries / relocSize ≡ length targets / resolvedSize → ⊥) → Fixup.numberTo section base tls entries targets slots ≡ 1
+  counts-differ h = disagreeing (fourth cut targetsCut many differ (rw (ne-eqb (length entries / relocSize) (length targets / resolvedSize) h)))
+
+  few-report-slots : length entries % relocSize ≡ 0 → length targets % resolvedSize ≡ 0 → length entries / relocSize < 2 ^ 32
+      → length entries / relocSize ≡ length targets / resolvedSize → length slots < reportSize * (length entries / relocSize)
+      → Fixup.numberTo section base tls entries targets slots ≡ 2
+  unfolding outcomeOf Answer.checkLists choose
+  few-report-slots e f l q h =
+      simp (
+        eq-eqb (length entries % 24) 0 e,
+        eq-eqb (length targets % 48) 0 f,
+        lt-leb (2 ^ 32) (length entries / 24) l,
+        eq-eqb (length entries / 24) (length targets / 48) q,
+        lt-ltb (length slots) (24 * (length entries / 24)) h,
+      )
+
+module _ (image hints entries : List ℕ) where
+  hints-not-whole : (length hints % hintSize ≡ 0 → ⊥) → runNumber (runOf image hints entries) ≡ 1
+  unfolding isList
+  hints-not-whole h = ap runNumber (not-lists image hints entries (rw (ne-eqb (length hints % hintSize) 0 h)))
+
+  hint-entries-not-whole : (length entries % relocSize ≡ 0 → ⊥) → runNumber (runOf image hints entries) ≡ 1
+  unfolding isList
+  hint-entries-not-whole h = ap runNumber (not-lists image hints entries (rw (ne-eqb (length entries % relocSize) 0 h) (go (isList (length hints) hintSize))))
+    where
+      go : (a : Bool) → (a && false) ≡ false
+      go true = refl
+      go false = refl
+
 pub numbers : Numbers
+unfolding relocBytes resolvedBytes bytesOf bytes outcomeOf Answer.checkLists checkTo checkAt checkOf consumed relocAt resolvedAt le wellFormed widthOf choose
+    readRelocs readRecords readAll readFrom lengthsOf recordsOf recordsFrom machRelAt subtractedAt stepAt recordOf checkReloc supportedOf formsOf pointer32
+    addendOf targeted targetOf
 numbers =
     let r = turned-down in
     let q = first-number in
@@ -40,10 +212,25 @@ numbers =
       number-12 = h .4;
       reader-first = (at 0 q, at 1 q, at 2 q, at 3 q, at 4 q, at 5 q, at 6 q);
       fix-up-first = o;
+      fix-up-passed-over = refl;
+      fix-up-earliest = fix-up-earliest;
       hint-run-first = (h .5, h .6, h .7, h .8);
       hint-run-left-out = (h .9, h .10, h .11);
-      many-records = λ contents records sections slots w m.
-          ap (λ (a : Reading). answerNumber (answerOf a)) (Lengths.many-records contents records sections slots w m);
+      hint-run-earliest = hint-run-earliest;
+      records-not-whole = λ contents records sections slots w.
+          read-number contents records sections slots (Lengths.not-whole contents records sections slots w);
+      many-records = many-records;
+      many-sections = many-sections;
+      entries-not-whole = entries-not-whole;
+      targets-not-whole = targets-not-whole;
+      many-fix-up-entries = many-fix-up-entries;
+      counts-differ = counts-differ;
+      hints-not-whole = hints-not-whole;
+      hint-entries-not-whole = hint-entries-not-whole;
       many-hints = λ image hints entries m. ap runNumber (too-many-hints image hints entries m);
       many-entries = λ image hints entries m. ap runNumber (too-many-entries image hints entries m);
+      few-entry-slots = λ contents records sections slots w n m h.
+          read-number contents records sections slots (Lengths.few-slots contents records sections slots w n m h);
+      few-report-slots = few-report-slots;
+      at-the-end = (refl, refl, refl, refl);
     }

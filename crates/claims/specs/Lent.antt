@@ -1,7 +1,6 @@
 -- Lent records as bytes, for the examples: entries, resolved targets, relocation records, hints, and an image of words.
 use mathlib.Core.List.{List, [], _∷_, _++_}
 use Prim.Native.Nat.{ℕ, _+_, _*_, _^_}
-use lib.ListN.{length}
 use Rattle.util.specs.Word.{bytes}
 use Rattle.macho.specs.Types.{ARM64-RELOC-PAGE21, ARM64-RELOC-PAGEOFF12}
 use Rattle.macho.specs.Reloc.{relocBytes}
@@ -14,6 +13,10 @@ use Rattle.macho.specs.declared.hint.HintInsn.{HintInsn}
 abbrev pub words : List ℕ → List ℕ
 words [] = []
 words (w ∷ ws) = bytes 4 w ++ words ws
+
+-- a NOP
+abbrev pub nop : List ℕ
+nop = bytes 4 0xd503201f
 
 -- a relocation record: its offset, and the bits of its second word
 abbrev pub machRel : ℕ → ℕ → List ℕ

@@ -11,7 +11,7 @@ use Rattle.util.specs.Diagram.{Part, matches, maskOf, valueOf, sound}
 use Rattle.arm64_insn.specs.Encoding.{adr, adrp, addImmediate, add, addUnshifted, loadStore, ldrImmediate, loadLiteral, branch, br, nop, movz}
 use Rattle.arm64_insn.specs.LoadStoreTable as Table
 use Rattle.arm64_insn.specs.Fix.{quad}
-use Rattle.arm64_insn.specs.Manual.{Insn, Class, class, classes, instruction, none, encode, InRange, decode, allocated, vIn, sizeIn}
+use Rattle.arm64_insn.specs.Manual.{Insn, class, classes, instruction, none, encode, InRange, decode, allocated, vIn, sizeIn}
 use Rattle.arm64_insn.specs.ManualAssembled.{Made, assembled}
 use Rattle.arm64_insn.specs.ManualLines.{lines, literalLines, lineOf, literalLineOf, widenedSigned, namedSigned}
 

@@ -1,16 +1,27 @@
--- Which number a refused call answers (RULES 3.1 to 3.6): the examples of RULES 3.1, and which comes first where several apply.
+-- Which number a refused call answers (RULES 3.1 to 3.11): the examples of RULES 3.1, which comes first where several apply, and the lengths.
 use mathlib.Core.Path.{_≡_}
-use mathlib.Core.List.{List, [], _∷_, _++_}
-use Prim.Native.Nat.{ℕ, _-_, _/_, _%_, _^_, _≤_}
+use mathlib.Core.List.{List, [], _++_}
+use Prim.Native.Nat.{ℕ, _-_, _*_, _/_, _%_, _^_, _≤_, _<_}
 use lib.ListN.{length, replicate}
 use Rattle.util.specs.Word.{bytes}
 use Rattle.macho.specs.Types.{MCLOH-AdrpLdr, ARM64-RELOC-UNSIGNED, ARM64-RELOC-SUBTRACTOR, ARM64-RELOC-PAGE21}
 use Rattle.macho.specs.Types.{ARM64-RELOC-POINTER-TO-GOT, ARM64-RELOC-ADDEND}
-use Rattle.macho.specs.Hint.{noEntry}
+use Rattle.macho.specs.MachRel.{machRelSize}
+use Rattle.macho.specs.Reloc.{relocSize}
+use Rattle.macho.specs.Resolved.{resolvedSize}
+use Rattle.macho.specs.Report.{reportSize}
+use Rattle.macho.specs.Hint.{hintSize, noEntry, hintCount, hintOf}
+use Rattle.macho.specs.Refusal.{numberOf}
+use Rattle.macho.specs.declared.refusal.Refusal.{Refusal}
+use Rattle.macho.specs.declared.refusal.Check.the-variants.{Fit, Refused}
+use Rattle.arm64_fixup.specs.Walk.{entryCount, checkAt}
+use Rattle.arm64_fixup.specs.Answer.{basesOf}
+use Rattle.arm64_fixup.specs.Answer as Answer
+use Rattle.arm64_hint_check.specs.Check as HintCheck
 use Rattle.arm64_hint_run.specs.Run.{runOf, runNumber}
 use Rattle.hauklivo.specs.Reader as Reader
 use Rattle.hauklivo.specs.Fixup as Fixup
-use Rattle.claims.specs.Lent.{machRel, entry, resolved, half, pair, place, hint, plain}
+use Rattle.claims.specs.Lent.{nop, machRel, entry, resolved, half, pair, place, hint, plain}
 
 -- the number of the reader without sections
 abbrev pub reader : (contents records slots : List ℕ) → ℕ
@@ -27,10 +38,6 @@ hintRun size hints entries = runNumber (runOf (bytes size 0) hints entries)
 -- n zeros
 abbrev pub zeros : ℕ → List ℕ
 zeros n = replicate n 0
-
--- a NOP
-abbrev pub nop : List ℕ
-nop = bytes 4 0xd503201f
 
 -- a hint whose second word ends past its part
 abbrev pub pastPart : List ℕ
@@ -97,6 +104,15 @@ pub record Numbers : Type 0 where
       × (fixUp (bytes 8 0) 0 (entry ARM64-RELOC-SUBTRACTOR 8 0) (resolved 0 0) (bytes 24 0) ≡ 8)
       × (fixUp (bytes 8 0) 0 (entry ARM64-RELOC-POINTER-TO-GOT 8 (2 ^ 31)) (resolved 0 0) (bytes 24 0) ≡ 10)
       × (fixUp (bytes 8 0) 0 (entry ARM64-RELOC-UNSIGNED 4 0 ++ entry ARM64-RELOC-UNSIGNED 0 0) (resolved 0 0 ++ resolved 0 0x200) (bytes 48 0) ≡ 3)
+  -- an entry that a SUBTRACTOR takes is passed over, whatever is wrong with it
+  pub fix-up-passed-over : fixUp (bytes 8 0) 0 (entry ARM64-RELOC-SUBTRACTOR 0 0 ++ entry ARM64-RELOC-ADDEND 9 0)
+      (resolved 0 0 ++ resolved 0 0x200) (bytes 48 0) ≡ 0
+  -- RULES 3.3, 3.5: where the lengths are fit, the number is that of the first entry that has one
+  pub fix-up-earliest : (section : List ℕ) (base tls : ℕ) (entries targets slots : List ℕ) (i : ℕ) (x : Refusal)
+      → Answer.checkLists (length entries) (length targets) (length slots) ≡ Fit → i < entryCount entries
+      → ((j : ℕ) → j < i → checkAt (length section) (basesOf base tls) entries targets j ≡ Fit)
+      → checkAt (length section) (basesOf base tls) entries targets i ≡ Refused x
+      → Fixup.numberTo section base tls entries targets slots ≡ numberOf x
   -- RULES 3.6: a hint's part and its words before its entries; by list position between two hints
   pub hint-run-first : (hintRun 7 entryOne (half ARM64-RELOC-PAGE21) ≡ 3)
       × (hintRun 8 (hint MCLOH-AdrpLdr 2 0 8 (place 0 1 0) (place 5 1 0) (place 0 0 0)) (half ARM64-RELOC-PAGE21) ≡ 3)
@@ -106,8 +122,41 @@ pub record Numbers : Type 0 where
   pub hint-run-left-out : (hintRun 0 (hint 9 2 1 1 (place 1 1 0) (place 1 1 0) (place 1 1 0)) [] ≡ 0)
       × (hintRun 0 (hint MCLOH-AdrpLdr 3 1 1 (place 1 1 0) (place 1 1 0) (place 1 1 0)) [] ≡ 0)
       × (hintRun 8 (hint MCLOH-AdrpLdr 2 0 8 (place 0 noEntry 0) (place 4 noEntry 0) (place 8 7 0)) [] ≡ 0)
-  -- RULES 3.9: lists of 2^32 records and more
-  pub many-records : (contents records sections slots : List ℕ) → length records % 8 ≡ 0 → 2 ^ 32 ≤ length records / 8
+  -- RULES 3.3, 3.6: where the lengths are fit, the number is that of the first hint that has one
+  pub hint-run-earliest : (image hints entries : List ℕ) (k : ℕ) (x : Refusal)
+      → HintCheck.checkLists (length hints) (length entries) ≡ Fit → k < hintCount hints
+      → ((j : ℕ) → j < k → HintCheck.checkHint (length image) (length entries / relocSize) (hintOf hints j) ≡ Fit)
+      → HintCheck.checkHint (length image) (length entries / relocSize) (hintOf hints k) ≡ Refused x
+      → runNumber (runOf image hints entries) ≡ numberOf x
+  -- RULES 3.9: 1, of the reader: no whole records, 2^32 of them or more, as many section addresses
+  pub records-not-whole : (contents records sections slots : List ℕ) → (length records % machRelSize ≡ 0 → ⊥)
       → Reader.numberTo contents records sections slots ≡ 1
-  pub many-hints : (image hints entries : List ℕ) → 2 ^ 32 ≤ length hints / 64 → runNumber (runOf image hints entries) ≡ 1
-  pub many-entries : (image hints entries : List ℕ) → 2 ^ 32 ≤ length entries / 24 → runNumber (runOf image hints entries) ≡ 1
+  pub many-records : (contents records sections slots : List ℕ) → 2 ^ 32 ≤ length records / machRelSize
+      → Reader.numberTo contents records sections slots ≡ 1
+  pub many-sections : (contents records sections slots : List ℕ) → 2 ^ 32 ≤ length sections → Reader.numberTo contents records sections slots ≡ 1
+  -- of the fix-up: no whole entries, no whole targets, 2^32 entries or more, not as many targets
+  pub entries-not-whole : (section : List ℕ) (base tls : ℕ) (entries targets slots : List ℕ) → (length entries % relocSize ≡ 0 → ⊥)
+      → Fixup.numberTo section base tls entries targets slots ≡ 1
+  pub targets-not-whole : (section : List ℕ) (base tls : ℕ) (entries targets slots : List ℕ) → (length targets % resolvedSize ≡ 0 → ⊥)
+      → Fixup.numberTo section base tls entries targets slots ≡ 1
+  pub many-fix-up-entries : (section : List ℕ) (base tls : ℕ) (entries targets slots : List ℕ) → 2 ^ 32 ≤ length entries / relocSize
+      → Fixup.numberTo section base tls entries targets slots ≡ 1
+  pub counts-differ : (section : List ℕ) (base tls : ℕ) (entries targets slots : List ℕ)
+      → (length entries / relocSize ≡ length targets / resolvedSize → ⊥) → Fixup.numberTo section base tls entries targets slots ≡ 1
+  -- of the hint run: no whole hints, no whole entries, 2^32 of either or more
+  pub hints-not-whole : (image hints entries : List ℕ) → (length hints % hintSize ≡ 0 → ⊥) → runNumber (runOf image hints entries) ≡ 1
+  pub hint-entries-not-whole : (image hints entries : List ℕ) → (length entries % relocSize ≡ 0 → ⊥) → runNumber (runOf image hints entries) ≡ 1
+  pub many-hints : (image hints entries : List ℕ) → 2 ^ 32 ≤ length hints / hintSize → runNumber (runOf image hints entries) ≡ 1
+  pub many-entries : (image hints entries : List ℕ) → 2 ^ 32 ≤ length entries / relocSize → runNumber (runOf image hints entries) ≡ 1
+  -- RULES 3.10: 2, where there is no 1: fewer bytes of slots than an entry for each record, ADDEND too; than a report for each entry, taken ones too
+  pub few-entry-slots : (contents records sections slots : List ℕ) → length records % machRelSize ≡ 0 → length records / machRelSize < 2 ^ 32
+      → length sections < 2 ^ 32 → length slots < relocSize * (length records / machRelSize) → Reader.numberTo contents records sections slots ≡ 2
+  pub few-report-slots : (section : List ℕ) (base tls : ℕ) (entries targets slots : List ℕ) → length entries % relocSize ≡ 0
+      → length targets % resolvedSize ≡ 0 → length entries / relocSize < 2 ^ 32 → length entries / relocSize ≡ length targets / resolvedSize
+      → length slots < reportSize * (length entries / relocSize) → Fixup.numberTo section base tls entries targets slots ≡ 2
+  -- RULES 3.11: an offset that is the length of the bytes: of a PAGE21 record, whose word is not looked at, and of a stored pointer; of a PAGE21
+  -- entry whose target has no address, and of a pointer
+  pub at-the-end : (reader (zeros 8) (machRel 8 0x3d000000) (zeros 24) ≡ 0)
+      × (reader (zeros 8) (machRel 8 0x0e000000) (zeros 24) ≡ 3)
+      × (fixUp (bytes 8 0) 0 (entry ARM64-RELOC-PAGE21 8 0) (resolved 0 0) (bytes 24 0) ≡ 0)
+      × (fixUp (bytes 8 0) 0 (entry ARM64-RELOC-UNSIGNED 8 0) (resolved 0 0) (bytes 24 0) ≡ 3)

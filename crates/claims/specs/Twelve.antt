@@ -2,12 +2,14 @@
 use mathlib.Core.Path.{_≡_}
 use mathlib.Core.Bool.{true}
 use mathlib.Core.List.{List, [], _∷_, _++_}
-use Prim.Native.Nat.{ℕ, _-_, _^_}
+use Prim.Native.Nat.{ℕ, _-_, _*_, _^_}
 use lib.ListN.{length, replicate}
 use Rattle.util.specs.Word.{bytes}
 use Rattle.macho.specs.Types.{MCLOH-AdrpLdr, MCLOH-AdrpAddStr, MCLOH-AdrpAdd, ARM64-RELOC-PAGE21}
 use Rattle.macho.specs.Types.{ARM64-RELOC-BRANCH26, ARM64-RELOC-PAGEOFF12, ARM64-RELOC-GOT-LOAD-PAGEOFF12}
+use Rattle.macho.specs.Reloc.{relocSize}
 use Rattle.macho.specs.Resolved.{hasAddress, canRelaxGot}
+use Rattle.macho.specs.Report.{reportSize}
 use Rattle.arch.specs.Walk.{entries}
 use Rattle.arm64_insn.specs.Page.{adrpPage}
 use Rattle.arm64_insn.specs.Adrp.{adrpOf, adrWord}
@@ -41,7 +43,7 @@ Rewrites kind old new =
 
 -- the fix-up of one word at 0x1000 by one entry of a type, to an address with flags
 abbrev pub fixUp : (word ty addr flags : ℕ) → Outcome
-fixUp word ty addr flags = outcomeOf (bytes 4 word) (basesOf 0x1000 0) (entry ty 0 0) (resolved addr flags) (bytes 24 0)
+fixUp word ty addr flags = outcomeOf (bytes 4 word) (basesOf 0x1000 0) (entry ty 0 0) (resolved addr flags) (bytes reportSize 0)
 
 -- the word that it leaves, with no report
 abbrev pub becomes : ℕ → Outcome
@@ -77,7 +79,7 @@ pub record Twelve : Type 0 where
   -- RULES 11.11: a relaxed GOT_LOAD_PAGEOFF12 of 0x1234 makes 9108d000 of f9400000
   pub example-11 : fixUp 0xf9400000 ARM64-RELOC-GOT-LOAD-PAGEOFF12 0x1234 can-relax-got ≡ becomes 0x9108d000
   -- RULES 11.12: the bits 0xa4ffffff and 0x3d000005 give one entry: PAGE21, symbol 5, addend -1
-  pub example-12 : readRelocs (replicate 4 0) (machRel 0 0xa4ffffff ++ machRel 0 0x3d000005) [] (replicate 48 0)
+  pub example-12 : readRelocs (replicate 4 0) (machRel 0 0xa4ffffff ++ machRel 0 0x3d000005) [] (replicate (2 * relocSize) 0)
       ≡ entries (record {
         offset = 0;
         ty = ARM64-RELOC-PAGE21;

@@ -60,7 +60,8 @@ pub record Words : Type 0 where
   -- `is_ldr_imm` holds of LDR of a W or X register
   pub ldr-imm-decodes : (w : ℕ) → matches ldrImmediate w ≡ true
       → (2 ≤ sizeIn w) × (decode w ≡ instruction (LDST (sizeIn w) 0 0b01 (rdIn w) (rnIn w) (imm12In w)))
-  pub decodes-ldr-imm : (w size rt rn imm12 : ℕ) → w < 2 ^ 32 → 2 ≤ size → decode w ≡ instruction (LDST size 0 0b01 rt rn imm12) → matches ldrImmediate w ≡ true
+  pub decodes-ldr-imm : (w size rt rn imm12 : ℕ) → w < 2 ^ 32 → 2 ≤ size → decode w ≡ instruction (LDST size 0 0b01 rt rn imm12)
+      → matches ldrImmediate w ≡ true
   -- the scale of a page offset is that of the bytes that a load or store moves; of one that moves none its size field's; of any other word none
   pub load-store-scale : (w size v opc rt rn imm12 : ℕ) → decode w ≡ instruction (LDST size v opc rt rn imm12) → 2 ^ scaleOf w ≡ movedBy (rowOf size v opc)
   pub unmoved-scale : (w : ℕ) → matches loadStore w ≡ true → moves (rowIn w) ≡ false → scaleOf w ≡ sizeIn w
@@ -68,7 +69,8 @@ pub record Words : Type 0 where
   -- RULES 7.22 to 7.31: each made word is the instruction meant, each patched word the old instruction with one field replaced. ADR
   pub adr-made : (rd target pc : ℕ) → rd < 32 → decode (adrWord rd target pc) ≡ instruction (ADR rd (field (diff target pc) 0 21))
   -- a patched ADRP
-  pub adrp-patched : (w rd imm hi lo : ℕ) → w < 2 ^ 32 → decode w ≡ instruction (ADRP rd imm) → decode (adrpWith w hi lo) ≡ instruction (ADRP rd (pageImm hi lo))
+  pub adrp-patched : (w rd imm hi lo : ℕ) → w < 2 ^ 32 → decode w ≡ instruction (ADRP rd imm)
+      → decode (adrpWith w hi lo) ≡ instruction (ADRP rd (pageImm hi lo))
   -- an ADD, a load or store, a prefetch with the page offset
   pub add-patched : (w sf sh rd rn imm12 val : ℕ) → decode w ≡ instruction (ADD sf sh rd rn imm12)
       → offsetWith w val ≡ Word (encode (ADD sf sh rd rn (field val 0 12)))
@@ -104,7 +106,8 @@ pub record Words : Type 0 where
   -- a literal load, and it loads what the load loaded
   pub literal-made : (l : L.LoadStore) (target pc : ℕ) → l .reg < 32
       → decode (literalWord l target pc)
-      ≡ instruction (LDR-literal (literalOpc (l .size) (l .«is_float») (l .«is_ldrsw»)) (literalV (l .size) (l .«is_float»)) (l .reg) (field (diff target pc) 2 19))
+      ≡ instruction
+      (LDR-literal (literalOpc (l .size) (l .«is_float») (l .«is_ldrsw»)) (literalV (l .size) (l .«is_float»)) (l .reg) (field (diff target pc) 2 19))
   pub literal-row : (w size v opc rt rn imm12 : ℕ) (l : L.LoadStore) → decode w ≡ instruction (LDST size v opc rt rn imm12)
       → loadStoreOf w ≡ LoadStoreWord.LoadStore l → hasLiteralForm l ≡ true
       → literalRowOf (literalOpc (l .size) (l .«is_float») (l .«is_ldrsw»)) (literalV (l .size) (l .«is_float»)) ≡ rowOf size v opc
