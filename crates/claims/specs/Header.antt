@@ -6,7 +6,7 @@ use mathlib.Core.List.{List, [], _∷_, _++_, map}
 use Prim.Native.Nat.{ℕ, _+_, _*_, _/_, _%_, _^_, _≤_, _<_}
 use lib.ListN.{length, getD, set, replicate}
 use Rattle.util.specs.Part.{part}
-use Rattle.util.specs.Word.{put, bytes}
+use Rattle.util.specs.Word.{put}
 use Rattle.macho.specs.Record.{Field, Fits, Zeros}
 use Rattle.macho.specs.MachRel.{machRelSize, machRelAt, machRelFields, machRelBytes, idxOf, pcrelOf, p2sizeOf, externOf, typeOf, formOf, bitsOf}
 use Rattle.macho.specs.Reloc.{relocSize, relocAt, relocFields, relocBytes}
@@ -26,7 +26,7 @@ use Rattle.arm64_reader.specs.Header.{Relocation, symbol, nothing, Meaning, und
 use Rattle.arm64_reader.specs.Header.{subtractor-last, subtractor-type, subtractor-place, subtractor-size, addend-form, addend-type, addend-place}
 use Rattle.arm64_reader.specs.Said.{said}
 use Rattle.hauklivo.specs.Reader as Reader
-use Rattle.claims.specs.Lent.{machRel}
+use Rattle.claims.specs.Lent.{nop, machRel}
 
 -- a kind of record: the value of the bytes of a value is the value, wherever they stand; the bytes of the value of bytes are the bytes, where the unused
 -- ones are zero
@@ -56,10 +56,6 @@ reads contents records = (meaningOf contents [] (recordsOf records), filledOf (a
 -- what the header says of records, and the number that the reader answers
 abbrev pub refuses : (contents records : List ℕ) → Meaning × ℕ
 refuses contents records = (meaningOf contents [] (recordsOf records), Reader.numberTo contents records [] (replicate 24 0))
-
--- a NOP
-abbrev pub nop : List ℕ
-nop = bytes 4 0xd503201f
 
 -- what Apple's header says, and what is read
 pub record Header : Type 0 where
