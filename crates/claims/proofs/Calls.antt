@@ -8,7 +8,7 @@ use lib.ListN.{length}
 use Rattle.util.specs.Choice.{choose}
 use Rattle.util.proofs.Choice.{chosen}
 use Rattle.macho.specs.Refusal as Refusal
-use Rattle.macho.specs.Refusal.{answerNumber, checkNumber}
+use Rattle.macho.specs.Refusal.{answerNumber}
 use Rattle.macho.specs.declared.refusal.Refusal.{Refusal}
 use Rattle.macho.specs.declared.refusal.Refusal.the-variants.{Lengths, Slots, Bounds, LoneAddend, Unsupported, Unfit}
 use Rattle.macho.specs.declared.refusal.Refusal.the-variants.{NoSection, LoneSubtractor, Overflow, NeedsSymbol, Flags, NoEntry}

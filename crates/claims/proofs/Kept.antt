@@ -1,5 +1,5 @@
 -- What a run of hints keeps: the theorems of arm64_hint_kept, of the order and of the machine.
-use mathlib.Core.Path.{_≡_, refl}
+use mathlib.Core.Path.{refl}
 use native.Mathlib.Omega.{arith}
 use lib.Dec.{lit<}
 use Rattle.util.specs.Choice.{choose}
