@@ -3,12 +3,6 @@ use borrow.Author.Needs.{needs}
 use Rattle.replay_list.specs.Seen.{Bounded}
 use Rattle.replay_reader.proofs.main.Statement.{statement}
 use Rattle.replay_reader.proofs.main.Tie as tie
-use Rattle.replay_reader.proofs.main.Reads as reads
-use Rattle.replay_reader.proofs.main.Lts as lts
-use Rattle.replay_reader.proofs.replay.Reads as replay-reads
-use Rattle.replay_list.proofs.list.open.Reads as open-reads
-use Rattle.replay_list.proofs.seen.Seen.none.Reads as none-reads
-use Rattle.replay_list.proofs.seen.Seen.print.Reads as print-reads
 
 abbrev Inv-loop : tie.InvT-loop
 Inv-loop fd seen₀ seen = Bounded seen

@@ -4,10 +4,6 @@ use lib.ListN.{length}
 use borrow.Author.Needs.{needs}
 use Rattle.replay_records.proofs.replay.Statement.{statement}
 use Rattle.replay_records.proofs.replay.Tie as tie
-use Rattle.replay_records.proofs.replay.Reads as reads
-use Rattle.replay_records.proofs.replay.Lts as lts
-use Rattle.replay_records.proofs.counts.Reads as counts-reads
-use Rattle.replay_records.proofs.row_agrees.Reads as row-agrees-reads
 
 abbrev Inv-loop : tie.InvT-loop
 Inv-loop s at₀ records₀ names₀ hints₀ at records names hints = (at ≤ length s) × (records ≤ at) × (names ≤ at) × (hints ≤ at)

@@ -3,11 +3,6 @@ use Prim.Native.Nat.{_+_, _≤_}
 use borrow.Author.Needs.{needs}
 use Rattle.replay_words.proofs.replay_all.Statement.{statement}
 use Rattle.replay_words.proofs.replay_all.Tie as tie
-use Rattle.replay_words.proofs.replay_all.Reads as reads
-use Rattle.replay_words.proofs.replay_all.Lts as lts
-use Rattle.io.proofs.print_decimal.Reads as print-decimal-reads
-use Rattle.io.proofs.write_all.Reads as write-all-reads
-use Rattle.replay_words.proofs.replay.Reads as replay-reads
 
 abbrev Inv-loop : tie.InvT-loop
 Inv-loop fd left₀ held₀ t5 t6 left held = held + left ≤ 1000000

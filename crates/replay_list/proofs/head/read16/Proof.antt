@@ -8,9 +8,6 @@ use Rattle.util.specs.Word.{le}
 use borrow.Author.Needs.{needs}
 use Rattle.replay_list.proofs.head.read16.Statement.{statement}
 use Rattle.replay_list.proofs.head.read16.Tie as tie
-use Rattle.replay_list.proofs.head.read16.Reads as reads
-use Rattle.replay_list.proofs.head.read16.Lts as lts
-use Rattle.replay_list.proofs.head.from_le_bytes.Reads as from-le-bytes-reads
 
 shared-slice-read-from-le-bytes : tie.Need-shared-slice-read-from-le-bytes
 shared-slice-read-from-le-bytes c = search needs

@@ -9,9 +9,6 @@ use borrow.Author.Needs.{needs}
 use Rattle.replay_list.proofs.Slots.{Due, due-more}
 use Rattle.replay_list.proofs.lent.are_filled.Statement.{statement}
 use Rattle.replay_list.proofs.lent.are_filled.Tie as tie
-use Rattle.replay_list.proofs.lent.are_filled.Reads as reads
-use Rattle.replay_list.proofs.lent.are_filled.Lts as lts
-use Rattle.replay_list.proofs.lent.due.Reads as due-reads
 
 abbrev Inv-loop : tie.InvT-loop
 Inv-loop slots records i₀ i = (i ≤ length slots) × Due slots records i
@@ -33,8 +30,9 @@ due-requires c κs = search needs
 
 returns-2 : tie.Need-returns-2 Inv-loop μ-loop
 returns-2 c =
-    let p = c .before .before .before .before .loop in
-    (λ q. absurd (false≢true q), λ h. absurd (c .if2 .taken (h .1 (p .i) (c .before .before .before .loop-test .taken) ∙ sym (c .before .due .ensures))))
+    let test = c .before .before .before in
+    let p = test .before .loop in
+    (λ q. absurd (false≢true q), λ h. absurd (c .if2 .taken (h .1 (p .i) (test .loop-test .taken) ∙ sym (c .before .due .ensures))))
 
 add-i : tie.Need-add-i Inv-loop μ-loop
 add-i c = search needs
@@ -44,8 +42,10 @@ loop-less c = search needs
 
 loop-again : tie.Need-loop-again Inv-loop μ-loop
 loop-again c =
-    let p = c .before .before .before .before .loop in
-    let a = c .before .before .before .before .before .before .before .before .args in
+    let test = c .before .before .before in
+    let p = test .before .loop in
+    let start = test .before .before .before in
+    let a = start .before .before .args in
     (search needs, due-more (a .slots .now) (a .records .now) (p .i) (p .inv .1) (c .if2 .left ∙ c .before .due .ensures))
 
 returns-3 : tie.Need-returns-3 Inv-loop μ-loop

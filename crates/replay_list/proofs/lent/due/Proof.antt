@@ -5,9 +5,6 @@ use Rattle.replay_list.specs.Lent.{dueAt}
 use borrow.Author.Needs.{needs}
 use Rattle.replay_list.proofs.lent.due.Statement.{statement}
 use Rattle.replay_list.proofs.lent.due.Tie as tie
-use Rattle.replay_list.proofs.lent.due.Reads as reads
-use Rattle.replay_list.proofs.lent.due.Lts as lts
-use Rattle.replay_list.proofs.lent.pattern.Reads as pattern-reads
 
 shared-slice-read-result : tie.Need-shared-slice-read-result
 shared-slice-read-result c = search needs

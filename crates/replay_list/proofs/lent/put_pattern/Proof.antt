@@ -9,9 +9,6 @@ use borrow.Author.Needs.{needs}
 use Rattle.replay_list.proofs.Slots.{Due, due-pattern, due-stored}
 use Rattle.replay_list.proofs.lent.put_pattern.Statement.{statement}
 use Rattle.replay_list.proofs.lent.put_pattern.Tie as tie
-use Rattle.replay_list.proofs.lent.put_pattern.Reads as reads
-use Rattle.replay_list.proofs.lent.put_pattern.Lts as lts
-use Rattle.replay_list.proofs.lent.pattern.Reads as pattern-reads
 
 abbrev Inv-loop : tie.InvT-loop
 Inv-loop slots₀ i₀ slots i = (i ≤ length slots₀) × (length slots ≡ length slots₀) × Due slots [] i
@@ -37,7 +34,8 @@ loop-less c = search needs
 loop-again : tie.Need-loop-again Inv-loop μ-loop
 loop-again c =
     let p = c .before .before .loop in
-    (search needs, simp length-set (p .inv .1), due-stored (p .slots) [] (p .i) _ (omega (arith, p .inv .1)) (p .inv .2) (c .pattern .ensures ∙ sym (due-pattern (p .i))))
+    let byte = c .pattern .ensures ∙ sym (due-pattern (p .i)) in
+    (search needs, simp length-set (p .inv .1), due-stored (p .slots) [] (p .i) _ (omega (arith, p .inv .1)) (p .inv .2) byte)
 
 same-length : tie.Need-same-length Inv-loop μ-loop
 same-length c = search needs

@@ -5,9 +5,6 @@ use mathlib.Core.Path.{_≡_}
 use borrow.Author.Needs.{needs}
 use Rattle.replay_reader.proofs.reader.put_addresses.Statement.{statement}
 use Rattle.replay_reader.proofs.reader.put_addresses.Tie as tie
-use Rattle.replay_reader.proofs.reader.put_addresses.Reads as reads
-use Rattle.replay_reader.proofs.reader.put_addresses.Lts as lts
-use Rattle.util.proofs.read64.Reads as read64-reads
 
 abbrev Inv-loop : tie.InvT-loop
 Inv-loop list₀ bytes i₀ list i = (i ≤ length bytes / 8) × (length bytes ≤ 8 * length list) × (length list ≡ length list₀)

@@ -1,12 +1,8 @@
 -- `Head::read`: each field is the promise of the read at its place, and the places lie in the 16 bytes.
-use mathlib.Core.Path.{refl}
 use Rattle.replay_list.specs.Head.{headOf}
 use borrow.Author.Needs.{needs}
 use Rattle.replay_list.proofs.head.Head.read.Statement.{statement}
 use Rattle.replay_list.proofs.head.Head.read.Tie as tie
-use Rattle.replay_list.proofs.head.Head.read.Reads as reads
-use Rattle.replay_list.proofs.head.Head.read.Lts as lts
-use Rattle.replay_list.proofs.head.read16.Reads as read16-reads
 
 shared-slice-read-t3 : tie.Need-shared-slice-read-t3
 shared-slice-read-t3 c = search needs
@@ -34,7 +30,17 @@ read16-requires-6 c κs = search needs
 
 returns : tie.Need-returns
 unfolding headOf
-returns c = simp (c .before .before .before .before .before .read16 .ensures, c .before .before .before .before .read162 .ensures, c .before .before .before .read163 .ensures, c .before .before .read164 .ensures, c .before .read165 .ensures, c .read166 .ensures)
+returns c =
+    let v3 = c .before .before in
+    let v1 = v3 .before .before in
+    simp (
+      v1 .before .read16 .ensures,
+      v1 .read162 .ensures,
+      v3 .before .read163 .ensures,
+      v3 .read164 .ensures,
+      c .before .read165 .ensures,
+      c .read166 .ensures,
+    )
 
 pub read-spec : {M : Type 1} → statement M
 read-spec =

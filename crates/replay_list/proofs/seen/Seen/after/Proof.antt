@@ -1,15 +1,10 @@
 -- `Seen::after`: the definition tests the same things in the same order; the bounds are arithmetic.
-use native.Mathlib.Omega.{arith}
 use borrow.Author.Tests.{eq-eqb, ne-eqb}
 use Rattle.util.specs.Choice.{choose}
 use Rattle.replay_list.specs.Seen.{after}
 use borrow.Author.Needs.{needs}
 use Rattle.replay_list.proofs.seen.Seen.after.Statement.{statement}
 use Rattle.replay_list.proofs.seen.Seen.after.Tie as tie
-use Rattle.replay_list.proofs.seen.Seen.after.Reads as reads
-use Rattle.replay_list.proofs.seen.Seen.after.Lts as lts
-use Rattle.io.proofs.write_all.Reads as write-all-reads
-use Rattle.replay_list.proofs.seen.print_count.Reads as print-count-reads
 
 returns : tie.Need-returns
 unfolding after choose
@@ -36,7 +31,12 @@ add-t10 c = search needs
 
 returns-3 : tie.Need-returns-3
 unfolding after choose
-returns-3 c = (simp (ne-eqb _ _ (c .before .before .before .before .before .if1 .left), ne-eqb _ _ (c .before .before .before .before .if2 .left), c .before .before .before .if3 .taken), search needs, search needs)
+returns-3 c =
+    let held = c .before .before .before in (
+      simp (ne-eqb _ _ (held .before .before .if1 .left), ne-eqb _ _ (held .before .if2 .left), held .if3 .taken),
+      search needs,
+      search needs,
+    )
 
 slice-aggregate-write-all : tie.Need-slice-aggregate-write-all
 slice-aggregate-write-all c = search needs
@@ -46,7 +46,12 @@ write-all-requires c κs = search needs
 
 returns-4 : tie.Need-returns-4
 unfolding after choose
-returns-4 c = (simp (ne-eqb _ _ (c .before .before .before .before .if1 .left), ne-eqb _ _ (c .before .before .before .if2 .left), c .before .before .if3 .left), search needs, search needs)
+returns-4 c =
+    let other = c .before .before in (
+      simp (ne-eqb _ _ (other .before .before .if1 .left), ne-eqb _ _ (other .before .if2 .left), other .if3 .left),
+      search needs,
+      search needs,
+    )
 
 pub after-spec : {M : Type 1} → statement M
 after-spec =
