@@ -22,7 +22,7 @@ use Rattle.arm64_insn.specs.ManualTargets as M
 use Rattle.arm64_insn.specs.Page.{pageOf, adrpPage}
 use Rattle.arm64_insn.specs.Reach.{pageImm, pageOffset, adrpReaches}
 use Rattle.arm64_insn.specs.Fix.{adrpWith, scaleOf, offsetWith, relaxedWord}
-use Rattle.arm64_insn.specs.declared.fix.Fit.the-variants as Fit
+use Rattle.arm64_insn.specs.declared.fix.OffsetWord.the-variants as OffsetWord
 use Rattle.arm64_insn.proofs.Encodes.{adrp-patched, add-patched, load-store-patched, prefetch-patched, relaxed-made}
 use Rattle.arm64_insn.proofs.Meaning.{adrp-means, add-means, access-means}
 use Rattle.arm64_insn.proofs.Manual.{decode-encode, decode-in-range, encode-lt}
@@ -97,10 +97,10 @@ offset-width e t (got-offset g n) = got-offset-width e t g
 
 module _ {section : List ℕ} {b : Bases} {entries targets slots : List ℕ} {f : Fixed} {k : ℕ} (l : Lone section b entries targets slots f k) where
   module _ {target : ℕ} (r : Offset (entryAt entries k) (targetAt targets k) target) where
-    fits : {w : ℕ} → offsetWith (wordAt entries section k) target ≡ Fit.Word w → wordAt entries (f .section) k ≡ w % 2 ^ 32
+    fits : {w : ℕ} → offsetWith (wordAt entries section k) target ≡ OffsetWord.Word w → wordAt entries (f .section) k ≡ w % 2 ^ 32
     fits e = stores-word l (ap (λ (c : Change). c .write) (offset-does-it b k _ _ _ _ _ r ∙ ap (fitted (siteOf b k (entryAt entries k))) e))
 
-    stays : {n : ℕ} → offsetWith (wordAt entries section k) target ≡ Fit.Misaligned n → wordAt entries (f .section) k ≡ wordAt entries section k
+    stays : {n : ℕ} → offsetWith (wordAt entries section k) target ≡ OffsetWord.Misaligned n → wordAt entries (f .section) k ≡ wordAt entries section k
     stays e =
         leaves-word l (offset-width _ _ r)
         (ap (λ (c : Change). c .write) (offset-does-it b k _ _ _ _ _ r ∙ ap (fitted (siteOf b k (entryAt entries k))) e))

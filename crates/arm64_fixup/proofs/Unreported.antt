@@ -22,8 +22,8 @@ use Rattle.arm64_insn.specs.ManualTargets as M
 use Rattle.arm64_insn.specs.Page.{adrpPage}
 use Rattle.arm64_insn.specs.Reach.{pageImm}
 use Rattle.arm64_insn.specs.Branch.{branchReaches}
-use Rattle.arm64_insn.specs.declared.fix.Fit.{Fit}
-use Rattle.arm64_insn.specs.declared.fix.Fit.the-variants as Fit
+use Rattle.arm64_insn.specs.declared.fix.OffsetWord.{OffsetWord}
+use Rattle.arm64_insn.specs.declared.fix.OffsetWord.the-variants as OffsetWord
 use Rattle.arm64_insn.proofs.Encodes.{load-store-patched}
 use Rattle.arm64_fixup_entry.specs.Target.{placeOf, targetOf, slotOf, gotTarget}
 use Rattle.arm64_fixup_entry.specs.Change.{branchTarget, thunkServes, dtraceSiteInsn, displacement, fitted, canRelax, relaxed}
@@ -69,7 +69,7 @@ module _ {section : List ℕ} {b : Bases} {entries targets slots : List ℕ} {f 
 
 -- ---- page offsets
 
-fitted-silent : (s : Site) (q : Bool) (w n : ℕ) → fitted s (choose q (Fit.Word w) (Fit.Misaligned n)) .told ≡ Silent → q ≡ true
+fitted-silent : (s : Site) (q : Bool) (w n : ℕ) → fitted s (choose q (OffsetWord.Word w) (OffsetWord.Misaligned n)) .told ≡ Silent → q ≡ true
 unfolding choose
 fitted-silent s true w n h = refl
 fitted-silent s false w n h = let z : _≡_ {A = ℕ} 0 1 = cc in absurd (omega arith)
@@ -88,7 +88,7 @@ module _ {section : List ℕ} {b : Bases} {entries targets slots : List ℕ} {f 
       (sym
       (ap (λ (c : Change). c .told)
       (offset-does-it b k _ _ _ _ _ r
-      ∙ ap (λ (x : Fit). fitted (siteOf b k (entryAt entries k)) x) (load-store-patched _ size v opc rt rn imm12 target d)))
+      ∙ ap (λ (x : OffsetWord). fitted (siteOf b k (entryAt entries k)) x) (load-store-patched _ size v opc rt rn imm12 target d)))
       ∙ unreported l u))
 
   -- a relaxed page offset had a word that can be relaxed

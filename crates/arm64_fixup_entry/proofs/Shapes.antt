@@ -4,8 +4,8 @@ use Rattle.util.proofs.Choice.{chosen}
 use Rattle.macho.specs.declared.reloc.Reloc.{Reloc}
 use Rattle.macho.specs.declared.resolved.Resolved.{Resolved}
 use Rattle.arm64_insn.specs.Fix.{offsetWith}
-use Rattle.arm64_insn.specs.declared.fix.Fit.{Fit}
-use Rattle.arm64_insn.specs.declared.fix.Fit.the-variants as Fit
+use Rattle.arm64_insn.specs.declared.fix.OffsetWord.{OffsetWord}
+use Rattle.arm64_insn.specs.declared.fix.OffsetWord.the-variants as OffsetWord
 use Rattle.arm64_fixup_entry.specs.Change.{silent, reported, reachReport, wordReport, branchUnless, dtraceSiteInsn, branch, page21, fitted}
 use Rattle.arm64_fixup_entry.specs.Change.{pageoff12, gotPage21, relaxed, gotPageoff12, wordChange}
 use Rattle.arm64_fixup_entry.specs.declared.change.Site.{Site}
@@ -22,9 +22,9 @@ module _ (P : Change → Type 0) (s : Site) (plain : (w : ℕ) → P (silent (Wo
     unfolding page21
     of-page target word = chosen P _ _ _ (plain _) (far _ _ _)
 
-    of-fit : (f : Fit) → P (fitted s f)
-    of-fit (Fit.Word w) = plain w
-    of-fit (Fit.Misaligned n) = unfit _ _
+    of-fit : (f : OffsetWord) → P (fitted s f)
+    of-fit (OffsetWord.Word w) = plain w
+    of-fit (OffsetWord.Misaligned n) = unfit _ _
 
     of-offset : (target word : ℕ) → P (pageoff12 s target word)
     unfolding pageoff12

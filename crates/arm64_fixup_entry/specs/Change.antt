@@ -16,8 +16,8 @@ use Rattle.arm64_insn.specs.Encoding.{add, ldrImmediate}
 use Rattle.arm64_insn.specs.Reach.{adrpReaches}
 use Rattle.arm64_insn.specs.Branch.{branchReaches, branchWord, helperWord}
 use Rattle.arm64_insn.specs.Fix.{nopWord, isEnabledWord, adrpWith, offsetWith, relaxedWord}
-use Rattle.arm64_insn.specs.declared.fix.Fit.{Fit}
-use Rattle.arm64_insn.specs.declared.fix.Fit.the-variants as Fit
+use Rattle.arm64_insn.specs.declared.fix.OffsetWord.{OffsetWord}
+use Rattle.arm64_insn.specs.declared.fix.OffsetWord.the-variants as OffsetWord
 use Rattle.arm64_fixup_entry.specs.Target.{isSymbol, placeOf, targetOf, slotOf, gotTarget, widthOf}
 use Rattle.arm64_fixup_entry.specs.Check.{subtracts}
 use Rattle.arm64_fixup_entry.specs.declared.target.Bases.{Bases}
@@ -100,9 +100,9 @@ page21 s target word =
     (reported (Word (adrpWith word target (s .place))) (reachReport s adrpReach target))
 
 -- a word with its page offset; report 3 where the access size does not divide the target
-abbrev pub fitted : Site → Fit → Change
-fitted s (Fit.Word w) = silent (Word w)
-fitted s (Fit.Misaligned n) = reported Nothing (wordReport s alignment n)
+abbrev pub fitted : Site → OffsetWord → Change
+fitted s (OffsetWord.Word w) = silent (Word w)
+fitted s (OffsetWord.Misaligned n) = reported Nothing (wordReport s alignment n)
 
 -- PAGEOFF12: the target's page offset
 unfoldable pub pageoff12 : Site → ℕ → ℕ → Change

@@ -7,7 +7,7 @@ use arm64_insn::add::is_add;
 use arm64_insn::branch::branch_reaches;
 use arm64_insn::branch::branch_word;
 use arm64_insn::branch::helper_word;
-use arm64_insn::fix::Fit;
+use arm64_insn::fix::OffsetWord;
 use arm64_insn::fix::relaxed_word;
 use arm64_insn::fix::write_add_ldst_word;
 use arm64_insn::fix::write_adrp_word;
@@ -213,8 +213,8 @@ pub fn pageoff12(s: Site, target: u64, word: u32) -> Change
     ensures { λ r. ⌜ r ≡ pageoff12 s target word ⌝ }
 {
     match write_add_ldst_word(word, target) {
-        Fit::Word(insn) => silent(Write::Word(insn)),
-        Fit::Misaligned(size) => unfit(s, Report::ALIGNMENT, size as u8),
+        OffsetWord::Word(insn) => silent(Write::Word(insn)),
+        OffsetWord::Misaligned(size) => unfit(s, Report::ALIGNMENT, size as u8),
     }
 }
 

@@ -27,7 +27,7 @@ use Rattle.arm64_insn.specs.Literal.{hasLiteralForm, literalOpc, literal
 use Rattle.arm64_insn.specs.Branch.{branchWord, helperWord}
 use Rattle.arm64_insn.specs.Stub.{stubWords, thunkWords}
 use Rattle.arm64_insn.specs.Fix.{nopWord, isEnabledWord, adrpWith, scaleOf, offsetWith, relaxedWord}
-use Rattle.arm64_insn.specs.declared.fix.Fit.the-variants.{Word, Misaligned}
+use Rattle.arm64_insn.specs.declared.fix.OffsetWord.the-variants.{Word, Misaligned}
 use Rattle.arm64_insn.specs.declared.ldst.LoadStore as L
 use Rattle.arm64_insn.specs.declared.ldst.LoadStoreWord.the-variants as LoadStoreWord
 use Rattle.arm64_insn.proofs.Manual.{decode-has, decode-encode, decode-in-range}

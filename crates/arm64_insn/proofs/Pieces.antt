@@ -16,7 +16,7 @@ use Rattle.arm64_insn.specs.declared.adrp.AdrpWord.{AdrpWord}
 use Rattle.arm64_insn.specs.declared.adrp.AdrpWord.the-variants as AdrpWord
 use Rattle.arm64_insn.specs.declared.ldst.LoadStoreWord.{LoadStoreWord}
 use Rattle.arm64_insn.specs.declared.ldst.LoadStoreWord.the-variants as LoadStoreWord
-use Rattle.arm64_insn.specs.declared.fix.Fit.the-variants.{Word, Misaligned}
+use Rattle.arm64_insn.specs.declared.fix.OffsetWord.the-variants.{Word, Misaligned}
 
 -- the page that a decoded ADRP makes, and the literal form of a decoded load
 abbrev pub pageMade : AdrpWord → ℕ → ℕ

@@ -10,8 +10,8 @@ use Rattle.util.proofs.Choice.{chosen}
 use Rattle.util.proofs.Shift.{one-shl}
 use Rattle.arm64_insn.specs.Encoding.{loadStore}
 use Rattle.arm64_insn.specs.Fix.{scaleOf, quad, offsetWith}
-use Rattle.arm64_insn.specs.declared.fix.Fit.{Fit}
-use Rattle.arm64_insn.specs.declared.fix.Fit.the-variants.{Word, Misaligned}
+use Rattle.arm64_insn.specs.declared.fix.OffsetWord.{OffsetWord}
+use Rattle.arm64_insn.specs.declared.fix.OffsetWord.the-variants.{Word, Misaligned}
 
 pub scale-le : (x : ℕ) → scaleOf x ≤ 4
 unfolding scaleOf
@@ -20,7 +20,7 @@ scale-le x = chosen P (matches loadStore x) _ 0 (chosen P (matches quad x) 4 (fi
     P : ℕ → Type 0
     P n = n ≤ 4
 
-Small : Fit → Type 0
+Small : OffsetWord → Type 0
 Small (Word w) = Unit {0}
 Small (Misaligned n) = n ≤ 16
 

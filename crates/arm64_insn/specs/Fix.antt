@@ -8,8 +8,8 @@ use Rattle.util.specs.Diagram.{Part, free, fixed, matches}
 use Rattle.arm64_insn.specs.Encoding.{loadStore}
 use Rattle.arm64_insn.specs.Manual.{ADD, NOP, MOVZ, encode, rdIn, rnIn}
 use Rattle.arm64_insn.specs.Reach.{pageOffset}
-use Rattle.arm64_insn.specs.declared.fix.Fit.{Fit}
-use Rattle.arm64_insn.specs.declared.fix.Fit.the-variants.{Word, Misaligned}
+use Rattle.arm64_insn.specs.declared.fix.OffsetWord.{OffsetWord}
+use Rattle.arm64_insn.specs.declared.fix.OffsetWord.the-variants.{Word, Misaligned}
 
 -- NOP
 abbrev pub nopWord : ℕ
@@ -33,7 +33,7 @@ unfoldable pub scaleOf : ℕ → ℕ
 scaleOf x = choose (matches loadStore x) (choose (matches quad x) 4 (field x 30 2)) 0
 
 -- the word with the page offset of val in imm12, or the access size that does not divide val
-unfoldable pub offsetWith : ℕ → ℕ → Fit
+unfoldable pub offsetWith : ℕ → ℕ → OffsetWord
 offsetWith x val =
     choose (eqb (val % 2 ^ scaleOf x) 0)
     (Word (field x 22 10 * 2 ^ 22 + val % 2 ^ 12 / 2 ^ scaleOf x * 2 ^ 10 + field x 0 10))

@@ -27,7 +27,7 @@ use Rattle.arm64_insn.specs.declared.add.Add as D
 use Rattle.arm64_insn.specs.declared.add.AddWord.the-variants as AddWord
 use Rattle.arm64_insn.specs.declared.ldst.LoadStore as L
 use Rattle.arm64_insn.specs.declared.ldst.LoadStoreWord.the-variants as LoadStoreWord
-use Rattle.arm64_insn.specs.declared.fix.Fit.the-variants.{Word, Misaligned}
+use Rattle.arm64_insn.specs.declared.fix.OffsetWord.the-variants.{Word, Misaligned}
 use Rattle.arm64_reader.specs.Check.{loadedBytes, gotFits, tlvpFits}
 use Rattle.arm64_reader.specs.Words.{isUnshiftedAdd, loadedBy}
 

@@ -3,7 +3,7 @@ use arm64_insn::add::Add;
 use arm64_insn::add::AddWord;
 use arm64_insn::adrp::Adrp;
 use arm64_insn::adrp::AdrpWord;
-use arm64_insn::fix::Fit;
+use arm64_insn::fix::OffsetWord;
 use arm64_insn::ldst::LoadStore;
 use arm64_insn::ldst::LoadStoreWord;
 use arm64_insn::stub::Words3;
@@ -114,8 +114,8 @@ fn immediate_of(word: u32, rd: u64, rn: u64) -> u64 {
 
 fn offset_word(word: u32, val: u64) -> u64 {
     match arm64_insn::fix::write_add_ldst_word(word, val) {
-        Fit::Word(w) => w as u64,
-        Fit::Misaligned(_) => DIFFERS,
+        OffsetWord::Word(w) => w as u64,
+        OffsetWord::Misaligned(_) => DIFFERS,
     }
 }
 

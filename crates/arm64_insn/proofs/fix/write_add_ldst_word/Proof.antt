@@ -8,7 +8,7 @@ use lib.Pow.{pow-pos, pow-mono}
 use Rattle.util.specs.Choice.{choose}
 use Rattle.util.proofs.Diagram.{kept}
 use Rattle.arm64_insn.specs.Fix.{scaleOf, offsetWith}
-use Rattle.arm64_insn.specs.declared.fix.Fit.the-variants.{Word}
+use Rattle.arm64_insn.specs.declared.fix.OffsetWord.the-variants.{Word}
 use Rattle.arm64_insn.proofs.Scale.{scale-le, scaled}
 use Rattle.arm64_insn.proofs.Kept.{besideImm12}
 use borrow.Author.Needs.{needs}
