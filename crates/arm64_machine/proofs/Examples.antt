@@ -8,6 +8,7 @@ use Rattle.arm64_insn.specs.Manual.{decode}
 use Rattle.arm64_insn.specs.ManualTargets.{adrTarget, literalTarget, accessAddress, addValue}
 use Rattle.arm64_insn.specs.Page.{pageOf, adrpPage}
 use Rattle.arm64_insn.specs.Manual as Manual
+use Rattle.arm64_machine.specs.Examples.{start, entry, idle}
 use Rattle.arm64_machine.specs.Premises.{Each, links31, adds31, storesMade, FairWords}
 use Rattle.arm64_machine.specs.SameRun.{SameRun}
 use Rattle.arm64_machine.proofs.FairLaws.{load-literal, add-adr, chain}
@@ -16,22 +17,12 @@ use Rattle.arm64_machine.proofs.Rewrites.{folded}
 use Rattle.arm64_machine.proofs.Different.{access-dropped, literal-elsewhere, adrp-dropped, adrp-dropped-before, other-replaced, sign-lost}
 use lib.Dec.{lit<}
 use native.Mathlib.Omega.{arith}
-use Rattle.arm64_machine.specs.Machine.{Kind, load, store, Access, State, Other, placed, other, action}
+use Rattle.arm64_machine.specs.Machine.{load, store, State, Other, placed, other, action}
 use Rattle.arm64_machine.specs.Machine.{read, write, setX, setSP, setV, setMemory, listed, base, moved, run}
-
--- each register holds 0x10f0 plus its number, the stack pointer 0x2000, each byte the low byte of its address
-abbrev start : State
-start = record { x = λ r. 0x10f0 + r; sp = 0x2000; v = λ r. 0x10f0 + r; memory = λ a. a % 256; log = [] }
-
-abbrev idle : Other
-idle w p x sp v memory = record { x = x; sp = sp; v = v; memory = memory; log = [] }
 
 -- the state after one word at 0x1004
 abbrev after : ℕ → State
 after w = run idle (placed w 0x1004 ∷ []) start
-
-abbrev entry : Kind → ℕ → ℕ → ℕ → Access
-entry k a n u = record { kind = k; address = a; width = n; value = u }
 
 -- what single words do
 pub record Examples : Type 0 where

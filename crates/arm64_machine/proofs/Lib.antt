@@ -6,5 +6,6 @@ pub mod FairLaws
 pub mod FairTest
 pub mod Different
 pub mod Examples
+pub mod Pinned
 pub mod Accessed
 pub mod Words

@@ -2,3 +2,4 @@
 pub mod Machine
 pub mod SameRun
 pub mod Premises
+pub mod Examples

@@ -1,4 +1,5 @@
 -- The machine of RULES 9.1 to 9.8: what it holds, what a word does, and what a list of words does.
+-- What each instruction does: Arm Architecture Reference Manual, C6.2; loads and stores of vector registers (V = 1), C7.2.
 -- A register, the stack pointer or a byte of memory may hold any number; the machine takes as many of its low bits as it needs, at most
 -- 64 of a general register or the stack pointer, 128 of a vector register, 8 of a byte. Addresses are taken modulo 2^64.
 use Prim.Native.Nat.{ℕ, zero, suc, _+_, _*_, _/_, _%_, _^_}
