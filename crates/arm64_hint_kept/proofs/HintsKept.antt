@@ -4,10 +4,15 @@ use mathlib.Core.Bool.{true, false}
 use mathlib.Core.List.{List, [], _∷_, _++_}
 use Prim.Native.Nat.{ℕ, _<_}
 use native.Mathlib.Omega.{arith}
+use lib.Dec.{lit<}
 use lib.ListN.{length}
 use Rattle.util.proofs.All.{all-map}
 use Rattle.util.proofs.Cases.{less-or}
+use Rattle.macho.specs.Refusal.{numberOf}
 use Rattle.macho.specs.declared.hint.HintRecord.{HintRecord}
+use Rattle.macho.specs.declared.refusal.Refusal.{Refusal}
+use Rattle.macho.specs.declared.refusal.Refusal.the-variants.{Lengths, Slots, Bounds, LoneAddend, Unsupported, Unfit}
+use Rattle.macho.specs.declared.refusal.Refusal.the-variants.{NoSection, LoneSubtractor, Overflow, NeedsSymbol, Flags, NoEntry}
 use Rattle.macho.specs.Hint.{hintCount, hintOf}
 use Rattle.image.specs.Words.{wordsAt}
 use Rattle.image.specs.Steps.{Work, written, stepOf}
@@ -24,7 +29,7 @@ use Rattle.arm64_hint_check.proofs.Checks.{Ready, ready, each-fit}
 use Rattle.arm64_hint_work.specs.Step.{placesOf, stepsOf}
 use Rattle.arm64_hint_work.specs.declared.tally.Tally.{Tally}
 use Rattle.arm64_hint_work.proofs.Steps.{add-swap}
-use Rattle.arm64_hint_run.specs.Run.{start, worked, runOf, imageOf}
+use Rattle.arm64_hint_run.specs.Run.{start, worked, runOf, imageOf, runNumber, tallyAfter}
 use Rattle.arm64_hint_run.specs.declared.run.RunAnswer.{RunAnswer}
 use Rattle.arm64_hint_run.specs.declared.run.RunAnswer.the-variants as A
 use Rattle.arm64_hint_run.proofs.Parts.{places-inside, in-part}
@@ -137,3 +142,36 @@ of-the-run image hints entries left answer says leaves t done =
       own .1,
       λ l once. literally image hints entries l t (hints-kept image hints entries t e l once),
     )
+
+-- ---- the exported call
+
+-- no refusal has the number 0
+some-number : (x : Refusal) → 0 < numberOf x
+some-number Lengths = lit< tt
+some-number Slots = lit< tt
+some-number Bounds = lit< tt
+some-number LoneAddend = lit< tt
+some-number Unsupported = lit< tt
+some-number Unfit = lit< tt
+some-number NoSection = lit< tt
+some-number LoneSubtractor = lit< tt
+some-number Overflow = lit< tt
+some-number NeedsSymbol = lit< tt
+some-number Flags = lit< tt
+some-number NoEntry = lit< tt
+
+-- an answer of the number 0 is done, and its counts are what the lent tally gets
+zero-done : (old : Tally) (a : RunAnswer) → runNumber a ≡ 0 → a ≡ A.Done (tallyAfter old a)
+zero-done old (A.Done t) e = refl
+zero-done old (A.Refused x) e = absurd (omega (arith, some-number x))
+
+-- The claim of the exported call: `number` is what `hauklivo_apply_hints` returns, `tally` and `left` what it leaves, each with its promise
+pub of-the-call : (image hints entries left : List ℕ) (old tally : Tally) (number : ℕ) → number ≡ runNumber (runOf image hints entries)
+    → tally ≡ tallyAfter old (runOf image hints entries) → left ≡ imageOf image hints entries → number ≡ 0
+    → (worked image hints entries (orderOf hints) ≡ record { image = left; tally = tally })
+    × (Once (hintCount hints) (orderOf hints))
+    × (Kept hints (orderOf hints))
+    × ((l : List ℕ) → Once (hintCount hints) l → Literally image hints entries l tally)
+of-the-call image hints entries left old tally number says counts leaves zero =
+    of-the-run image hints entries left (runOf image hints entries) refl leaves tally
+    (zero-done old (runOf image hints entries) (sym says ∙ zero) ∙ ap (λ (t : Tally). A.Done t) (sym counts))

@@ -1,23 +1,19 @@
 -- Each premise is needed: hints that meet all the others, with what the run really makes of them, and a run of the machine that tells the two apart.
 use mathlib.Core.Path.{_≡_, refl, ap}
-use mathlib.Core.Bool.{Bool, true, false}
+use mathlib.Core.Bool.{true, false}
 use mathlib.Core.List.{List, [], _∷_}
 use Prim.Native.Nat.{ℕ, suc}
 use native.Mathlib.Omega.{arith}
 use lib.Dec.{lit<}
-use Rattle.macho.specs.Hint.{noEntry, hintCount, hintOf}
-use Rattle.macho.specs.declared.hint.HintRecord.{HintRecord}
-use Rattle.arm64_hint_order.specs.Lists.{Once}
-use Rattle.arm64_hint_order.specs.Cursor.{orderOf}
+use Rattle.macho.specs.Hint.{noEntry, hintOf}
 use Rattle.arm64_machine.specs.Machine.{Access}
+use Rattle.arm64_machine.specs.Examples.{start, idle}
 use Rattle.arm64_hint_work.specs.Step.{placesOf}
-use Rattle.arm64_hint_run.specs.Run.{worked, runOf, imageOf}
-use Rattle.arm64_hint_run.specs.declared.run.RunAnswer.the-variants.{Done}
-use Rattle.arm64_hint_run.proofs.Examples.{words as code, place}
-use Rattle.arm64_hint_kept.specs.HintsKept.{Disjoint, Alone, Kept, PartsApart, Same}
+use Rattle.arm64_hint_kept.specs.HintsKept.{Disjoint}
+use Rattle.arm64_hint_kept.specs.Examples.{place, none-at, hintIn, lent, pair, gotPair}
+use Rattle.arm64_hint_kept.specs.Needed.{Fails, sharing, Shared, Meeting}
 use Rattle.arm64_hint_kept.proofs.Computing.{runs, machine}
-use Rattle.arm64_hint_kept.proofs.Tests.{tests, once-by, kept-by}
-use Rattle.arm64_hint_kept.proofs.Examples.{none-at, hint, lent, plain, got, counts, all-true, start, idle}
+use Rattle.arm64_hint_kept.proofs.Tests.{once-by, kept-by}
 
 -- one more than the address of the first access, and its value; 0 where there is none
 abbrev address : List Access → ℕ
@@ -28,16 +24,8 @@ abbrev value : List Access → ℕ
 value [] = 0
 value (a ∷ log) = a .value
 
--- a run of one hint h with the words ws: the tests of the premises come out as `holds` says (disjoint, allocated, aligned, no link by 31, no ADD
--- to 31, no store of what was made), the hint is rewritten, and the new words do not run as the old ones
-pub record Fails (entries : List ℕ) (h : HintRecord) (ws : List ℕ) (holds : List Bool) (new : List ℕ) : Type 0 where
-  pub premises : tests (hintOf (lent (h ∷ [])) 0) (code ws) ≡ holds
-  pub done : runOf (code ws) (lent (h ∷ [])) entries ≡ Done (counts 1 0 0 0)
-  pub leaves : imageOf (code ws) (lent (h ∷ [])) entries ≡ code new
-  pub differ : Same (hintOf (lent (h ∷ [])) 0) (code ws) (code new) → ⊥
-
 -- disjoint: ADRP_ADRP that names one word twice blanks it
-pub one-word-twice : Fails plain (hint 1 0 0 4 (place 0 0 0x1000) (place 0 0 0x1000) none-at) (0x90000000 ∷ [])
+pub one-word-twice : Fails pair (hintIn 1 0 0 4 (place 0 0 0x1000) (place 0 0 0x1000) none-at) (0x90000000 ∷ [])
     (false ∷ true ∷ true ∷ true ∷ true ∷ true ∷ []) (0xd503201f ∷ [])
 unfolding runs machine
 one-word-twice = record {
@@ -48,12 +36,12 @@ one-word-twice = record {
 }
 
 -- its two words are one
-pub one-word-shared : Disjoint (placesOf (hintOf (lent (hint 1 0 0 4 (place 0 0 0x1000) (place 0 0 0x1000) none-at ∷ [])) 0)) → ⊥
+pub one-word-shared : Disjoint (placesOf (hintOf (lent (hintIn 1 0 0 4 (place 0 0 0x1000) (place 0 0 0x1000) none-at ∷ [])) 0)) → ⊥
 unfolding runs
 one-word-shared d = d .0 0 refl refl
 
 -- allocated: an unallocated word is taken as ldr s0, [x1, #8]
-pub unallocated : Fails plain (hint 2 0 0 8 (place 0 0 0x9ff019ccdecb92c) (place 4 1 0x9ff019ccdecb930) none-at) (0xb0fffbe1 ∷ 0xbd800820 ∷ [])
+pub unallocated : Fails pair (hintIn 2 0 0 8 (place 0 0 0x9ff019ccdecb92c) (place 4 1 0x9ff019ccdecb930) none-at) (0xb0fffbe1 ∷ 0xbd800820 ∷ [])
     (true ∷ false ∷ true ∷ true ∷ true ∷ true ∷ []) (0xd503201f ∷ 0x1cbe36c0 ∷ [])
 unfolding runs machine
 unallocated = record {
@@ -64,7 +52,7 @@ unallocated = record {
 }
 
 -- aligned: from 0x1006 no literal load reaches a multiple of 4
-pub unaligned : Fails plain (hint 2 0 0 8 (place 0 0 0x1002) (place 4 1 0x1006) none-at) (0x90000000 ∷ 0x3ded9c01 ∷ [])
+pub unaligned : Fails pair (hintIn 2 0 0 8 (place 0 0 0x1002) (place 4 1 0x1006) none-at) (0x90000000 ∷ 0x3ded9c01 ∷ [])
     (true ∷ true ∷ false ∷ true ∷ true ∷ true ∷ []) (0xd503201f ∷ 0x9c05b341 ∷ [])
 unfolding runs machine
 unaligned = record {
@@ -75,7 +63,7 @@ unaligned = record {
 }
 
 -- no link by 31: adrp xzr; ldr s1, [sp]
-pub linked-by-31 : Fails plain (hint 2 0 0 8 (place 0 0 0x1000) (place 4 1 0x1004) none-at) (0x9000001f ∷ 0xbd4003e1 ∷ [])
+pub linked-by-31 : Fails pair (hintIn 2 0 0 8 (place 0 0 0x1000) (place 4 1 0x1004) none-at) (0x9000001f ∷ 0xbd4003e1 ∷ [])
     (true ∷ true ∷ true ∷ false ∷ true ∷ true ∷ []) (0xd503201f ∷ 0x1cffffe1 ∷ [])
 unfolding runs machine
 linked-by-31 = record {
@@ -86,7 +74,7 @@ linked-by-31 = record {
 }
 
 -- no ADD to 31: add sp, x0, #16 becomes an ADR to xzr
-pub added-to-31 : Fails plain (hint 7 0 0 8 (place 0 0 0x1000) (place 4 1 0x1004) none-at) (0xd0000340 ∷ 0x9100401f ∷ [])
+pub added-to-31 : Fails pair (hintIn 7 0 0 8 (place 0 0 0x1000) (place 4 1 0x1004) none-at) (0xd0000340 ∷ 0x9100401f ∷ [])
     (true ∷ true ∷ true ∷ true ∷ false ∷ true ∷ []) (0x1035009f ∷ 0xd503201f ∷ [])
 unfolding runs machine
 added-to-31 = record {
@@ -97,7 +85,7 @@ added-to-31 = record {
 }
 
 -- no store of what was made: str x0, [x2] stores what ADRP made
-pub made-and-stored : Fails got (hint 6 0 0 12 (place 0 0 0x1000) (place 4 1 0x1004) (place 8 noEntry 0x1008)) (0x90000000 ∷ 0x91004002 ∷ 0xf9000040 ∷ [])
+pub made-and-stored : Fails gotPair (hintIn 6 0 0 12 (place 0 0 0x1000) (place 4 1 0x1004) (place 8 noEntry 0x1008)) (0x90000000 ∷ 0x91004002 ∷ 0xf9000040 ∷ [])
     (true ∷ true ∷ true ∷ true ∷ true ∷ false ∷ []) (0x10000082 ∷ 0xd503201f ∷ 0xf9000040 ∷ [])
 unfolding runs machine
 made-and-stored = record {
@@ -109,22 +97,6 @@ made-and-stored = record {
 
 -- ---- hints that share a byte
 
--- adrp x0; ldr x1, [x0, #8]; add x2, x0, #3
-abbrev shared : List ℕ
-shared = code (0x90000000 ∷ 0xf9400401 ∷ 0x91000c02 ∷ [])
-
--- ADRP_LDR on the first and second word and ADRP_ADD on the first and third, of the objects i and j
-abbrev sharing : ℕ → ℕ → List HintRecord
-sharing i j = hint 2 i 0 12 (place 0 0 0x1000) (place 4 1 0x1004) none-at ∷ hint 7 j 0 12 (place 0 0 0x1000) (place 8 1 0x1008) none-at ∷ []
-
--- Alone: the first hint blanks the ADRP, the second declines, and its words, which meet every premise, no longer make x2
-pub record Shared : Type 0 where
-  pub premises : tests (hintOf (lent (sharing 0 0)) 1) shared ≡ all-true
-  pub done : runOf shared (lent (sharing 0 0)) plain ≡ Done (counts 1 0 1 0)
-  pub leaves : imageOf shared (lent (sharing 0 0)) plain ≡ code (0xd503201f ∷ 0x58000021 ∷ 0x91000c02 ∷ [])
-  pub differ : Same (hintOf (lent (sharing 0 0)) 1) shared (code (0xd503201f ∷ 0x58000021 ∷ 0x91000c02 ∷ [])) → ⊥
-  pub together : Alone (lent (sharing 0 0)) 1 → ⊥
-
 pub not-alone : Shared
 unfolding runs machine
 not-alone = record {
@@ -134,16 +106,6 @@ not-alone = record {
   differ = λ same. let z : _≡_ {A = ℕ} 0x1003 0x10f3 = same .agree idle start .x 2 (lit< tt) refl in omega arith;
   together = λ alone. alone 0 (lit< tt) (λ e. omega arith) 0 refl refl;
 }
-
--- parts of different objects: the list 0, 1 keeps each object's own order, and leaves another image than the run, which is 1 and then 0
-pub record Meeting : Type 0 where
-  pub done : runOf shared (lent (sharing 2 1)) plain ≡ Done (counts 1 0 1 0)
-  pub own : orderOf (lent (sharing 2 1)) ≡ 1 ∷ 0 ∷ []
-  pub leaves : imageOf shared (lent (sharing 2 1)) plain ≡ code (0x70000002 ∷ 0xf9400401 ∷ 0xd503201f ∷ [])
-  pub other : worked shared (lent (sharing 2 1)) plain (0 ∷ 1 ∷ []) .image ≡ code (0xd503201f ∷ 0x58000021 ∷ 0x91000c02 ∷ [])
-  pub once : Once (hintCount (lent (sharing 2 1))) (0 ∷ 1 ∷ [])
-  pub kept : Kept (lent (sharing 2 1)) (0 ∷ 1 ∷ [])
-  pub meet : PartsApart (lent (sharing 2 1)) → ⊥
 
 pub parts-meet : Meeting
 unfolding runs

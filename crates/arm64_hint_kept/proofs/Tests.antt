@@ -1,12 +1,11 @@
--- The premises that are needed (RULES 9.12 to 9.17) as tests: on closed hints and images they are computed.
+-- The premises (RULES 9.12 to 9.20) and what is said of lists of hints as tests: on closed hints and images they are computed.
 use mathlib.Core.Path.{_≡_, refl, sym, ap, ap₂, _∙_}
 use mathlib.Core.Logic.{inl, inr}
 use mathlib.Core.Bool.{Bool, true, false, not, _&&_, _||_, true≢false}
 use mathlib.Core.List.{List, [], _∷_}
-use Prim.Native.Nat.{ℕ, _+_, _%_, _<_}
+use Prim.Native.Nat.{ℕ, _+_, _<_}
 use borrow.Author.Tests.{ltb-true, leb-true, eqb-true, not-true}
 use lib.Dec.{eqb, ltb, leb}
-use lib.ListN.{getD}
 use Rattle.util.specs.All.{All, empty, more}
 use Rattle.util.proofs.Choice.{both}
 use Rattle.util.proofs.Below.{every, every-at}
@@ -19,27 +18,19 @@ use Rattle.arm64_hint_order.specs.Lists.{count, ofObj, Once, passes, bound}
 use Rattle.arm64_hint_order.specs.Cursor.{objectAt, lateAt}
 use Rattle.arm64_hint_order.proofs.Lists.{once-of}
 use Rattle.arm64_hint_order.proofs.Own.{kept-of}
-use Rattle.arm64_insn.specs.Manual.{allocated}
-use Rattle.arm64_machine.specs.Premises.{links31, adds31, storesMade}
-use Rattle.arm64_machine.proofs.FairTest.{each, next, later, fair-by}
+use Rattle.arm64_machine.specs.Machine.{Other, State}
+use Rattle.arm64_machine.specs.Tests.{each}
+use Rattle.arm64_machine.proofs.FairTest.{each-by, fair-by, leftOut, premises-by}
 use Rattle.arm64_hint_places.specs.Hint.{isSkipped}
 use Rattle.arm64_hint_work.specs.Step.{placesOf}
-use Rattle.arm64_hint_kept.specs.HintsKept.{codes, Disjoint, Kept, PartsApart, Alone, Fair}
+use Rattle.arm64_hint_kept.specs.HintsKept.{codes, Disjoint, Kept, PartsApart, Alone, Fair, Premises}
+use Rattle.arm64_hint_kept.specs.Tests.{far, spaced, tests}
 
 -- ---- words that share no byte
 
 either : {G : Type 0} (a b : Bool) → (a || b) ≡ true → (a ≡ true → G) → (b ≡ true → G) → G
 either true b e f g = f refl
 either false b e f g = g e
-
--- whether the words at two places do not meet
-abbrev pub far : ℕ → ℕ → Bool
-far at q = leb (at + 4) q || leb (q + 4) at
-
--- whether no two of the words at some places meet
-abbrev pub spaced : List ℕ → Bool
-spaced [] = true
-spaced (at ∷ places) = each (far at) places && spaced places
 
 far-apart : (at q : ℕ) → far at q ≡ true → Apart (span at 4) (span q 4)
 far-apart at q e =
@@ -66,33 +57,34 @@ words-apart (at ∷ ps) qs e b p q =
     let f = both (each (far at) qs) (each (λ at. each (far at) qs) ps) e in
     either (span at 4 b) (inWords ps b) p (λ h. word-apart at qs (f .0) b h q) (λ h. words-apart ps qs (f .1) b h q)
 
+-- whether hint j is hint k, or shares no byte with it
+abbrev pub farFrom : List ℕ → ℕ → ℕ → Bool
+farFrom hints k j = eqb j k || each (λ at. each (far at) (placesOf (hintOf hints k))) (placesOf (hintOf hints j))
+
 -- hint k shares no byte with another
-pub alone-by : (hints : List ℕ) (k : ℕ)
-    → every (λ j. eqb j k || each (λ at. each (far at) (placesOf (hintOf hints k))) (placesOf (hintOf hints j))) (hintCount hints) ≡ true
-    → Alone hints k
+pub alone-by : (hints : List ℕ) (k : ℕ) → every (farFrom hints k) (hintCount hints) ≡ true → Alone hints k
 alone-by hints k e j l ne b p q =
     let away : Bool = each (λ at. each (far at) (placesOf (hintOf hints k))) (placesOf (hintOf hints j)) in
-    let t = every-at (λ j. eqb j k || each (λ at. each (far at) (placesOf (hintOf hints k))) (placesOf (hintOf hints j))) (hintCount hints) e j l in
-    either (eqb j k) away t (λ s. ne (eqb-true j k s)) (λ f. words-apart (placesOf (hintOf hints j)) (placesOf (hintOf hints k)) f b p q)
+    either (eqb j k) away (every-at (farFrom hints k) (hintCount hints) e j l)
+    (λ s. ne (eqb-true j k s))
+    (λ f. words-apart (placesOf (hintOf hints j)) (placesOf (hintOf hints k)) f b p q)
 
 -- ---- a hint's words
 
--- whether they are disjoint, allocated, aligned, without a link by 31, without an ADD to 31, without a store of what they made
-abbrev pub tests : HintRecord → List ℕ → List Bool
-tests h image =
-    spaced (placesOf h)
-    ∷ each (λ w. allocated (w .word)) (codes h image)
-    ∷ each (λ w. eqb (w .address % 4) 0) (codes h image)
-    ∷ next (λ w u. not (links31 w u)) (codes h image)
-    ∷ each (λ w. not (adds31 (w .word))) (codes h image)
-    ∷ later (λ w u. not (storesMade w u)) (codes h image)
-    ∷ []
-
-pub fair-when : (h : HintRecord) (image : List ℕ) → tests h image ≡ true ∷ true ∷ true ∷ true ∷ true ∷ true ∷ [] → Fair h image
+pub fair-when : (h : HintRecord) (image : List ℕ) → each (λ t. t) (tests h image) ≡ true → Fair h image
 fair-when h image e =
-    let at : (i : ℕ) → getD (tests h image) i true ≡ getD (true ∷ true ∷ true ∷ true ∷ true ∷ true ∷ []) i true =
-    λ i. ap (λ (l : List Bool). getD l i true) e in
-    record { disjoint = disjoint-by (placesOf h) (at 0); words = fair-by (at 1) (at 2) (at 3) (at 4) (at 5) }
+    let f = each-by (λ t. t) (λ t. t ≡ true) (λ t h. h) (tests h image) e in
+    record { disjoint = disjoint-by (placesOf h) (f .0); words = fair-by (f .1 .0) (f .1 .1 .0) (f .1 .1 .1 .0) (f .1 .1 .1 .1 .0) (f .1 .1 .1 .1 .1 .0) }
+
+-- whether they meet every premise (RULES 9.12 to 9.20) in a run from state s
+abbrev pub meetsAll : HintRecord → List ℕ → Other → State → Bool
+meetsAll h image o s = each (λ t. t) (tests h image) && leftOut (codes h image) o s
+
+pub premises-when : (h : HintRecord) (image : List ℕ) (o : Other) (s : State) → s .log ≡ [] → meetsAll h image o s ≡ true → Premises h image o s
+premises-when h image o s bare e =
+    let b = both (each (λ t. t) (tests h image)) (leftOut (codes h image) o s) e in
+    let fair = fair-when h image (b .0) in
+    record { disjoint = fair .disjoint; words = premises-by (codes h image) o s (fair .words) bare (b .1) }
 
 -- ---- parts
 

@@ -1,2 +1,6 @@
--- The statement of RULES 9.
+-- The statement of RULES 9, and what its examples are made of.
 pub mod HintsKept
+pub mod Tests
+pub mod Examples
+pub mod ExampleRuns
+pub mod Needed

@@ -1,7 +1,7 @@
 -- The machine on closed words: each fact is computed.
 use mathlib.Core.Path.{_≡_, refl, ap}
 use mathlib.Core.List.{[], _∷_}
-use Prim.Native.Nat.{ℕ, _+_, _%_}
+use Prim.Native.Nat.{ℕ}
 use Rattle.util.specs.Choice.{choose}
 use Rattle.arm64_insn.specs.LoadStoreTable.{rowOf, literalRowOf}
 use Rattle.arm64_insn.specs.Manual.{decode}

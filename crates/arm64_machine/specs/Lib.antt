@@ -2,4 +2,5 @@
 pub mod Machine
 pub mod SameRun
 pub mod Premises
+pub mod Tests
 pub mod Examples

@@ -12,6 +12,7 @@ use Rattle.arm64_machine.specs.Machine.{action}
 use Rattle.arm64_machine.specs.SameRun.{SameRun}
 use Rattle.arm64_machine.proofs.Different as Different
 use Rattle.arm64_machine.proofs.Examples as Machine
+use Rattle.arm64_machine.proofs.Pinned as Pinned
 use Rattle.arm64_hint_order.specs.Cursor.{objectAt, lateAt}
 use Rattle.arm64_hint_order.proofs.Own as Own
 use Rattle.arm64_hint_run.proofs.Answers.{run-is}
@@ -49,12 +50,11 @@ kept =
       premises-fair = K.literal;
       literally = K.literally;
       of-the-run = K.of-the-run;
+      of-the-call = K.of-the-call;
       decided = λ kind s r a b c. decided kind s r (record { first = a; second = b; third = c });
-      rewritten = Examples.rewritten;
-      meets-all = Examples.meets-all;
-      meets-all-three = Examples.meets-all-three;
+      each-rewrite = Examples.each-rewrite;
       one-of-each = (Runs.own-order, Runs.one-of-each, Runs.other-list, Runs.other-ends);
-      both = (Runs.both-done, Runs.both-end .0, Runs.both-end .1);
+      all-end = (Runs.all-done .0, Runs.all-done .1, Runs.all-end .0, Runs.all-end .1);
       falls = Runs.falling-ends;
       kind-1-last = (Runs.late-order, Runs.late-run .0, Runs.late-run .1, Runs.by-position, Runs.not-kept);
       needs-disjoint = Needed.one-word-twice;
@@ -65,6 +65,12 @@ kept =
       needs-no-store = Needed.made-and-stored;
       needs-alone = Needed.not-alone;
       needs-apart = Needed.parts-meet;
+      store-cut = Pinned.store-cut;
+      store-bytes = Pinned.store-bytes;
+      load-bytes = Pinned.load-bytes;
+      other-address = Pinned.other-address;
+      other-vectors = Pinned.other-vectors;
+      other-listed = Pinned.other-listed;
       access-dropped = Different.access-dropped;
       literal-elsewhere = Different.literal-elsewhere;
       adrp-dropped = Different.adrp-dropped;

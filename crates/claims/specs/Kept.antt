@@ -12,7 +12,8 @@ use Rattle.arm64_insn.specs.LoadStoreTable as Table
 use Rattle.arm64_insn.specs.LoadStoreTable.{Row, Mnemonic, general, zeros, sign64}
 use Rattle.arm64_insn.specs.ManualTargets.{literalTarget, accessAddress}
 use Rattle.arm64_insn.specs.Page.{adrpPage}
-use Rattle.arm64_machine.specs.Machine.{Placed, placed, State, Other, action, adrp, access, literal, nop, other}
+use Rattle.arm64_machine.specs.Machine.{load, store, Placed, placed, State, Other, action, adrp, access, literal, nop, other, run}
+use Rattle.arm64_machine.specs.Examples.{start, high, entry, idle, placing, copying, loading}
 use Rattle.arm64_machine.specs.SameRun.{SameRun}
 use Rattle.arm64_machine.specs.Premises as Machine
 use Rattle.arm64_hint_terms.specs.declared.answer.Insns.{Insns}
@@ -26,16 +27,14 @@ use Rattle.arm64_hint_order.specs.Lists.{Once}
 use Rattle.arm64_hint_order.specs.Cursor.{objectAt, lateAt, orderOf}
 use Rattle.arm64_hint_order.specs.Rising.{Rising}
 use Rattle.arm64_hint_work.specs.declared.tally.Tally.{Tally}
-use Rattle.arm64_hint_run.specs.Run.{worked, runOf, imageOf}
+use Rattle.arm64_hint_run.specs.Run.{worked, runOf, imageOf, runNumber, tallyAfter}
 use Rattle.arm64_hint_run.specs.declared.run.RunAnswer.{RunAnswer}
 use Rattle.arm64_hint_run.specs.declared.run.RunAnswer.the-variants.{Done}
 use Rattle.arm64_hint_kept.specs.HintsKept.{Fair, Same, HintsKept, Premises, Literally}
 use Rattle.arm64_hint_kept.specs.HintsKept as Order
-use Rattle.arm64_hint_kept.proofs.Examples as Examples
-use Rattle.arm64_hint_kept.proofs.Examples.{none-at, hint, lent, single, plain, got, counts, start, idle}
-use Rattle.arm64_hint_kept.proofs.Needed as Needed
-use Rattle.arm64_hint_kept.proofs.Needed.{Fails}
-use Rattle.claims.specs.Lent.{words, place}
+use Rattle.arm64_hint_kept.specs.Examples.{words, place, none-at, hintIn, lent, pair, gotPair, counts, EachRewrite}
+use Rattle.arm64_hint_kept.specs.ExampleRuns.{four, fourWords, fourAfter, beside, besideWords, besideAfter, falling, late, lateWords, lateAfter, AllEnd}
+use Rattle.arm64_hint_kept.specs.Needed.{Fails, Shared, Meeting}
 
 -- the first n words of a hint with their addresses
 abbrev pub placedOf : ℕ → Insns → List Placed
@@ -68,59 +67,6 @@ one p w = placed w p ∷ []
 abbrev pub two : (p q w u : ℕ) → List Placed
 two p q w u = placed w p ∷ placed u q ∷ []
 
--- ---- hints of the examples
-
--- positions 0 to 3: example 6, of object 2; then of object 1 one of no kind, one out of reach, and one whose sum passes 2^64 - 1
-abbrev pub four : List HintRecord
-four =
-    hint 2 2 0 8 (place 0 0 0x1000) (place 4 1 0x1004) none-at
-    ∷ hint 9 1 0 0 none-at none-at none-at
-    ∷ hint 7 1 8 8 (place 0 0 0x1000) (place 4 1 0x1004) none-at
-    ∷ hint 2 1 16 8 (place 0 0 0xfffffffffffff000) (place 4 1 0xfffffffffffff004) none-at
-    ∷ []
-
--- their words before the run
-abbrev pub fourWords : List ℕ
-fourWords = words (0x90000000 ∷ 0xf9400401 ∷ 0x90008000 ∷ 0x91000000 ∷ 0x90000001 ∷ 0xbd29d025 ∷ [])
-
--- and after it
-abbrev pub fourAfter : List ℕ
-fourAfter = words (0xd503201f ∷ 0x58000021 ∷ 0x90008000 ∷ 0x91000000 ∷ 0x90000001 ∷ 0xbd29d025 ∷ [])
-
--- two hints in one part, whose words share no byte: adrp x0; ldr x1, [x0, #8]; adrp x0; add x0, x0, #3
-abbrev pub beside : List HintRecord
-beside =
-    hint 2 0 0 16 (place 0 0 0x1000) (place 4 1 0x1004) none-at
-    ∷ hint 7 0 0 16 (place 8 0 0x1008) (place 12 1 0x100c) none-at
-    ∷ []
-
--- their words before the run
-abbrev pub besideWords : List ℕ
-besideWords = words (0x90000000 ∷ 0xf9400401 ∷ 0x90000000 ∷ 0x91000c00 ∷ [])
-
--- and after it
-abbrev pub besideAfter : List ℕ
-besideAfter = words (0xd503201f ∷ 0x58000021 ∷ 0x70ffffc0 ∷ 0xd503201f ∷ [])
-
--- a hint whose first word stands after its second
-abbrev pub falling : List HintRecord
-falling = hint 2 0 0 8 (place 4 0 0x1004) (place 0 1 0x1000) none-at ∷ []
-
--- one object, whose hint of kind 1 stands first and is worked last: adrp x0; adrp x0; ldr x1, [x0, #8]
-abbrev pub late : List HintRecord
-late =
-    hint 1 0 0 12 (place 0 0 0x1000) (place 4 0 0x1004) none-at
-    ∷ hint 2 0 0 12 (place 4 0 0x1004) (place 8 1 0x1008) none-at
-    ∷ []
-
--- the words before the run
-abbrev pub lateWords : List ℕ
-lateWords = words (0x90000000 ∷ 0x90000000 ∷ 0xf9400401 ∷ [])
-
--- and after it
-abbrev pub lateAfter : List ℕ
-lateAfter = words (0x90000000 ∷ 0xd503201f ∷ 0x58000001 ∷ [])
-
 -- what a run of hints keeps
 pub record Kept : Type 0 where
   -- RULES 1.11 to 1.14, 9.27 to 9.29: of every list of a run's hint steps with each hint once
@@ -144,52 +90,70 @@ pub record Kept : Type 0 where
       × (Once (hintCount hints) (orderOf hints))
       × (Order.Kept hints (orderOf hints))
       × ((l : List ℕ) → Once (hintCount hints) l → Literally image hints entries l t)
+  -- RULES 1.9 to 1.13 of the exported call: `number`, `tally` and `left` are what the contract of hauklivo/src/hints.rt says that it returns and leaves
+  pub of-the-call : (image hints entries left : List ℕ) (old tally : Tally) (number : ℕ) → number ≡ runNumber (runOf image hints entries)
+      → tally ≡ tallyAfter old (runOf image hints entries) → left ≡ imageOf image hints entries → number ≡ 0
+      → (worked image hints entries (orderOf hints) ≡ record { image = left; tally = tally })
+      × (Once (hintCount hints) (orderOf hints))
+      × (Order.Kept hints (orderOf hints))
+      × ((l : List ℕ) → Once (hintCount hints) l → Literally image hints entries l tally)
   -- RULES 1.9: fair words run as what is decided of them, for every kind and whatever the entries say
   pub decided : (kind : ℕ) (s : Insns) (r : Rels) → s .p0 < 2 ^ 64 → s .p1 < 2 ^ 64 → s .p2 < 2 ^ 64 → Machine.FairWords (placedOf (wordCount kind) s)
       → SameRun (placedOf (wordCount kind) s) (placedOf (wordCount kind) (after (decide kind s r) s))
-  -- not vacuous: hints of each kind and rewrite that meet the premises and are rewritten (the list: arm64_hint_kept/proofs/Examples)
-  pub rewritten : Examples.Rewritten
-  -- examples 6 and 8 meet every premise
-  pub meets-all : Premises (hintOf (lent (single 2 0x1000 2)) 0) (words (0x90000000 ∷ 0xf9400401 ∷ [])) idle start
-  pub meets-all-three : Premises (hintOf (lent (single 5 0x1000 3)) 0) (words (0x90001000 ∷ 0x91004000 ∷ 0xf9000001 ∷ [])) idle start
+  -- not vacuous: for each kind and each rewrite that it ends in, a hint that meets every premise, is rewritten, and whose words then run alike
+  pub each-rewrite : EachRewrite
   -- one hint of each count, in the order 1, 2, 3, 0; the list 0, 1, 2, 3 leaves the same
   pub one-of-each : (orderOf (lent four) ≡ 1 ∷ 2 ∷ 3 ∷ 0 ∷ [])
-      × (runOf fourWords (lent four) plain ≡ Done (counts 1 1 1 1))
-      × (worked fourWords (lent four) plain (0 ∷ 1 ∷ 2 ∷ 3 ∷ []) ≡ record { image = fourAfter; tally = counts 1 1 1 1 })
+      × (runOf fourWords (lent four) pair ≡ Done (counts 1 1 1 1))
+      × (worked fourWords (lent four) pair (0 ∷ 1 ∷ 2 ∷ 3 ∷ []) ≡ record { image = fourAfter; tally = counts 1 1 1 1 })
       × Same (hintOf (lent four) 0) fourWords fourAfter
-  -- two hints in one part are both rewritten, and each one's words run as before
-  pub both : (runOf besideWords (lent beside) plain ≡ Done (counts 2 0 0 0))
-      × Same (hintOf (lent beside) 0) besideWords besideAfter
-      × Same (hintOf (lent beside) 1) besideWords besideAfter
+  -- three hints that meet every premise are all rewritten, and the words of each run in the last image as in the first: by the run's own list, and by
+  -- one that does not keep an object's own order
+  pub all-end : (orderOf (lent beside) ≡ 2 ∷ 0 ∷ 1 ∷ [])
+      × (runOf besideWords (lent beside) pair ≡ Done (counts 3 0 0 0))
+      × AllEnd besideWords (lent beside) pair (2 ∷ 0 ∷ 1 ∷ []) besideAfter idle start
+      × AllEnd besideWords (lent beside) pair (1 ∷ 0 ∷ 2 ∷ []) besideAfter idle start
   -- a hint whose places fall
   pub falls : Same (hintOf (lent falling) 0) (words (0xf9400401 ∷ 0x90000000 ∷ [])) (words (0x58000041 ∷ 0xd503201f ∷ []))
   -- kind 1 is worked last: the literal load is made, and ADRP_ADRP then declines; by list position the image would be another
   pub kind-1-last : (orderOf (lent late) ≡ 1 ∷ 0 ∷ [])
-      × (runOf lateWords (lent late) plain ≡ Done (counts 1 0 1 0))
-      × (imageOf lateWords (lent late) plain ≡ lateAfter)
-      × (worked lateWords (lent late) plain (0 ∷ 1 ∷ []) ≡ record { image = words (0x90000000 ∷ 0xd503201f ∷ 0xf9400401 ∷ []); tally = counts 1 0 1 0 })
+      × (runOf lateWords (lent late) pair ≡ Done (counts 1 0 1 0))
+      × (imageOf lateWords (lent late) pair ≡ lateAfter)
+      × (worked lateWords (lent late) pair (0 ∷ 1 ∷ []) ≡ record { image = words (0x90000000 ∷ 0xd503201f ∷ 0xf9400401 ∷ []); tally = counts 1 0 1 0 })
       × (Order.Kept (lent late) (0 ∷ 1 ∷ []) → ⊥)
-  -- RULES 9.21: without one premise, and with all the others, a rewrite need not run alike (Fails: arm64_hint_kept/proofs/Needed). Disjoint
-  pub needs-disjoint : Fails plain (hint 1 0 0 4 (place 0 0 0x1000) (place 0 0 0x1000) none-at) (0x90000000 ∷ [])
+  -- RULES 9.21: without one premise, and with all the others, a rewrite need not run alike (Fails: arm64_hint_kept/specs/Needed). Disjoint
+  pub needs-disjoint : Fails pair (hintIn 1 0 0 4 (place 0 0 0x1000) (place 0 0 0x1000) none-at) (0x90000000 ∷ [])
       (false ∷ true ∷ true ∷ true ∷ true ∷ true ∷ []) (0xd503201f ∷ [])
   -- allocated
-  pub needs-allocated : Fails plain (hint 2 0 0 8 (place 0 0 0x9ff019ccdecb92c) (place 4 1 0x9ff019ccdecb930) none-at) (0xb0fffbe1 ∷ 0xbd800820 ∷ [])
+  pub needs-allocated : Fails pair (hintIn 2 0 0 8 (place 0 0 0x9ff019ccdecb92c) (place 4 1 0x9ff019ccdecb930) none-at) (0xb0fffbe1 ∷ 0xbd800820 ∷ [])
       (true ∷ false ∷ true ∷ true ∷ true ∷ true ∷ []) (0xd503201f ∷ 0x1cbe36c0 ∷ [])
   -- aligned
-  pub needs-aligned : Fails plain (hint 2 0 0 8 (place 0 0 0x1002) (place 4 1 0x1006) none-at) (0x90000000 ∷ 0x3ded9c01 ∷ [])
+  pub needs-aligned : Fails pair (hintIn 2 0 0 8 (place 0 0 0x1002) (place 4 1 0x1006) none-at) (0x90000000 ∷ 0x3ded9c01 ∷ [])
       (true ∷ true ∷ false ∷ true ∷ true ∷ true ∷ []) (0xd503201f ∷ 0x9c05b341 ∷ [])
   -- no link by 31
-  pub needs-no-31-link : Fails plain (hint 2 0 0 8 (place 0 0 0x1000) (place 4 1 0x1004) none-at) (0x9000001f ∷ 0xbd4003e1 ∷ [])
+  pub needs-no-31-link : Fails pair (hintIn 2 0 0 8 (place 0 0 0x1000) (place 4 1 0x1004) none-at) (0x9000001f ∷ 0xbd4003e1 ∷ [])
       (true ∷ true ∷ true ∷ false ∷ true ∷ true ∷ []) (0xd503201f ∷ 0x1cffffe1 ∷ [])
   -- no ADD to 31
-  pub needs-no-31-added : Fails plain (hint 7 0 0 8 (place 0 0 0x1000) (place 4 1 0x1004) none-at) (0xd0000340 ∷ 0x9100401f ∷ [])
+  pub needs-no-31-added : Fails pair (hintIn 7 0 0 8 (place 0 0 0x1000) (place 4 1 0x1004) none-at) (0xd0000340 ∷ 0x9100401f ∷ [])
       (true ∷ true ∷ true ∷ true ∷ false ∷ true ∷ []) (0x1035009f ∷ 0xd503201f ∷ [])
   -- no store of what was made
-  pub needs-no-store : Fails got (hint 6 0 0 12 (place 0 0 0x1000) (place 4 1 0x1004) (place 8 noEntry 0x1008))
+  pub needs-no-store : Fails gotPair (hintIn 6 0 0 12 (place 0 0 0x1000) (place 4 1 0x1004) (place 8 noEntry 0x1008))
       (0x90000000 ∷ 0x91004002 ∷ 0xf9000040 ∷ []) (true ∷ true ∷ true ∷ true ∷ true ∷ false ∷ []) (0x10000082 ∷ 0xd503201f ∷ 0xf9000040 ∷ [])
   -- hints that share a byte, and parts of different objects that meet
-  pub needs-alone : Needed.Shared
-  pub needs-apart : Needed.Meeting
+  pub needs-alone : Shared
+  pub needs-apart : Meeting
+  -- RULES 9.1, 9.6, 9.7: a store lists as many low bits as it moves: strb w1, [x0, #4]
+  pub store-cut : (run idle (one 0x1000 0x39001001) high) .log ≡ entry store 0 1 0xfc ∷ []
+  -- it puts 8 bits in each byte, at addresses modulo 2^64: str x1, [x0]
+  pub store-bytes : let memory = (run idle (one 0x1000 0xf9000001) high) .memory in
+      (memory 0xfffffffffffffffc ≡ 0xfc) × (memory 0xffffffffffffffff ≡ 0xff) × (memory 0 ≡ 0xff) × (memory 3 ≡ 0xff) × (memory 4 ≡ 0x200)
+  -- a load takes 8 bits of each byte, at addresses modulo 2^64: ldr x1, [x0]
+  pub load-bytes : (run idle (one 0x1000 0xf9400001) high) .x 1 ≡ 0x0100000000000000
+  -- RULES 9.8: another word (prfm) sees its address and may change general registers; sees and may change vector registers; sees stack pointer and
+  -- memory, and its accesses are listed
+  pub other-address : (run placing (one 0x1004 0xf9800000) high) .x 1 ≡ 0x1004
+  pub other-vectors : (run copying (one 0x1004 0xf9800000) high) .v 2 ≡ 0x10f1
+  pub other-listed : (run loading (one 0x1004 0xf9800000) high) .log ≡ entry load 0x2000 1 0x200 ∷ []
   -- wrong rewrites do not run alike: an access dropped; a literal load of another address; an ADRP dropped, last or before another word; one other word
   -- for another; a load that copies the sign replaced by one that does not
   pub access-dropped : (w n : ℕ) {p rt rn i : ℕ} {row : Row} → action w ≡ access row rt rn i → action n ≡ nop → SameRun (one p w) (one p n) → ⊥
