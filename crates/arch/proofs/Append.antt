@@ -1,4 +1,4 @@
--- A table read after another: the walk of the whole is the first one's, then the second one's moved, by induction over the steps.
+-- A table read after another: the walk of the whole is the first one's, then the second one's moved, where the steps that are taken agree.
 use mathlib.Core.Path.{_≡_, refl, sym, ap, ap₂, _∙_, subst}
 use mathlib.Core.List.{List, [], _∷_, map}
 use mathlib.Core.Logic.{_⊎_, inr, ⊎-elim}
@@ -40,23 +40,43 @@ mapped-same (entries es) = ap entries (map-same es)
 
 -- ---- a table that stands d records further on
 
-moved-after : (d : ℕ) (f : Reloc → Reloc) (u : Step) (r q : ℕ → Reading) → ((next : ℕ) → r (d + next) ≡ mapped f (q next))
-    → after (moved d f u) r ≡ mapped f (after u q)
-moved-after d f (S.Refused x) r q h = refl
-moved-after d f (S.Read e next) r q h = ap (before (f e)) (h next) ∙ sym (mapped-before f e (q next))
+-- a step of it against the same step of the table by itself: where that one reads, both read alike, moved; where it refuses, both refuse alike if P says so.
+-- What no walk looks at need not agree: a record after ADDEND is no step of its own, and its offset may be anything
+unfoldable pub Follows : Type 0 → ℕ → (Reloc → Reloc) → Step → Step → Type 0
+Follows P d f (S.Refused x) u = P → u ≡ S.Refused x
+Follows P d f (S.Read e next) u = u ≡ S.Read (f e) (d + next)
 
--- steps that agree up to a move walk alike
-module _ (s t : ℕ → Step) (d m : ℕ) (f : Reloc → Reloc) (agree : (j : ℕ) → j < m → s (d + j) ≡ moved d f (t j)) where
-  pub shift : (k j : ℕ) → readFrom s (d + m) k (d + j) ≡ mapped f (readFrom t m k j)
+-- a step that is moved whole
+pub follows-moved : (P : Type 0) (d : ℕ) (f : Reloc → Reloc) (t u : Step) → u ≡ moved d f t → Follows P d f t u
+unfolding Follows
+follows-moved P d f (S.Refused x) u e = λ _. e
+follows-moved P d f (S.Read r next) u e = e
+
+fills-rest : {P : Type 0} (e : Reloc) (a : Reading) → P ⊎ Fills (before e a) → P ⊎ Fills a
+fills-rest e (refused x) f = f
+fills-rest e (entries es) f = inr tt
+
+-- steps that follow walk alike
+module _ (P : Type 0) (s t : ℕ → Step) (d m : ℕ) (f : Reloc → Reloc) (follows : (j : ℕ) → j < m → Follows P d f (t j) (s (d + j))) where
+  follows-after : (u v : Step) (r q : ℕ → Reading) → Follows P d f u v
+      → ((next : ℕ) → P ⊎ Fills (q next) → r (d + next) ≡ mapped f (q next)) → P ⊎ Fills (after u q) → after v r ≡ mapped f (after u q)
+  unfolding Follows
+  follows-after (S.Refused x) v r q c h g = rw (c (⊎-elim (λ p. p) (λ (b : ⊥). absurd b) g))
+  follows-after (S.Read e next) v r q c h g = rw c (ap (before (f e)) (h next (fills-rest e (q next) g)) ∙ sym (mapped-before f e (q next)))
+
+  pub shift : (k j : ℕ) → P ⊎ Fills (readFrom t m k j) → readFrom s (d + m) k (d + j) ≡ mapped f (readFrom t m k j)
   unfolding readFrom
-  shift zero j = refl
-  shift (suc k) j = at (ltb j m) refl (λ next. shift k next)
+  shift zero j g = refl
+  shift (suc k) j g = at (ltb j m) refl (λ next. shift k next)
     where
-      at : (b : Bool) → ltb j m ≡ b → ((next : ℕ) → readFrom s (d + m) k (d + next) ≡ mapped f (readFrom t m k next))
+      at : (b : Bool) → ltb j m ≡ b
+          → ((next : ℕ) → P ⊎ Fills (readFrom t m k next) → readFrom s (d + m) k (d + next) ≡ mapped f (readFrom t m k next))
           → more (ltb (d + j) (d + m)) (s (d + j)) (readFrom s (d + m) k) ≡ mapped f (more (ltb j m) (t j) (readFrom t m k))
       at true e h =
           let l = ltb-true j m e in
-          rw (e, lt-ltb (d + j) (d + m) (omega arith), agree j l) (moved-after d f (t j) (readFrom s (d + m) k) (readFrom t m k) h)
+          rw (e, lt-ltb (d + j) (d + m) (omega arith))
+          (follows-after (t j) (s (d + j)) (readFrom s (d + m) k) (readFrom t m k) (follows j l) h
+          (subst (λ (a : Reading). P ⊎ Fills a) (turn-suc t m k j l) g))
       at false e h =
           let l = ltb-false j m e in
           rw (e, le-ltb (d + j) (d + m) (omega arith))
@@ -74,10 +94,6 @@ pub carries-same : (P : Type 0) (n : ℕ) (t u : Step) → u ≡ t → Within n 
 unfolding Carries Within
 carries-same P n (S.Refused x) u e w = λ _. e
 carries-same P n (S.Read r next) u e w = (e, w)
-
-fills-rest : {P : Type 0} (e : Reloc) (a : Reading) → P ⊎ Fills (before e a) → P ⊎ Fills a
-fills-rest e (refused x) f = f
-fills-rest e (entries es) f = inr tt
 
 module _ (P : Type 0) (s t : ℕ → Step) (n m : ℕ) (on : Onward s) (carries : (i : ℕ) → i < n → Carries P n (t i) (s i)) where
   abbrev Whole : ℕ → Reading
@@ -109,13 +125,13 @@ module _ (P : Type 0) (s t : ℕ → Step) (n m : ℕ) (on : Onward s) (carries 
           from-step s (n + m) on i (omega arith)
           ∙ rw (turn-suc t n k i l) (left-after i (t i) (readFrom t n k) (carries i l) r (subst (λ (a : Reading). P ⊎ Fills a) (turn-suc t n k i l) f))
 
--- a table after another: the first one's steps carry over, and the second one's are moved
-module _ (P : Type 0) (s t u : ℕ → Step) (n m : ℕ) (f : Reloc → Reloc) (on : Onward s)
-    (carries : (i : ℕ) → i < n → Carries P n (t i) (s i)) (agree : (j : ℕ) → j < m → s (n + j) ≡ moved n f (u j)) where
-  pub append : P ⊎ Fills (readAll t n) → readAll s (n + m) ≡ joined (readAll t n) (mapped f (readAll u m))
+-- a table after another: the first one's steps carry over, and the second one's follow
+module _ (P Q : Type 0) (s t u : ℕ → Step) (n m : ℕ) (f : Reloc → Reloc) (on : Onward s)
+    (carries : (i : ℕ) → i < n → Carries P n (t i) (s i)) (follows : (j : ℕ) → j < m → Follows Q n f (u j) (s (n + j))) where
+  pub append : P ⊎ Fills (readAll t n) → Q ⊎ Fills (readAll u m) → readAll s (n + m) ≡ joined (readAll t n) (mapped f (readAll u m))
   unfolding readAll from
-  append h =
+  append h g =
       from-all s (n + m) on
       ∙ left P s t n m on carries n 0 (omega arith) (omega arith) h
       ∙ ap (joined (readFrom t n n 0))
-      (ap₂ (readFrom s (n + m)) {x = n + m - n} {y = m} {u = n} {v = n + 0} (omega arith) (omega arith) ∙ shift s u n m f agree m 0)
+      (ap₂ (readFrom s (n + m)) {x = n + m - n} {y = m} {u = n} {v = n + 0} (omega arith) (omega arith) ∙ shift Q s u n m f follows m 0 g)

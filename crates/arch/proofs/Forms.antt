@@ -1,6 +1,6 @@
 -- A set of bits has a record's form where the list has it that the bits were made of: a union's bit is set where one of its parts has it.
 use mathlib.Core.Path.{_≡_, refl, sym, ap, ap₂, _∙_}
-use mathlib.Core.Bool.{Bool, true, false, _||_, true≢false}
+use mathlib.Core.Bool.{Bool, true, false, not, _||_, Bool·beq, true≢false, false≢true}
 use mathlib.Core.List.{List, [], _∷_}
 use Prim.Native.Nat.{ℕ, zero, suc, _+_, _-_, _*_, _/_, _%_, _^_, _<_}
 use native.Mathlib.Omega.{arith}
@@ -8,21 +8,18 @@ use native.Mathlib.Nat.{div-eq-of-lt, zero-div, one-mul}
 use borrow.Author.Tests.{eq-eqb, ne-eqb, ltb-true, ltb-false, eqb-true}
 use lib.Bits.{bitOr, or-shr, or-mod, or-zero-l}
 use lib.Dec.{eqb, ltb}
-use lib.Pow.{pow-lt, pow-add, shl-shr, shr-shr, mod-pow-add}
+use lib.Pow.{pow-lt, pow-add, shl-shr}
+use Rattle.util.proofs.Below.{every, every-at}
 use Rattle.util.proofs.Choice.{both}
 use Rattle.util.specs.Bits.{field}
-use Rattle.macho.specs.MachRel.{formOf}
+use Rattle.macho.specs.MachRel.{pcrelOf, p2sizeOf, externOf, typeOf, formOf}
 use Rattle.macho.specs.declared.rel.MachRel.{MachRel}
-use Rattle.arch.specs.Form.{Form, form, formIn, sameForm, member, placeOf, bitOf, bitsOf, hasBit, fieldsFit}
+use Rattle.macho.proofs.Packed.{form-fields}
+use Rattle.arch.specs.Form.{Form, form, formIn, sameForm, member, formNumber, bitOf, bitsOf, hasBit, fieldsFit}
 
--- a record's form number is its form's place
-pub form-place : (r : MachRel) → formOf (r .bits) ≡ placeOf (formIn r)
-form-place r =
-    let x = r .bits / 2 ^ 24 in
-    mod-pow-add x 1 3
-    ∙ ap₂ (λ (e l : ℕ). e % 2 ^ 1 * 2 ^ 3 + l) (shr-shr (r .bits) 24 3)
-    (mod-pow-add x 2 1 ∙ ap (λ (s : ℕ). s % 2 ^ 2 * 2 ^ 1 + x % 2 ^ 1) (shr-shr (r .bits) 24 1))
-    ∙ omega arith
+-- the number in a record's bits is its form's
+pub form-number : (r : MachRel) → formOf (r .bits) ≡ formNumber (formIn r)
+form-number r = form-fields (r .bits)
 
 -- a bit of a union
 or-bit : (x y : ℕ) → x < 2 → y < 2 → eqb (bitOr x y) 1 ≡ (eqb x 1 || eqb y 1)
@@ -83,24 +80,24 @@ first-fits f fs h =
 record-fits : (r : MachRel) → Fits (formIn r)
 record-fits r = (omega arith, omega arith, omega arith)
 
--- the fields of a form from its place
-place-fields : (f : Form) → Fits f → (placeOf f % 2 ≡ f .pcrel) × (placeOf f / 2 % 4 ≡ f .p2size) × (placeOf f / 8 ≡ f .ext)
-place-fields f h = (omega arith, omega arith, omega arith)
+-- the fields of a form from its number
+number-fields : (f : Form) → Fits f → (formNumber f % 2 ≡ f .pcrel) × (formNumber f / 2 % 4 ≡ f .p2size) × (formNumber f / 8 ≡ f .ext)
+number-fields f h = (omega arith, omega arith, omega arith)
 
--- places are equal where forms are
-pub same-place : (f g : Form) → Fits f → Fits g → eqb (placeOf f) (placeOf g) ≡ sameForm f g
-same-place f g hf hg = tested (placeOf f) (placeOf g) (sameForm f g) there back
+-- numbers are equal where forms are
+pub same-number : (f g : Form) → Fits f → Fits g → eqb (formNumber f) (formNumber g) ≡ sameForm f g
+same-number f g hf hg = tested (formNumber f) (formNumber g) (sameForm f g) there back
   where
-    there : sameForm f g ≡ true → placeOf f ≡ placeOf g
+    there : sameForm f g ≡ true → formNumber f ≡ formNumber g
     there t =
         let p = both (eqb (f .pcrel) (g .pcrel)) _ t in
         let s = both (eqb (f .p2size) (g .p2size)) _ (p .1) in
         omega (arith, eqb-true (f .pcrel) (g .pcrel) (p .0), eqb-true (f .p2size) (g .p2size) (s .0), eqb-true (f .ext) (g .ext) (s .1))
 
-    back : placeOf f ≡ placeOf g → sameForm f g ≡ true
+    back : formNumber f ≡ formNumber g → sameForm f g ≡ true
     back e =
-        let a = place-fields f hf in
-        let b = place-fields g hg in
+        let a = number-fields f hf in
+        let b = number-fields g hg in
         rw (
           eq-eqb (f .pcrel) (g .pcrel) (sym (a .0) ∙ ap (λ (x : ℕ). x % 2) e ∙ b .0),
           eq-eqb (f .p2size) (g .p2size) (sym (a .1) ∙ ap (λ (x : ℕ). x / 2 % 4) e ∙ b .1),
@@ -114,7 +111,36 @@ has-member (f ∷ fs) r h =
     let g = first-fits f fs h in
     has-or (bitOf f) (bitsOf fs) (formOf (r .bits))
     ∙ ap₂ (λ (a b : Bool). a || b)
-    (has-power (placeOf f) (formOf (r .bits))
-    ∙ ap (λ (k : ℕ). eqb k (placeOf f)) (form-place r)
-    ∙ same-place (formIn r) f (record-fits r) (g .0))
+    (has-power (formNumber f) (formOf (r .bits))
+    ∙ ap (λ (k : ℕ). eqb k (formNumber f)) (form-number r)
+    ∙ same-number (formIn r) f (record-fits r) (g .0))
     (has-member fs r (g .1))
+
+-- ---- a test of every type and form, computed
+
+-- a test of type and fields that holds of every type and form holds of each record
+pub each-form : (f : ℕ → ℕ → ℕ → ℕ → Bool) → every (λ k. f (k / 16) (k % 2) (k / 2 % 4) (k / 8 % 2)) 256 ≡ true
+    → (r : MachRel) → f (typeOf (r .bits)) (pcrelOf (r .bits)) (p2sizeOf (r .bits)) (externOf (r .bits)) ≡ true
+each-form f h r = at (typeOf (r .bits)) (pcrelOf (r .bits)) (p2sizeOf (r .bits)) (externOf (r .bits)) (omega arith) (omega arith) (omega arith) (omega arith)
+  where
+    at : (ty p s e : ℕ) → ty < 16 → p < 2 → s < 4 → e < 2 → f ty p s e ≡ true
+    at ty p s e ht hp hs he =
+        let k = ty * 16 + e * 8 + s * 2 + p in
+        let kt : k / 16 ≡ ty = omega arith in
+        let kp : k % 2 ≡ p = omega arith in
+        let half : k / 2 ≡ ty * 8 + e * 4 + s = omega arith in
+        let eighth : k / 8 ≡ ty * 2 + e = omega arith in
+        let ks : k / 2 % 4 ≡ s = rw half (omega arith) in
+        let ke : k / 8 % 2 ≡ e = rw eighth (omega arith) in
+        rw (kt, kp, ks, ke) at (every-at (λ k. f (k / 16) (k % 2) (k / 2 % 4) (k / 8 % 2)) 256 h k (omega arith))
+
+-- tests that are the same, and a test that follows from another
+pub same-test : (a b : Bool) → Bool·beq a b ≡ true → a ≡ b
+same-test true true e = refl
+same-test false false e = refl
+same-test true false e = sym e
+same-test false true e = e
+
+pub implied : (a b : Bool) → (not a || b) ≡ true → a ≡ true → b ≡ true
+implied true b h e = h
+implied false b h e = absurd (false≢true e)

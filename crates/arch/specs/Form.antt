@@ -31,22 +31,22 @@ abbrev pub member : Form → List Form → Bool
 member f [] = false
 member f (g ∷ gs) = sameForm f g || member f gs
 
--- a form's place in a set of bits: the number that its fields make in bits 24 to 27 of a record
-abbrev pub placeOf : Form → ℕ
-placeOf f = f .pcrel + 2 * f .p2size + 8 * f .ext
+-- a form as a number: what its fields make in bits 24 to 27 of a record
+abbrev pub formNumber : Form → ℕ
+formNumber f = f .pcrel + 2 * f .p2size + 8 * f .ext
 
 -- a form as a bit
 abbrev pub bitOf : Form → ℕ
-bitOf f = 2 ^ placeOf f
+bitOf f = 2 ^ formNumber f
 
 -- a set as bits
 abbrev pub bitsOf : List Form → ℕ
 bitsOf [] = 0
 bitsOf (f ∷ fs) = bitOr (bitOf f) (bitsOf fs)
 
--- whether a set of bits has the bit of a place
+-- whether a set of bits has the bit of a form's number
 abbrev pub hasBit : ℕ → ℕ → Bool
-hasBit forms place = eqb (field forms place 1) 1
+hasBit forms number = eqb (field forms number 1) 1
 
 -- whether the fields of a set's forms are such as a record can have: one, two and one bits
 abbrev pub fieldsFit : List Form → Bool

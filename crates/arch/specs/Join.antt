@@ -1,6 +1,7 @@
--- What two tables, one after the other, read to (RULES 4.15).
-use Prim.Native.Nat.{ℕ, _+_}
+-- What two tables, one after the other, read to (RULES 4.15), and sections with their tables (RULES 4.23).
+use Prim.Native.Nat.{ℕ, _+_, _%_, _^_}
 use mathlib.Core.List.{_++_, map}
+use Rattle.macho.specs.declared.rel.MachRel.{MachRel}
 use Rattle.macho.specs.declared.reloc.Reloc.{Reloc}
 use Rattle.arch.specs.declared.step.Step.{Step}
 use Rattle.arch.specs.declared.step.Step.the-variants as S
@@ -21,3 +22,21 @@ mapped f (entries es) = entries (map f es)
 abbrev pub moved : ℕ → (Reloc → Reloc) → Step → Step
 moved d f (S.Refused x) = S.Refused x
 moved d f (S.Read e next) = S.Read (f e) (d + next)
+
+-- a record of a section that stands d bytes further on: its offset has 32 bits
+abbrev pub recordLater : ℕ → MachRel → MachRel
+recordLater d r = record { offset = (r .offset + d) % 2 ^ 32; bits = r .bits }
+
+-- an entry of such a section
+abbrev pub entryLater : ℕ → Reloc → Reloc
+entryLater d e =
+    record {
+      offset = e .offset + d;
+      ty = e .ty;
+      size = e .size;
+      «is_pcrel» = e .«is_pcrel»;
+      «is_subtracted» = e .«is_subtracted»;
+      target = e .target;
+      spare = e .spare;
+      addend = e .addend;
+    }

@@ -1,10 +1,11 @@
 -- A table of relocation records (RULES 2.10, 4.12) and the numbers of its lengths (RULES 3.9, 3.10).
-use Prim.Native.Nat.{ℕ, zero, suc, _+_, _-_, _*_, _/_, _%_, _^_}
+use Prim.Native.Nat.{ℕ, zero, suc, _+_, _-_, _*_, _/_, _%_}
 use mathlib.Core.Bool.{Bool}
 use mathlib.Core.List.{List, [], _∷_}
 use lib.ListN.{length, getD}
 use lib.Dec.{eqb, ltb}
 use Rattle.util.specs.Choice.{choose}
+use Rattle.macho.specs.Record.{mostRecords}
 use Rattle.macho.specs.MachRel.{machRelSize, machRelAt, typeOf}
 use Rattle.macho.specs.Reloc.{relocSize}
 use Rattle.macho.specs.declared.rel.MachRel.{MachRel}
@@ -37,7 +38,7 @@ subtractedAt subtractor before rs i = choose (eqb i 0) before (eqb (typeOf (reco
 unfoldable pub lengthsOf : ℕ → ℕ → ℕ → Check
 lengthsOf records sections slots =
     choose (eqb (records % machRelSize) 0)
-    (choose (ltb (2 ^ 32 - 1) (records / machRelSize))
+    (choose (ltb mostRecords (records / machRelSize))
     (Refused Lengths)
-    (choose (ltb (2 ^ 32 - 1) sections) (Refused Lengths) (choose (ltb slots (relocSize * (records / machRelSize))) (Refused Slots) Fit)))
+    (choose (ltb mostRecords sections) (Refused Lengths) (choose (ltb slots (relocSize * (records / machRelSize))) (Refused Slots) Fit)))
     (Refused Lengths)

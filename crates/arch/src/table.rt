@@ -1,4 +1,5 @@
 // A table of relocation records.
+use macho::list::MOST_RECORDS;
 use macho::refusal::Check;
 use macho::refusal::Refusal;
 use macho::rel::MachRel;
@@ -34,10 +35,10 @@ pub fn check_lengths(records: usize, sections: usize, slots: usize) -> Check
     if records % MachRel::SIZE != 0 {
         return Check::Refused(Refusal::Lengths);
     }
-    if 0xffff_ffff < records / MachRel::SIZE {
+    if MOST_RECORDS < records / MachRel::SIZE {
         return Check::Refused(Refusal::Lengths);
     }
-    if 0xffff_ffff < sections {
+    if MOST_RECORDS < sections {
         return Check::Refused(Refusal::Lengths);
     }
     if slots / Reloc::SIZE < records / MachRel::SIZE {

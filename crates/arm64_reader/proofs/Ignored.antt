@@ -33,11 +33,11 @@ use Rattle.arm64_reader.specs.declared.record.Addend.{Addend}
 use Rattle.arm64_reader.specs.declared.record.Addend.the-variants.{Held, Refused}
 use Rattle.arm64_reader.specs.Check.{wordCheck, checkReloc}
 use Rattle.arm64_reader.specs.Record.{addendOf, passing, adding, recordOf, ownAt, stepAt}
-use Rattle.arm64_reader.specs.Read.{readRecords, readRelocs}
+use Rattle.arm64_reader.specs.Read.{readRecords, endsIn, NoLastAddend, readRelocs}
 use Rattle.arm64_reader.specs.Fields.{isAddend, ownOf, lookedAt}
 use Rattle.arm64_reader.proofs.Steps.{past-is, pair-is, pair-ends, step-onward}
 use Rattle.arm64_reader.proofs.Moves.{same-record, step-moved}
-use Rattle.arm64_reader.proofs.Tables.{PlainLast, endsIn, moved-none, read-append}
+use Rattle.arm64_reader.proofs.Tables.{moved-none, read-append}
 
 -- slots count by their length
 pub slots-ignored : (contents records sections slots others : List ℕ) → length slots ≡ length others
@@ -241,7 +241,7 @@ module _ (contents sections : List ℕ) (first : Bool) (ys : List MachRel) (a b 
   later-same (suc (suc k)) h l =
       step-moved 0 (λ (x : Reloc). x) contents contents sections first first rs qs (suc (suc k)) (suc (suc k))
       (record {
-        place = omega arith;
+        number = omega arith;
         shifts = λ m s t v. refl;
         inside = refl;
         loc = refl;
@@ -269,7 +269,7 @@ module _ (contents sections : List ℕ) (first : Bool) (ys : List MachRel) (a b 
 -- an ADDEND record that heads a pair counts by its offset, its index and its type, and the record after it by its bits
 pub addend-ignored : (contents sections : List ℕ) (first : Bool) (xs ys : List MachRel) (a b r q : MachRel)
     → typeOf (a .bits) ≡ ARM64-RELOC-ADDEND → typeOf (b .bits) ≡ ARM64-RELOC-ADDEND → a .offset ≡ b .offset → idxOf (a .bits) ≡ idxOf (b .bits)
-    → r .bits ≡ q .bits → PlainLast xs ⊎ Fills (readRecords contents sections first xs)
+    → r .bits ≡ q .bits → NoLastAddend xs ⊎ Fills (readRecords contents sections first xs)
     → readRecords contents sections first (xs ++ (a ∷ (r ∷ ys))) ≡ readRecords contents sections first (xs ++ (b ∷ (q ∷ ys)))
 addend-ignored contents sections first xs ys a b r q ta tb o i w h =
     read-append contents sections first xs (a ∷ (r ∷ ys)) h

@@ -1,6 +1,7 @@
 -- A list of records read from its head: the step at the first record, then the rest of the list, which stands one or two records further on.
 use mathlib.Core.Path.{_≡_, refl, ap, _∙_}
 use mathlib.Core.Bool.{Bool, true, false}
+use mathlib.Core.Logic.{inl}
 use mathlib.Core.List.{List, [], _∷_, _++_}
 use Prim.Native.Nat.{ℕ, suc, _+_, _-_, _<_, _≤_}
 use native.Mathlib.Omega.{arith}
@@ -21,11 +22,11 @@ use Rattle.arch.specs.declared.step.Step.{Step}
 use Rattle.arch.specs.declared.step.Step.the-variants as S
 use Rattle.arch.proofs.Walk.{Ends, turn-suc}
 use Rattle.arch.proofs.Fuel.{same}
-use Rattle.arch.proofs.Append.{shift, mapped-same}
+use Rattle.arch.proofs.Append.{follows-moved, shift, mapped-same}
 use Rattle.arm64_reader.specs.Record.{recordOf, stepAt}
-use Rattle.arm64_reader.specs.Read.{readRecords}
+use Rattle.arm64_reader.specs.Read.{readRecords, endsIn}
 use Rattle.arm64_reader.proofs.Steps.{past-is, lone-is, pair-is, other-is, record-ends, step-onward}
-use Rattle.arm64_reader.proofs.Tables.{endsIn, right-alike}
+use Rattle.arm64_reader.proofs.Tables.{right-alike}
 
 -- whether a record is SUBTRACTOR
 abbrev pub isSubtractor : MachRel → Bool
@@ -43,8 +44,8 @@ module _ (contents sections : List ℕ) (first : Bool) where
   unfolding readRecords readAll
   rest-is xs ys k h =
       ap (readFrom (stepAt contents sections first (xs ++ ys)) (length xs + length ys) k) {x = length xs} {y = length xs + 0} (omega arith)
-      ∙ shift (stepAt contents sections first (xs ++ ys)) (stepAt contents sections (endsIn first xs) ys) (length xs) (length ys) (λ (e : Reloc). e)
-      (right-alike contents sections first xs ys) k 0
+      ∙ shift (Unit {0}) (stepAt contents sections first (xs ++ ys)) (stepAt contents sections (endsIn first xs) ys) (length xs) (length ys) (λ (e : Reloc). e)
+      (λ j l. follows-moved (Unit {0}) (length xs) _ _ _ (right-alike contents sections first xs ys j l)) k 0 (inl tt)
       ∙ mapped-same _
       ∙ same (stepAt contents sections (endsIn first xs) ys) (length ys) (step-onward contents sections (endsIn first xs) ys) k (length ys) 0
       (omega arith) (omega arith)

@@ -86,7 +86,7 @@ module _ (d : ℕ) (f : Reloc → Reloc) (from to : ℕ) (shifts : Shifts f from
 module _ (d : ℕ) (f : Reloc → Reloc) (c e sections : List ℕ) (a b : Bool) (rs qs : List MachRel) (i j : ℕ) where
   -- what the steps look at is the same
   pub record Alike : Type 0 where
-    pub place : i ≡ d + j
+    pub number : i ≡ d + j
     pub shifts : Shifts f (recordAt qs j .offset) (recordAt rs i .offset)
     pub inside : ltb (length c) (recordAt rs i .offset) ≡ ltb (length e) (recordAt qs j .offset)
     pub loc : drop (recordAt rs i .offset) c ≡ drop (recordAt qs j .offset) e
@@ -107,7 +107,7 @@ module _ (d : ℕ) (f : Reloc → Reloc) (c e sections : List ℕ) (a b : Bool) 
           rw (other-is e sections b qs j (ltb-false _ _ p) n)
           (other-is c sections a rs i (ltb-false _ _ (m .inside ∙ p))
           (λ (t : typeOf (recordAt rs i .bits) ≡ ARM64-RELOC-ADDEND). n (ap typeOf (sym (m .bits)) ∙ t))
-          ∙ same-record d f _ _ (m .shifts) _ _ sections _ _ _ _ 0 0 (i + 1) (j + 1) (m .loc) (m .bits) (m .subtracted) refl (omega (arith, m .place)))
+          ∙ same-record d f _ _ (m .shifts) _ _ sections _ _ _ _ 0 0 (i + 1) (j + 1) (m .loc) (m .bits) (m .subtracted) refl (omega (arith, m .number)))
       go false p true q false w =
           let t = eqb-true _ _ q in
           rw (lone-is e sections b qs j (ltb-false _ _ p) t (ltb-false _ _ w))
@@ -118,4 +118,4 @@ module _ (d : ℕ) (f : Reloc → Reloc) (c e sections : List ℕ) (a b : Bool) 
           rw (pair-is e sections b qs j (ltb-false _ _ p) t l)
           (pair-is c sections a rs i (ltb-false _ _ (m .inside ∙ p)) (ap typeOf (m .bits) ∙ t) (ltb-true _ _ (m .more t ∙ w))
           ∙ same-record d f _ _ (m .shifts) _ _ sections _ _ false false _ _ (i + 1 + 1) (j + 1 + 1) (m .loc) (m .own l) refl
-          (ap (λ (x : ℕ). extend (idxOf x) 24) (m .bits)) (omega (arith, m .place)))
+          (ap (λ (x : ℕ). extend (idxOf x) 24) (m .bits)) (omega (arith, m .number)))

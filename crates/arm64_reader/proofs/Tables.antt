@@ -1,6 +1,6 @@
 -- The append law of the reader: a list of records read after another. Its steps agree with those of the two lists, and `arch` joins the walks.
 use mathlib.Core.Path.{_≡_, refl, sym, ap, subst, _∙_}
-use mathlib.Core.Logic.{_⊎_}
+use mathlib.Core.Logic.{_⊎_, inl}
 use mathlib.Core.Bool.{Bool, true, false}
 use mathlib.Core.List.{List, _++_}
 use Prim.Native.Nat.{ℕ, _+_, _-_, _%_, _<_, _≤_}
@@ -23,19 +23,11 @@ use Rattle.arch.specs.Walk.{readAll, Fills}
 use Rattle.arch.specs.declared.step.Step.{Step}
 use Rattle.arch.specs.declared.step.Step.the-variants as S
 use Rattle.arch.proofs.Records.{records-append}
-use Rattle.arch.proofs.Append.{Carries, carries-same, append, mapped-same}
+use Rattle.arch.proofs.Append.{Carries, carries-same, follows-moved, append, mapped-same}
 use Rattle.arm64_reader.specs.Record.{stepAt}
-use Rattle.arm64_reader.specs.Read.{readRecords, readTable}
+use Rattle.arm64_reader.specs.Read.{readRecords, endsIn, NoLastAddend, readTable}
 use Rattle.arm64_reader.proofs.Steps.{past-is, lone-is, step-onward, step-within}
 use Rattle.arm64_reader.proofs.Moves.{step-moved}
-
--- the last record of a list is no ADDEND
-abbrev pub PlainLast : List MachRel → Type 0
-PlainLast rs = typeOf (recordAt rs (length rs - 1) .bits) ≡ ARM64-RELOC-ADDEND → ⊥
-
--- whether the record before what follows a list is SUBTRACTOR: the list's last one, or the one before the list
-abbrev pub endsIn : Bool → List MachRel → Bool
-endsIn before rs = subtractedAt ARM64-RELOC-SUBTRACTOR before rs (length rs)
 
 pub moved-none : (s : Step) → moved 0 (λ (e : Reloc). e) s ≡ s
 moved-none (S.Refused x) = refl
@@ -77,13 +69,13 @@ right-subtracted before xs ys j = go (eqb j 0) refl
 
 module _ (contents sections : List ℕ) (before : Bool) (xs ys : List MachRel) where
   -- a step of the first list, unless it is an ADDEND record at the end
-  left-alike : (i : ℕ) → i < length xs → (typeOf (recordAt xs i .bits) ≡ ARM64-RELOC-ADDEND → i + 1 < length xs)
+  pub left-alike : (i : ℕ) → i < length xs → (typeOf (recordAt xs i .bits) ≡ ARM64-RELOC-ADDEND → i + 1 < length xs)
       → stepAt contents sections before (xs ++ ys) i ≡ stepAt contents sections before xs i
   left-alike i h g =
       let e = left-at xs ys i h in
       step-moved 0 (λ (x : Reloc). x) contents contents sections before before (xs ++ ys) xs i i
       (record {
-        place = omega arith;
+        number = omega arith;
         shifts = λ r s t a. ap (λ (q : MachRel). entryOf r s (q .offset) t a) (sym e);
         inside = ap (λ (q : MachRel). ltb (length contents) (q .offset)) e;
         loc = ap (λ (q : MachRel). drop (q .offset) contents) e;
@@ -97,7 +89,7 @@ module _ (contents sections : List ℕ) (before : Bool) (xs ys : List MachRel) w
       ∙ moved-none (stepAt contents sections before xs i)
 
   left-carries : (i : ℕ) → i < length xs
-      → Carries (PlainLast xs) (length xs) (stepAt contents sections before xs i) (stepAt contents sections before (xs ++ ys) i)
+      → Carries (NoLastAddend xs) (length xs) (stepAt contents sections before xs i) (stepAt contents sections before (xs ++ ys) i)
   left-carries i h = go (ltb (i + 1) (length xs)) refl (eqb (typeOf (recordAt xs i .bits)) ARM64-RELOC-ADDEND) refl
     where
       t : Step
@@ -106,22 +98,22 @@ module _ (contents sections : List ℕ) (before : Bool) (xs ys : List MachRel) w
       u : Step
       u = stepAt contents sections before (xs ++ ys) i
 
-      alike : (typeOf (recordAt xs i .bits) ≡ ARM64-RELOC-ADDEND → i + 1 < length xs) → Carries (PlainLast xs) (length xs) t u
-      alike g = carries-same (PlainLast xs) (length xs) t u (left-alike i h g) (step-within contents sections before xs i h)
+      alike : (typeOf (recordAt xs i .bits) ≡ ARM64-RELOC-ADDEND → i + 1 < length xs) → Carries (NoLastAddend xs) (length xs) t u
+      alike g = carries-same (NoLastAddend xs) (length xs) t u (left-alike i h g) (step-within contents sections before xs i h)
 
-      refuses : (x : Refusal) → t ≡ S.Refused x → (PlainLast xs → ⊥) → Carries (PlainLast xs) (length xs) t u
-      refuses x e n = subst (λ (v : Step). Carries (PlainLast xs) (length xs) v u) (sym e) (unfold Carries in λ p. absurd (n p))
+      refuses : (x : Refusal) → t ≡ S.Refused x → (NoLastAddend xs → ⊥) → Carries (NoLastAddend xs) (length xs) t u
+      refuses x e n = subst (λ (v : Step). Carries (NoLastAddend xs) (length xs) v u) (sym e) (unfold Carries in λ p. absurd (n p))
 
-      last : i + 1 ≡ length xs → typeOf (recordAt xs i .bits) ≡ ARM64-RELOC-ADDEND → PlainLast xs → ⊥
+      last : i + 1 ≡ length xs → typeOf (recordAt xs i .bits) ≡ ARM64-RELOC-ADDEND → NoLastAddend xs → ⊥
       last e a f = f (ap (λ (k : ℕ). typeOf (recordAt xs k .bits)) {x = length xs - 1} {y = i} (omega arith) ∙ a)
 
       ends : (w : Bool) → ltb (length contents) (recordAt xs i .offset) ≡ w → length xs ≤ i + 1 → typeOf (recordAt xs i .bits) ≡ ARM64-RELOC-ADDEND
-          → Carries (PlainLast xs) (length xs) t u
+          → Carries (NoLastAddend xs) (length xs) t u
       ends true e l a = refuses Bounds (past-is contents sections before xs i (ltb-true _ _ e)) (last (omega arith) a)
       ends false e l a = refuses LoneAddend (lone-is contents sections before xs i (ltb-false _ _ e) a l) (last (omega arith) a)
 
       go : (y : Bool) → ltb (i + 1) (length xs) ≡ y → (z : Bool) → eqb (typeOf (recordAt xs i .bits)) ARM64-RELOC-ADDEND ≡ z
-          → Carries (PlainLast xs) (length xs) t u
+          → Carries (NoLastAddend xs) (length xs) t u
       go true p z q = alike (λ _. ltb-true (i + 1) (length xs) p)
       go false p false q = alike (λ e. absurd (eqb-false _ _ q e))
       go false p true q = ends (ltb (length contents) (recordAt xs i .offset)) refl (ltb-false (i + 1) (length xs) p) (eqb-true _ _ q)
@@ -134,7 +126,7 @@ module _ (contents sections : List ℕ) (before : Bool) (xs ys : List MachRel) w
       let e = right-at xs ys j (length xs + j) refl in
       step-moved (length xs) (λ (x : Reloc). x) contents contents sections before (endsIn before xs) (xs ++ ys) ys (length xs + j) j
       (record {
-        place = refl;
+        number = refl;
         shifts = λ r s t a. ap (λ (q : MachRel). entryOf r s (q .offset) t a) (sym e);
         inside = ap (λ (q : MachRel). ltb (length contents) (q .offset)) e;
         loc = ap (λ (q : MachRel). drop (q .offset) contents) e;
@@ -154,20 +146,20 @@ module _ (contents sections : List ℕ) (before : Bool) (xs ys : List MachRel) w
 
   -- the entries of the first list, then those of the second, or the first refusal: where the first list's last record is no ADDEND, and wherever
   -- the first list has no refusal
-  pub read-append : PlainLast xs ⊎ Fills (readRecords contents sections before xs)
+  pub read-append : NoLastAddend xs ⊎ Fills (readRecords contents sections before xs)
       → readRecords contents sections before (xs ++ ys)
       ≡ joined (readRecords contents sections before xs) (readRecords contents sections (endsIn before xs) ys)
   unfolding readRecords
   read-append h =
       ap (readAll (stepAt contents sections before (xs ++ ys))) (length-append xs ys)
-      ∙ append (PlainLast xs) (stepAt contents sections before (xs ++ ys)) (stepAt contents sections before xs)
+      ∙ append (NoLastAddend xs) (Unit {0}) (stepAt contents sections before (xs ++ ys)) (stepAt contents sections before xs)
       (stepAt contents sections (endsIn before xs) ys) (length xs) (length ys) (λ (x : Reloc). x)
-      (step-onward contents sections before (xs ++ ys)) left-carries right-alike h
+      (step-onward contents sections before (xs ++ ys)) left-carries (λ j l. follows-moved (Unit {0}) (length xs) _ _ _ (right-alike j l)) h (inl tt)
       ∙ ap (joined (readRecords contents sections before xs)) (mapped-same (readRecords contents sections (endsIn before xs) ys))
 
 -- the same of the bytes of two tables, of which the first has whole records
 pub table-append : (contents sections records more : List ℕ) → length records % 8 ≡ 0
-    → PlainLast (recordsOf records) ⊎ Fills (readTable contents records sections)
+    → NoLastAddend (recordsOf records) ⊎ Fills (readTable contents records sections)
     → readTable contents (records ++ more) sections
     ≡ joined (readTable contents records sections) (readRecords contents sections (endsIn false (recordsOf records)) (recordsOf more))
 table-append contents sections records more w h =

@@ -13,33 +13,33 @@ use Rattle.util.proofs.Part.{length-bytes}
 use Rattle.util.proofs.Bytes.{sets-append, put-sets, le-bytes, le-append-left, le-append-right, bytes-le}
 use Rattle.macho.specs.Record.{Field, _of_, unused, sizeOf, bytesOf, Fits, Zeros}
 
--- the place of byte k of the record at `at`
-abbrev pub place : ℕ → ℕ → ℕ
-place at zero = at
-place at (suc k) = at + suc k
+-- where byte k of the record from byte `at` on stands
+abbrev pub byteAt : ℕ → ℕ → ℕ
+byteAt at zero = at
+byteAt at (suc k) = at + suc k
 
-place-is : (at k : ℕ) → place at k ≡ at + k
-place-is at zero = sym (add-zero at)
-place-is at (suc k) = refl
+byte-is : (at k : ℕ) → byteAt at k ≡ at + k
+byte-is at zero = sym (add-zero at)
+byte-is at (suc k) = refl
 
 -- the fields stored one by one, from byte k on of the record at `at`
 abbrev pub putsFrom : ℕ → List Field → List ℕ → ℕ → List ℕ
 putsFrom k [] s at = s
-putsFrom k (n of v ∷ fs) s at = putsFrom (k + n) fs (put n s (place at k) v) at
-putsFrom k (unused ∷ fs) s at = putsFrom (k + 1) fs (put 1 s (place at k) 0) at
+putsFrom k (n of v ∷ fs) s at = putsFrom (k + n) fs (put n s (byteAt at k) v) at
+putsFrom k (unused ∷ fs) s at = putsFrom (k + 1) fs (put 1 s (byteAt at k) 0) at
 
 -- a field stored, then the bytes of those after it
 field-sets : (n v : ℕ) (fs : List Field) (s : List ℕ) (k at : ℕ)
-    → sets (put n s (place at k) v) (at + (k + n)) (bytesOf fs) ≡ sets s (at + k) (bytes n v ++ bytesOf fs)
+    → sets (put n s (byteAt at k) v) (at + (k + n)) (bytesOf fs) ≡ sets s (at + k) (bytes n v ++ bytesOf fs)
 field-sets n v fs s k at =
-    rw (place-is at k, put-sets n s (at + k) v)
+    rw (byte-is at k, put-sets n s (at + k) v)
     (sym (sets-append (bytes n v) (bytesOf fs) s (at + k) (at + (k + n)) (ap (λ (m : ℕ). at + k + m) (length-bytes n v) ∙ add-assoc at k n)))
 
 puts-from : (k : ℕ) (fs : List Field) (s : List ℕ) (at : ℕ) → putsFrom k fs s at ≡ sets s (at + k) (bytesOf fs)
 unfolding bytesOf bytes
 puts-from k [] s at = refl
-puts-from k (n of v ∷ fs) s at = puts-from (k + n) fs (put n s (place at k) v) at ∙ field-sets n v fs s k at
-puts-from k (unused ∷ fs) s at = puts-from (k + 1) fs (put 1 s (place at k) 0) at ∙ field-sets 1 0 fs s k at
+puts-from k (n of v ∷ fs) s at = puts-from (k + n) fs (put n s (byteAt at k) v) at ∙ field-sets n v fs s k at
+puts-from k (unused ∷ fs) s at = puts-from (k + 1) fs (put 1 s (byteAt at k) 0) at ∙ field-sets 1 0 fs s k at
 
 -- a record stored field by field is its bytes stored
 pub puts : (fs : List Field) (s : List ℕ) (at : ℕ) → putsFrom 0 fs s at ≡ sets s at (bytesOf fs)
@@ -69,7 +69,7 @@ puts-after fs gs s at =
 -- the fields stand from byte k on of the record at `at`
 abbrev pub HoldsFrom : ℕ → List Field → List ℕ → ℕ → Type 0
 HoldsFrom k [] s at = Unit {0}
-HoldsFrom k (n of v ∷ fs) s at = (le n s (place at k) ≡ v) × HoldsFrom (k + n) fs s at
+HoldsFrom k (n of v ∷ fs) s at = (le n s (byteAt at k) ≡ v) × HoldsFrom (k + n) fs s at
 HoldsFrom k (unused ∷ fs) s at = HoldsFrom (k + 1) fs s at
 
 -- fields that fit stand in their own bytes
@@ -80,7 +80,7 @@ held (n of v ∷ fs) xs ys k at e h =
     let l : length xs + 0 ≡ at + k = omega arith in
     let w : 0 + n ≤ length (bytes n v) = omega (arith, length-bytes n v) in
     let m : length (xs ++ bytes n v) ≡ at + (k + n) = simp (length-append, length-bytes n v) (omega arith) in (
-      ap (le n (xs ++ (bytes n v ++ bytesOf fs ++ ys))) (place-is at k)
+      ap (le n (xs ++ (bytes n v ++ bytesOf fs ++ ys))) (byte-is at k)
           ∙ le-append-right n xs (bytes n v ++ bytesOf fs ++ ys) 0 (at + k) l
           ∙ ap (λ (z : List ℕ). le n z 0) (append-assoc (bytes n v) (bytesOf fs) ys)
           ∙ le-append-left n (bytes n v) (bytesOf fs ++ ys) 0 w
@@ -110,7 +110,7 @@ part-held [] s k at b l h z = refl
 part-held (n of v ∷ fs) s k at b l h z =
     let e = add-assoc at k n in
     ap₂ (λ (x y : List ℕ). x ++ y)
-    (ap (bytes n) (sym (h .0) ∙ ap (le n s) (place-is at k)) ∙ bytes-le n s (at + k) b (omega arith))
+    (ap (bytes n) (sym (h .0) ∙ ap (le n s) (byte-is at k)) ∙ bytes-le n s (at + k) b (omega arith))
     (part-held fs s (k + n) at b (omega arith) (h .1) (subst (Zeros fs s) e z) ∙ ap (λ (i : ℕ). part s i (sizeOf fs)) (sym e))
     ∙ sym (part-add s (at + k) n (sizeOf fs))
 part-held (unused ∷ fs) s k at b l h z =
@@ -125,12 +125,12 @@ pub held-ext : (fs : List Field) (s t : List ℕ) (k i j : ℕ) → ((m : ℕ) �
     → HoldsFrom k fs t j → HoldsFrom k fs s i
 held-ext [] s t k i j f h = tt
 held-ext (n of v ∷ fs) s t k i j f h = (
-  le-ext n s t (place i k) (place j k) (λ m l. same m (f (k + m) (omega arith) (omega arith))) ∙ h .0,
+  le-ext n s t (byteAt i k) (byteAt j k) (λ m l. same m (f (k + m) (omega arith) (omega arith))) ∙ h .0,
   held-ext fs s t (k + n) i j (λ m a b. f m (omega arith) (omega arith)) (h .1),
 )
   where
-    same : (m : ℕ) → getD s (i + (k + m)) 0 ≡ getD t (j + (k + m)) 0 → getD s (place i k + m) 0 ≡ getD t (place j k + m) 0
-    same m e = rw (place-is i k, place-is j k, add-assoc i k m, add-assoc j k m) e
+    same : (m : ℕ) → getD s (i + (k + m)) 0 ≡ getD t (j + (k + m)) 0 → getD s (byteAt i k + m) 0 ≡ getD t (byteAt j k + m) 0
+    same m e = rw (byte-is i k, byte-is j k, add-assoc i k m, add-assoc j k m) e
 held-ext (unused ∷ fs) s t k i j f h = held-ext fs s t (k + 1) i j (λ m a b. f m (omega arith) (omega arith)) h
 
 -- what an unused byte holds changes no field
@@ -141,8 +141,8 @@ held-unused [] gs s k at v h =
     (λ m a b. getD-set-other s (at + (k + 0)) (at + m) v 0 (λ e. omega arith))
     h
 held-unused (n of w ∷ fs) gs s k at v h = (
-  le-ext n (set s (at + (k + (n + sizeOf fs))) v) s (place at k) (place at k)
-      (λ m l. rw (place-is at k) (getD-set-other s (at + (k + (n + sizeOf fs))) (at + k + m) v 0 (λ e. omega arith)))
+  le-ext n (set s (at + (k + (n + sizeOf fs))) v) s (byteAt at k) (byteAt at k)
+      (λ m l. rw (byte-is at k) (getD-set-other s (at + (k + (n + sizeOf fs))) (at + k + m) v 0 (λ e. omega arith)))
       ∙ h .0,
   rw (← add-assoc k n (sizeOf fs)) (held-unused fs gs s (k + n) at v (h .1)),
 )

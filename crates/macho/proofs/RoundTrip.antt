@@ -20,8 +20,8 @@ use Rattle.macho.specs.Hint.{hintSize, insnAt, hintAt, hintFields, hintB
 use Rattle.macho.specs.declared.reloc.Reloc.{Reloc}
 use Rattle.macho.proofs.Record.{length-bytesOf, HoldsFrom, held, part-held, held-ext, held-unused}
 
--- a kind of record: its size, the value at a place, a value's fields and a value's bytes.
--- The bytes are those of the fields; a value whose fields stand at a place is the value there, and the value there has its fields there.
+-- a kind of record: its size, the value from a byte on, a value's fields and a value's bytes.
+-- The bytes are those of the fields; a value whose fields stand from a byte on is the value there, and the value there has its fields there.
 pub record Layout {A : Type 0} (size : ℕ) (value : List ℕ → ℕ → A) (fields : A → List Field) (image : A → List ℕ) : Type 0 where
   pub sized : (a : A) → sizeOf (fields a) ≡ size
   pub made : (a : A) → image a ≡ bytesOf (fields a)

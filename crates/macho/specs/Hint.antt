@@ -27,7 +27,7 @@ insnAt s at = record { off = le 4 s at; rel = le 4 s (at + 4); addr = le 8 s (at
 abbrev pub noEntry : ℕ
 noEntry = 0xffff_ffff
 
--- the hint at a place; the bytes 2 and 3 are ignored
+-- the hint from byte `at` on; its bytes 2 and 3 are ignored
 unfoldable pub hintAt : List ℕ → ℕ → HintRecord
 hintAt s at =
     record {

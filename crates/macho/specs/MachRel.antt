@@ -10,7 +10,7 @@ use Rattle.macho.specs.declared.rel.MachRel.{MachRel}
 abbrev pub machRelSize : ℕ
 machRelSize = 8
 
--- the record at a place: r_address, then the packed fields
+-- the record from byte `at` on: r_address, then the packed fields
 unfoldable pub machRelAt : List ℕ → ℕ → MachRel
 machRelAt s at = record { offset = le 4 s at; bits = le 4 s (at + 4) }
 

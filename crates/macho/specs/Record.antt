@@ -1,6 +1,6 @@
 -- A record: its fields one after another, each a number of so many bytes, the lowest byte first (RULES 2.2, 2.8).
 use mathlib.Core.Path.{_≡_}
-use Prim.Native.Nat.{ℕ, _+_, _*_, _^_, _<_}
+use Prim.Native.Nat.{ℕ, _+_, _-_, _*_, _^_, _<_}
 use mathlib.Core.List.{List, [], _∷_, _++_}
 use lib.ListN.{getD}
 use Rattle.util.specs.Word.{bytes}
@@ -29,7 +29,7 @@ Fits [] = Unit {0}
 Fits (n of v ∷ fs) = (v < 2 ^ (8 * n)) × Fits fs
 Fits (unused ∷ fs) = Fits fs
 
--- the unused bytes of fields that start at a place are zero
+-- the unused bytes of fields that start at byte `at` are zero
 abbrev pub Zeros : List Field → List ℕ → ℕ → Type 0
 Zeros [] s at = Unit {0}
 Zeros (n of v ∷ fs) s at = Zeros fs s (at + n)
@@ -39,3 +39,7 @@ Zeros (unused ∷ fs) s at = (getD s at 0 ≡ 0) × Zeros fs s (at + 1)
 unfoldable pub listBytes : {A : Type 0} → (A → List ℕ) → List A → List ℕ
 listBytes f [] = []
 listBytes f (r ∷ rs) = f r ++ listBytes f rs
+
+-- the most records that a list may have (RULES 3.9)
+abbrev pub mostRecords : ℕ
+mostRecords = 2 ^ 32 - 1

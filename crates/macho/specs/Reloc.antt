@@ -12,7 +12,7 @@ use Rattle.macho.specs.declared.reloc.Reloc.{Reloc}
 abbrev pub relocSize : ℕ
 relocSize = 24
 
--- the entry at a place
+-- the entry from byte `at` on
 unfoldable pub relocAt : List ℕ → ℕ → Reloc
 relocAt s at =
     record {

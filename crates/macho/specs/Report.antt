@@ -9,7 +9,7 @@ use Rattle.macho.specs.declared.report.Report.{Report}
 abbrev pub reportSize : ℕ
 reportSize = 24
 
--- the report at a place
+-- the report from byte `at` on
 unfoldable pub reportAt : List ℕ → ℕ → Report
 reportAt s at =
     record {

@@ -12,7 +12,7 @@ use Rattle.macho.specs.declared.resolved.Resolved.{Resolved}
 abbrev pub resolvedSize : ℕ
 resolvedSize = 48
 
--- the resolved target at a place
+-- the resolved target from byte `at` on
 unfoldable pub resolvedAt : List ℕ → ℕ → Resolved
 resolvedAt s at =
     record {

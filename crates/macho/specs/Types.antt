@@ -46,6 +46,10 @@ ARM64-RELOC-TLVP-LOAD-PAGEOFF12 = 9
 abbrev pub ARM64-RELOC-ADDEND : ℕ
 ARM64-RELOC-ADDEND = 10
 
+-- a signed pointer, in newer headers
+abbrev pub ARM64-RELOC-AUTHENTICATED-POINTER : ℕ
+ARM64-RELOC-AUTHENTICATED-POINTER = 11
+
 -- an absolute address
 abbrev pub X86-64-RELOC-UNSIGNED : ℕ
 X86-64-RELOC-UNSIGNED = 0

@@ -2,6 +2,7 @@
 pub mod byte;
 pub mod consts;
 pub mod hint;
+pub mod list;
 pub mod refusal;
 pub mod rel;
 pub mod reloc;
