@@ -2,6 +2,7 @@
 pub mod Steps
 pub mod Moves
 pub mod Tables
+pub mod Joins
 pub mod Lists
 pub mod Lengths
 pub mod Fields
