@@ -1,4 +1,5 @@
 -- Laws that belong to no one function, and the theorems on reading.
+pub mod PlainRecords
 pub mod Steps
 pub mod Moves
 pub mod Tables

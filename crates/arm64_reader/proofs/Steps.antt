@@ -32,7 +32,9 @@ use Rattle.arm64_reader.specs.declared.record.Addend.{Addend}
 use Rattle.arm64_reader.specs.declared.record.Addend.the-variants.{Held, Refused}
 use Rattle.arm64_reader.specs.Support.{formsOf, supportedOf}
 use Rattle.arm64_reader.specs.Check.{pointer32, checkReloc}
-use Rattle.arm64_reader.specs.Record.{addendOf, passing, adding, recordOf, ownAt, stepAt, Reads, Plain}
+use Rattle.arm64_reader.specs.Record.{addendOf, passing, adding, recordOf, ownAt, stepAt, Reads}
+use Rattle.arm64_reader.specs.Plain.{plainOf}
+use Rattle.arm64_reader.proofs.PlainRecords.{plain-reads}
 use Rattle.arm64_reader.specs.Fields.{isAddend, ownOf, givenOf}
 use Rattle.arm64_reader.specs.Read.{readRecords, readTable, readRelocs}
 
@@ -97,11 +99,12 @@ module _ (contents sections : List ℕ) (before : Bool) (rs : List MachRel) (i :
           absurd (omega arith)
 
   -- a record that reads whatever stands at its place
-  pub plain-is : off ≤ length contents → Plain (recordAt rs i)
+  pub plain-is : off ≤ length contents → plainOf (recordAt rs i) ≡ true
       → stepAt contents sections before rs i
       ≡ S.Read (entryOf (recordAt rs i) (subtractedAt ARM64-RELOC-SUBTRACTOR before rs i) off (idxOf (recordAt rs i .bits)) 0) (i + 1)
   plain-is h p =
-      other-is h (p .0) ∙ p .1 (drop off contents) sections (subtractedAt ARM64-RELOC-SUBTRACTOR before rs i) off (i + 1)
+      let q = plain-reads (recordAt rs i) p in
+      other-is h (q .0) ∙ q .1 (drop off contents) sections (subtractedAt ARM64-RELOC-SUBTRACTOR before rs i) off (i + 1)
 
 -- ---- what a reader has before it: record i read as r, and the number j of the entry's own record
 
@@ -119,20 +122,6 @@ own-missing contents records sections i f h k e l =
     sym
     (none-is contents sections false (recordsOf records) i (offset-within contents f h) (omega (arith, length-records records))
     (omega (arith, length-records records, e)))
-
--- a record of a symbol, of a supported form, with no addend in its place and no word to be checked, by the number of its type and form
-module _ (r : MachRel) where
-  plain-by : supportedOf r ≡ true → eqb (externOf (r .bits)) 1 ≡ true → eqb (typeOf (r .bits)) ARM64-RELOC-UNSIGNED ≡ false
-      → eqb (typeOf (r .bits)) ARM64-RELOC-GOT-LOAD-PAGEOFF12 ≡ false → eqb (typeOf (r .bits)) ARM64-RELOC-TLVP-LOAD-PAGEOFF12 ≡ false
-      → eqb (typeOf (r .bits)) ARM64-RELOC-ADDEND ≡ false → Plain r
-  unfolding recordOf checkReloc pointer32 addendOf targeted targetOf choose
-  plain-by s x u g t a = (eqb-false _ _ a, λ loc sections subtracted offset next. simp (s, x, u, g, t))
-
-  pub plain-form : (ty pcrel p2size : ℕ) → typeOf (r .bits) ≡ ty → pcrelOf (r .bits) ≡ pcrel → p2sizeOf (r .bits) ≡ p2size → externOf (r .bits) ≡ 1
-      → member (form pcrel p2size 1) (formsOf ty) ≡ true → eqb ty ARM64-RELOC-UNSIGNED ≡ false → eqb ty ARM64-RELOC-GOT-LOAD-PAGEOFF12 ≡ false
-      → eqb ty ARM64-RELOC-TLVP-LOAD-PAGEOFF12 ≡ false → eqb ty ARM64-RELOC-ADDEND ≡ false → Plain r
-  unfolding supportedOf
-  plain-form ty pcrel p2size e p z x m u g t a = plain-by (rw (e, p, z, x) m) (rw x refl) (rw e u) (rw e g) (rw e t) (rw e a)
 
 -- what a check lets through is what it was given
 passing-reads : (c : Check) (s : Step) → Reads (passing c s) → s ≡ passing c s

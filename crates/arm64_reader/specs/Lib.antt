@@ -1,5 +1,6 @@
 -- Reading arm64 relocation records.
 pub mod Support
+pub mod Plain
 pub mod Check
 pub mod Record
 pub mod Read

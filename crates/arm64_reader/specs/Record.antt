@@ -1,6 +1,5 @@
 -- What stands at one relocation record (arch/arm64.rs, a turn of `read_relocs`; RULES 4.3 to 4.12, 3.4).
 use Prim.Native.Nat.{ℕ, _+_}
-use mathlib.Core.Path.{_≡_}
 use mathlib.Core.Bool.{Bool}
 use mathlib.Core.List.{List}
 use lib.ListN.{length, drop}
@@ -12,7 +11,7 @@ use Rattle.macho.specs.MachRel.{idxOf, p2sizeOf, typeOf}
 use Rattle.macho.specs.Types.{ARM64-RELOC-UNSIGNED, ARM64-RELOC-SUBTRACTOR, ARM64-RELOC-ADDEND}
 use Rattle.macho.specs.declared.rel.MachRel.{MachRel}
 use Rattle.macho.specs.declared.refusal.Refusal.the-variants.{Bounds, LoneAddend}
-use Rattle.arch.specs.Entry.{entryOf, targeted}
+use Rattle.arch.specs.Entry.{targeted}
 use Rattle.arch.specs.Table.{recordAt, subtractedAt}
 use Rattle.macho.specs.declared.refusal.Check.{Check}
 use Rattle.macho.specs.declared.refusal.Check.the-variants as C
@@ -66,10 +65,3 @@ stepAt contents sections before rs i =
 abbrev pub Reads : Step → Type 0
 Reads (S.Refused x) = ⊥
 Reads (S.Read e next) = Unit {0}
-
--- a record that reads whatever stands at its place
-abbrev pub Plain : MachRel → Type 0
-Plain r =
-    (typeOf (r .bits) ≡ ARM64-RELOC-ADDEND → ⊥)
-    × ((loc sections : List ℕ) (subtracted : Bool) (offset next : ℕ)
-    → recordOf loc sections r subtracted offset 0 next ≡ S.Read (entryOf r subtracted offset (idxOf (r .bits)) 0) next)

@@ -1,5 +1,6 @@
 // What stands at one relocation record (arch/arm64.rs, a turn of `read_relocs`).
 use crate::check::check_reloc;
+use crate::plain::is_plain;
 use arch::step::Step;
 use arch::step::entry_of;
 use arch::step::read_target;
@@ -15,11 +16,11 @@ use util::read32;
 use util::read64;
 use util::sign_extend;
 ghost use mathlib.Core.Path.{_≡_};
-ghost use mathlib.Core.Bool.{true, false};
+ghost use mathlib.Core.Bool.{false};
 ghost use Prim.Native.Nat.{_<_, _≤_};
 ghost use lib.ListN.{length, drop};
 ghost use Rattle.arch.specs.Table.{recordCount, recordsOf};
-ghost use Rattle.arm64_reader.specs.Record.{addendOf, adding, recordOf, stepAt, Reads, Plain};
+ghost use Rattle.arm64_reader.specs.Record.{addendOf, adding, recordOf, stepAt, Reads};
 ghost use Rattle.arm64_reader.specs.Fields.{ownOf, givenOf};
 
 // The addend of a record.
@@ -113,38 +114,6 @@ fn given_addend(records: &[u8], i: usize) -> u64
         return sign_extend(r.idx() as u64, 24);
     }
     0
-}
-
-// Whether a record is known by its type and form alone to read: one of a symbol with no addend in its place and no word to be checked.
-fn is_plain(r: MachRel) -> bool
-    ensures { λ b. ⌜ (b ≡ true → Plain r) ⌝ }
-{
-    let form = r.bits / 0x100_0000;
-    if form == 0x1c {
-        return true;
-    }
-    if form == 0x1e {
-        return true;
-    }
-    if form == 0x2d {
-        return true;
-    }
-    if form == 0x3d {
-        return true;
-    }
-    if form == 0x4c {
-        return true;
-    }
-    if form == 0x5d {
-        return true;
-    }
-    if form == 0x7d {
-        return true;
-    }
-    if form == 0x8d {
-        return true;
-    }
-    false
 }
 
 // What stands at record i. An ADDEND record gives its offset and its addend to the record after it.

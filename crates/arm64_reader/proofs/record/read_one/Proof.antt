@@ -1,8 +1,9 @@
 -- A step in each of its ways: past the contents, plain, with its own record, with none.
-use Rattle.arm64_reader.specs.Record.{stepAt, Plain}
+use Rattle.arm64_reader.specs.Record.{stepAt}
+use Rattle.arm64_reader.specs.Plain.{plainOf}
 use Rattle.arm64_reader.proofs.Steps.{own-is, plain-is, offset-within, own-there, own-missing}
-use mathlib.Core.Path.{sym, subst}
-use mathlib.Core.Bool.{false}
+use mathlib.Core.Path.{_≡_, sym, ap, _∙_}
+use mathlib.Core.Bool.{true, false}
 use denote.Ref.{now}
 use Rattle.arch.specs.Table.{recordsOf, recordAt}
 use borrow.Author.Tests.{lt-ltb}
@@ -47,8 +48,8 @@ returns-2 c =
     let a = k .before .before .before .before .before .args in
     let rs = recordsOf (now (a .records)) in
     let h = offset-within (now (a .contents)) f (k .if1 .left) in
-    let p : Plain (recordAt rs (a .i)) =
-    subst Plain f (c .before .before .before .before .is-plain .ensures (c .before .before .before .if2 .taken)) in
+    let p : plainOf (recordAt rs (a .i)) ≡ true =
+    ap plainOf (sym f) ∙ sym (c .before .before .before .before .is-plain .ensures) ∙ c .before .before .before .if2 .taken in
     simp (
       c .entry-of .ensures,
       c .before .idx .ensures,

@@ -1,0 +1,41 @@
+-- `is_plain` meets its contract: a bit of the set is a member of the list (`has-member` of Forms), since each type's forms have fields that fit.
+use mathlib.Core.Path.{_≡_, refl, ap, _∙_}
+use mathlib.Core.Bool.{true}
+use Prim.Native.Nat.{ℕ, _<_}
+use native.Mathlib.Omega.{arith}
+use Rattle.macho.specs.MachRel.{formOf, typeOf}
+use Rattle.util.specs.Choice.{choose}
+use Rattle.util.proofs.Below.{every, every-at}
+use Rattle.arch.specs.Form.{hasBit, bitsOf, fieldsFit}
+use Rattle.arch.proofs.Forms.{has-member}
+use Rattle.arm64_reader.specs.Plain.{plainForms, plainOf}
+use borrow.Author.Needs.{needs}
+use Rattle.arm64_reader.proofs.plain.is_plain.Statement.{statement}
+use Rattle.arm64_reader.proofs.plain.is_plain.Tie as tie
+
+-- the forms of each type are such as a record can have
+fit : (ty : ℕ) → ty < 16 → fieldsFit (plainForms ty) ≡ true
+unfolding plainForms every choose
+fit ty h = every-at (λ k. fieldsFit (plainForms k)) 16 refl ty h
+
+ty-requires : tie.Need-ty-requires
+ty-requires c κs = search needs
+
+plain-forms-requires : tie.Need-plain-forms-requires
+plain-forms-requires c κs = search needs
+
+has-reloc-form-requires : tie.Need-has-reloc-form-requires
+has-reloc-form-requires c κs = search needs
+
+returns : tie.Need-returns
+unfolding plainOf
+returns c =
+    let r = c .before .before .before .args .r in
+    let ty = typeOf (r .bits) in
+    c .has-reloc-form .ensures
+    ∙ ap (λ (s : ℕ). hasBit s (formOf (r .bits))) (c .before .plain-forms .ensures ∙ ap (λ (t : ℕ). bitsOf (plainForms t)) (c .before .before .ty .ensures))
+    ∙ has-member (plainForms ty) r (fit ty (omega arith))
+
+pub is-plain-spec : {M : Type 1} → statement M
+is-plain-spec =
+    tie.close (tie.spec ty-requires plain-forms-requires has-reloc-form-requires returns)
