@@ -16,8 +16,9 @@ use Rattle.arm64_reader.specs.Support.{formsOf, supportedOf}
 use Rattle.arm64_reader.specs.Check.{loadedBytes, gotFits, tlvpFits, pointer32, wordCheck, checkReloc}
 use Rattle.arm64_reader.specs.Record.{addendOf, recordOf, stepAt}
 use Rattle.arm64_reader.specs.Read.{readRecords, readRelocs}
-use Rattle.arm64_reader.specs.Header.{symbol, nothing, wellFormed, Meaning, undefined, relocations, meaningFrom, meaningOf}
-use Rattle.arm64_reader.specs.Header.{subtractor-last, subtractor-type, subtractor-place, subtractor-size, addend-form, addend-type, addend-place}
+use Rattle.arm64_reader.specs.Header.{symbol, nothing, isDefined, Meaning, undefined, relocations, meaningFrom, meaningOf}
+use Rattle.arm64_reader.specs.Header.{not-in-header, not-applied, subtractor-last, subtractor-type, subtractor-place, subtractor-size}
+use Rattle.arm64_reader.specs.Header.{addend-form, addend-last, addend-type, addend-place}
 use Rattle.arm64_reader.specs.Header.{turnAlone, turnMinus, turnPlus}
 
 -- a record's bytes
@@ -68,31 +69,35 @@ unfolding readRelocs readRecords readAll readFrom choose lengthsOf recordsOf rec
 turned-down = refl
 
 -- where two numbers apply, the earlier in the order 1, 2, by record 3 (offset), 4, 5, 3 (word), 6, 3 (pointer), 7 is returned: 9 bytes and no slot;
--- an offset past the contents and 23 bytes; past the contents, and ADDEND the last record; ADDEND the last record, of a form of no type;
--- a form of no type, and no word there; no pointer there, and ordinal 0; ordinal 0, and after it a record past the contents
+-- an offset past the contents and 23 bytes; past the contents, and ADDEND the last record; past the contents, and a form of no type; ADDEND the last record,
+-- of a form of no type; a form of no type, and no word there; the same, and no pointer there; the same, and ordinal 0; no pointer there, and ordinal 0;
+-- ordinal 0, and after it a record past the contents
 pub first-number :
     number [] (replicate 9 0) [] []
     ∷ number [] (record-of 1 0x3d000000) [] (replicate 23 0)
     ∷ number [] (record-of 1 0xa4000000) [] slot
+    ∷ number [] (record-of 1 0x3c000000) [] slot
     ∷ number [] (record-of 0 0xaf000000) [] slot
     ∷ number [] (record-of 0 0x94000000) [] slot
+    ∷ number (replicate 7 0) (record-of 0 0x0f000000) [] slot
+    ∷ number (replicate 8 0) (record-of 0 0x07000000) [] slot
     ∷ number (replicate 7 0) (record-of 0 0x06000000) [] slot
     ∷ number (replicate 8 0) (record-of 0 0x06000000 ++ record-of 9 0x3d000000) [] (slot ++ slot)
     ∷ []
-    ≡ 1 ∷ 2 ∷ 3 ∷ 4 ∷ 5 ∷ 3 ∷ 7 ∷ []
+    ≡ 1 ∷ 2 ∷ 3 ∷ 3 ∷ 4 ∷ 5 ∷ 5 ∷ 5 ∷ 3 ∷ 7 ∷ []
 unfolding readRelocs readRecords readAll readFrom choose lengthsOf recordsOf recordsFrom machRelAt le bytes subtractedAt stepAt recordOf checkReloc
     supportedOf formsOf pointer32 addendOf targeted targetOf sectionTarget wordCheck gotFits tlvpFits loadedBytes loadStoreOf accessOf
 first-number = refl
 
--- ---- tables that Apple's header does not define, and that are read all the same: one for each reason
+-- ---- tables that are not defined, one for each reason
 
--- what the header says, and how many entries are filled
+-- what a table means, and how many entries are filled
 abbrev reads : List ℕ → List ℕ → Meaning × ℕ
 reads contents records = (meaningOf contents [] (recordsOf records), filledOf (answerOf (readRelocs contents records [] (replicate 48 0))))
 
--- SUBTRACTOR alone; before BRANCH26; before UNSIGNED at another place; before UNSIGNED of another size; ADDEND with the fields of another type;
+-- read all the same: SUBTRACTOR alone; before BRANCH26; before UNSIGNED at another place; before UNSIGNED of another size; ADDEND with the fields of another type;
 -- before BRANCH26; before PAGE21 at another place
-pub not-defined :
+pub undefined-read :
     reads (replicate 16 0) (record-of 0 0x1e000000)
     ∷ reads (replicate 16 0) (record-of 0 0x1e000000 ++ record-of 0 0x2d000000)
     ∷ reads (replicate 16 0) (record-of 0 0x1e000000 ++ record-of 8 0x0e000000)
@@ -111,22 +116,45 @@ pub not-defined :
     ∷ []
 unfolding readRelocs readRecords readAll readFrom choose lengthsOf recordsOf recordsFrom machRelAt le bytes subtractedAt stepAt recordOf checkReloc
     supportedOf formsOf pointer32 addendOf targeted targetOf sectionTarget wordCheck gotFits tlvpFits loadedBytes loadStoreOf accessOf
-    meaningFrom turnAlone turnMinus turnPlus wellFormed
-not-defined = refl
+    meaningFrom turnAlone turnMinus turnPlus isDefined
+undefined-read = refl
 
--- what the header says, and the number that is returned
+-- what a table means, and the number that is returned
 abbrev refuses : List ℕ → List ℕ → Meaning × ℕ
 refuses contents records = (meaningOf contents [] (recordsOf records), number contents records [] slot)
 
--- tables that the header defines and that are refused, by 6 and by 5: a TLVP page offset on NOP, a pointer of 4 bytes alone
+-- refused, by 5 and by 4: PAGE21 that is not pc-relative, and type 12, which the headers do not have; POINTER_TO_GOT of 8 bytes (`.quad _g@GOT`), UNSIGNED of
+-- 2, PAGEOFF12 scaled by 8, type 11, which they have and the linker does not apply; ADDEND the last record
+pub undefined-refused :
+    refuses (replicate 8 0) (record-of 0 0x3c000000)
+    ∷ refuses (replicate 8 0) (record-of 0 0xcc000000)
+    ∷ refuses (replicate 8 0) (record-of 0 0x7e000000)
+    ∷ refuses (replicate 8 0) (record-of 0 0x0a000000)
+    ∷ refuses (replicate 8 0) (record-of 0 0x4e000000)
+    ∷ refuses (replicate 8 0) (record-of 0 0xbe000000)
+    ∷ refuses (replicate 8 0) (record-of 0 0xa4000000)
+    ∷ []
+    ≡ (undefined not-in-header, 5)
+    ∷ (undefined not-in-header, 5)
+    ∷ (undefined not-applied, 5)
+    ∷ (undefined not-applied, 5)
+    ∷ (undefined not-applied, 5)
+    ∷ (undefined not-applied, 5)
+    ∷ (undefined addend-last, 4)
+    ∷ []
+unfolding readRelocs readRecords readAll readFrom choose lengthsOf recordsOf recordsFrom machRelAt le bytes subtractedAt stepAt recordOf checkReloc
+    supportedOf formsOf meaningFrom turnAlone isDefined
+undefined-refused = refl
+
+-- ---- tables that are defined and refused, by 6 and by 5: a TLVP page offset on NOP, a pointer of 4 bytes alone
 pub defined-refused :
     refuses nop (record-of 0 0x9c000000)
     ∷ refuses nop (record-of 0 0x0c000000)
     ∷ []
-    ≡ (relocations (record { kind = 9; place = 0; size = 4; target = symbol 0; addend = 0; minus = nothing } ∷ []), 6)
-    ∷ (relocations (record { kind = 0; place = 0; size = 4; target = symbol 0; addend = 0xffffffff_d503201f; minus = nothing } ∷ []), 5)
+    ≡ (relocations (record { ty = 9; place = 0; size = 4; target = symbol 0; addend = 0; minus = nothing } ∷ []), 6)
+    ∷ (relocations (record { ty = 0; place = 0; size = 4; target = symbol 0; addend = 0xffffffff_d503201f; minus = nothing } ∷ []), 5)
     ∷ []
 unfolding readRelocs readRecords readAll readFrom choose lengthsOf recordsOf recordsFrom machRelAt le bytes subtractedAt stepAt recordOf checkReloc
     supportedOf formsOf pointer32 addendOf targeted targetOf sectionTarget wordCheck gotFits tlvpFits loadedBytes loadStoreOf accessOf
-    meaningFrom turnAlone turnMinus turnPlus wellFormed
+    meaningFrom turnAlone turnMinus turnPlus isDefined
 defined-refused = refl

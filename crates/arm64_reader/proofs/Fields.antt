@@ -35,7 +35,7 @@ use Rattle.arm64_reader.specs.Record.{addendOf, passing, adding, recordO
 use Rattle.arm64_reader.specs.Read.{readRecords}
 use Rattle.arch.proofs.Walk.{Within, Later, done-any, turn-suc}
 use Rattle.arm64_reader.proofs.Steps.{step-within, step-onward}
-use Rattle.arm64_reader.specs.Fields.{isAddend, starts, pairs, ownOf, heldIn, targetIn, addendIn, entryAt}
+use Rattle.arm64_reader.specs.Fields.{isAddend, starts, pairs, ownOf, heldIn, targetIn, addendIn, entryFrom}
 
 -- ---- one step
 
@@ -111,8 +111,8 @@ module _ (sections : List ℕ) (r : MachRel) (subtracted : Bool) (offset next : 
 
 -- a step reads the entry that starts at its record, and ends after that entry's own record
 step-says : (contents sections : List ℕ) (first : Bool) (rs : List MachRel) (i : ℕ)
-    → Says (entryAt contents sections first rs i) (ownOf rs i + 1) (stepAt contents sections first rs i)
-unfolding stepAt entryAt choose Says
+    → Says (entryFrom contents sections first rs i) (ownOf rs i + 1) (stepAt contents sections first rs i)
+unfolding stepAt entryFrom choose Says
 step-says contents sections first rs i =
     split P (ltb (length contents) off) _ _ (λ _. tt)
     (λ _.
@@ -124,7 +124,7 @@ step-says contents sections first rs i =
     off = recordAt rs i .offset
 
     P : Step → Type 0
-    P = Says (entryAt contents sections first rs i) (ownOf rs i + 1)
+    P = Says (entryFrom contents sections first rs i) (ownOf rs i + 1)
 
     word : (n : ℕ) → le n (drop off contents) 0 ≡ le n contents off
     word n = le-drop n contents off 0 ∙ ap (le n contents) (omega arith)
@@ -149,7 +149,7 @@ starts-on rs i h l = ap (starts i false) (drop-cons rs i none h) ∙ ap (λ (m :
 
 module _ (contents sections : List ℕ) (first : Bool) (rs : List MachRel) where
   abbrev E : ℕ → Reloc
-  E = entryAt contents sections first rs
+  E = entryFrom contents sections first rs
 
   -- what is left from record i on: the entries that start there
   Reads : ℕ → Reading → Type 0
@@ -190,7 +190,7 @@ module _ (contents sections : List ℕ) (first : Bool) (rs : List MachRel) where
           (step-onward contents sections first rs i))
 
   -- the entries of a table, each by its records
-  pub fields : (es : List Reloc) → readRecords contents sections first rs ≡ entries es → es ≡ map (entryAt contents sections first rs) (starts 0 false rs)
+  pub fields : (es : List Reloc) → readRecords contents sections first rs ≡ entries es → es ≡ map (entryFrom contents sections first rs) (starts 0 false rs)
   unfolding readRecords readAll Reads
   fields es e = subst (Reads 0) e (walk-reads (length rs) 0 (omega arith))
 
@@ -206,7 +206,7 @@ pub count : (contents sections : List ℕ) (first : Bool) (rs : List MachRel) (e
     → length es + pairs false rs ≡ length rs
 count contents sections first rs es e =
     ap (λ (m : ℕ). m + pairs false rs)
-    (ap length (fields contents sections first rs es e) ∙ length-map (starts 0 false rs) (entryAt contents sections first rs))
+    (ap length (fields contents sections first rs es e) ∙ length-map (starts 0 false rs) (entryFrom contents sections first rs))
     ∙ starts-count 0 false rs
 
 -- so they never exceed the records

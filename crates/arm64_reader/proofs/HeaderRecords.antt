@@ -1,4 +1,4 @@
--- One record read, against what the header says of it: what its entry says, and the refusals that are left where its fields go with its type.
+-- One record read, against what it means: what its entry says, and the refusals that are left where it is defined.
 use mathlib.Core.Path.{_≡_, refl, sym, ap, ap₂, subst, _∙_}
 use mathlib.Core.Logic.{_⊎_, inl, inr}
 use mathlib.Core.Bool.{Bool, true, false}
@@ -33,7 +33,7 @@ use Rattle.arm64_reader.specs.Support.{supportedOf}
 use Rattle.arm64_reader.specs.Check.{pointer32, wordCheck, checkReloc}
 use Rattle.arm64_reader.specs.Record.{addendOf, passing, adding, recordOf}
 use Rattle.arm64_reader.specs.Fields.{heldIn, targetIn, addendIn}
-use Rattle.arm64_reader.specs.Header.{Referent, section, Less, Relocation, wellFormed}
+use Rattle.arm64_reader.specs.Header.{Referent, section, Less, Relocation, isDefined}
 use Rattle.arm64_reader.specs.Header.{referentOf, pointerOf, Known}
 use Rattle.arm64_reader.specs.Said.{namedBy, sayOne}
 use Rattle.arm64_reader.proofs.Fields.{Says, entry, record-says}
@@ -51,7 +51,7 @@ module _ (loc sections : List ℕ) (r : MachRel) (subtracted : Bool) (offset giv
   unfolding Says
   read-entry e = subst (Says _ next) e (record-says sections r subtracted offset next loc given _ _ refl refl) .0
 
-  -- its fields go with its type
+  -- it is defined
   Supported : Check → Type 0
   Supported C.Fit = supportedOf r ≡ true
   Supported (C.Refused x) = Unit {0}
@@ -64,7 +64,7 @@ module _ (loc sections : List ℕ) (r : MachRel) (subtracted : Bool) (offset giv
       within e C.Fit = e
       within e (C.Refused x) = tt
 
-  pub read-formed : {e : Reloc} {m : ℕ} → Step-of ≡ S.Read e m → wellFormed r ≡ true
+  pub read-formed : {e : Reloc} {m : ℕ} → Step-of ≡ S.Read e m → isDefined r ≡ true
   unfolding recordOf Supported
   read-formed e = sym (supported-is r) ∙ go (checkReloc r subtracted loc) check-supported (adding sections r subtracted offset next (addendOf r loc given)) e
     where
@@ -90,13 +90,13 @@ module _ (loc sections : List ℕ) (r : MachRel) (subtracted : Bool) (offset giv
   unfolding Refuses
   read-named e x z = subst Refuses e (no-ordinal x z)
 
--- ---- a record whose fields go with its type, whose bytes are there, and whose section is there
+-- ---- a record that is defined, whose bytes are there, and whose section is there
 
 -- the refusals that are left: an unfit word, and a 4-byte pointer that is not subtracted
 abbrev pub Left : MachRel → Bool → Refusal → Type 0
 Left r subtracted x = (x ≡ Unfit) ⊎ ((x ≡ Unsupported) × (pointer32 r subtracted ≡ true))
 
-module _ (loc sections : List ℕ) (r : MachRel) (subtracted : Bool) (offset given next : ℕ) (formed : wellFormed r ≡ true)
+module _ (loc sections : List ℕ) (r : MachRel) (subtracted : Bool) (offset given next : ℕ) (formed : isDefined r ≡ true)
     (room : 2 ^ p2sizeOf (r .bits) ≤ length loc) (known : Known (length sections) (referentOf r)) where
   four : 4 ≤ length loc
   four = omega (arith, pow-mono {i = 2} {j = p2sizeOf (r .bits)} (size-at-least r formed))
@@ -206,7 +206,7 @@ module _ (contents sections : List ℕ) (r : MachRel) (subtracted : Bool) (given
   word-at n = le-drop n contents (r .offset) 0 ∙ ap (le n contents) (omega arith)
 
   abbrev says : Referent → ℕ → Relocation
-  says t a = record { kind = typeOf (r .bits); place = r .offset; size = 2 ^ p2sizeOf (r .bits); target = t; addend = a; minus = m }
+  says t a = record { ty = typeOf (r .bits); place = r .offset; size = 2 ^ p2sizeOf (r .bits); target = t; addend = a; minus = m }
 
   pub say-pointer : typeOf (r .bits) ≡ ARM64-RELOC-UNSIGNED → sayOne m own ≡ pointerOf contents sections r m
   unfolding heldIn choose

@@ -1,6 +1,6 @@
--- Apple's header against the reader, for every table: where the header defines it and it is read, the entries say the same; where the header defines it,
--- its bytes and sections are there and it is refused, the word is unfit or a 4-byte pointer stands alone; where it is read and the header does not
--- define it, the reason is one of those listed. One induction over the records, by the cases of the header's turns.
+-- What a table means against what is read, for every table: where it is defined and read, the entries say what it means; where it is defined, its bytes and
+-- sections are there and it is refused, the word is unfit or a 4-byte pointer stands alone; where it is read and not defined, the reason is one of those
+-- listed. One induction over the records, by the cases of a turn.
 use mathlib.Core.Path.{_≡_, refl, sym, ap, ap₂, subst, subst₂, _∙_}
 use mathlib.Core.Logic.{_⊎_, inl, inr, ⊎-elim}
 use mathlib.Core.Bool.{Bool, true, false, _||_, or-true, true≢false, false≢true}
@@ -25,11 +25,11 @@ use Rattle.arch.specs.declared.step.Step.{Step}
 use Rattle.arm64_reader.specs.Check.{pointer32}
 use Rattle.arm64_reader.specs.Record.{recordOf}
 use Rattle.arm64_reader.specs.Read.{readRecords, readRelocs}
-use Rattle.arm64_reader.specs.Header.{Referent, symbol, section, Less, nothing, less, Relocation, wellFormed, takesAddend, referentOf, pointerOf, wordOf}
-use Rattle.arm64_reader.specs.Header.{Reason, form, subtractor-last, subtractor-type, subtractor-place, subtractor-size}
+use Rattle.arm64_reader.specs.Header.{Referent, symbol, section, Less, nothing, less, Relocation, isDefined, takesAddend, referentOf, pointerOf, wordOf}
+use Rattle.arm64_reader.specs.Header.{Reason, lackOf, subtractor-last, subtractor-type, subtractor-place, subtractor-size}
 use Rattle.arm64_reader.specs.Header.{addend-form, addend-last, addend-type, addend-place}
 use Rattle.arm64_reader.specs.Header.{isTolerated, Pending, none, minus, plus, Turn, give, Meaning, undefined, relocations}
-use Rattle.arm64_reader.specs.Header.{withFirst, follow, meaningFrom, meaningOf, Known, Inside, isLonePointer32, hasLonePointer32}
+use Rattle.arm64_reader.specs.Header.{withFirst, follow, meaningFrom, meaningOf, Known, Present, isLonePointer32, hasLonePointer32}
 use Rattle.arm64_reader.specs.Said.{namedBy, sayOne, saidFrom, said}
 use Rattle.arm64_reader.proofs.Lengths.{enough}
 use Rattle.arm64_reader.proofs.Lists.{isSubtractor, read-nil, read-past, read-lone, plain-cases, pair-cases}
@@ -41,21 +41,21 @@ use Rattle.arm64_reader.proofs.HeaderTurns as View
 abbrev pub Allowed : List Relocation → Refusal → Type 0
 Allowed ms x = (x ≡ Unfit) ⊎ ((x ≡ Unsupported) × (hasLonePointer32 ms ≡ true))
 
--- a meaning and an answer that agree, where m is subtracted from the first entry
+-- a meaning and an answer that go together, where m is subtracted from the first entry
 module _ (size sections : ℕ) where
-  unfoldable pub Agree : Less → Meaning → Reading → Type 0
-  Agree m (relocations ms) (entries es) = saidFrom m es ≡ ms
-  Agree m (relocations ms) (refused x) = Inside size sections ms → Allowed ms x
-  Agree m (undefined y) (entries es) = isTolerated y ≡ true
-  Agree m (undefined y) (refused x) = Unit {0}
+  unfoldable pub Consistent : Less → Meaning → Reading → Type 0
+  Consistent m (relocations ms) (entries es) = saidFrom m es ≡ ms
+  Consistent m (relocations ms) (refused x) = Present size sections ms → Allowed ms x
+  Consistent m (undefined y) (entries es) = isTolerated y ≡ true
+  Consistent m (undefined y) (refused x) = Unit {0}
 
-  tolerated : (m : Less) (y : Reason) → isTolerated y ≡ true → (a : Reading) → Agree m (undefined y) a
-  unfolding Agree
+  tolerated : (m : Less) (y : Reason) → isTolerated y ≡ true → (a : Reading) → Consistent m (undefined y) a
+  unfolding Consistent
   tolerated m y h (refused x) = tt
   tolerated m y h (entries es) = h
 
-  turned-down : (m : Less) (y : Reason) (x : Refusal) → Agree m (undefined y) (refused x)
-  unfolding Agree
+  turned-down : (m : Less) (y : Reason) (x : Refusal) → Consistent m (undefined y) (refused x)
+  unfolding Consistent
   turned-down m y x = tt
 
   more-allowed : (r : Relocation) (ms : List Relocation) (x : Refusal) → Allowed ms x → Allowed (r ∷ ms) x
@@ -63,8 +63,8 @@ module _ (size sections : ℕ) where
 
   -- a relocation and its entry before the rest
   give-read : (m : Less) (r : Relocation) (e : Reloc) (w : Meaning) (a : Reading) → sayOne m e ≡ r → (e .ty ≡ ARM64-RELOC-SUBTRACTOR → ⊥)
-      → Agree nothing w a → Agree m (withFirst r w) (before e a)
-  unfolding Agree choose
+      → Consistent nothing w a → Consistent m (withFirst r w) (before e a)
+  unfolding Consistent choose
   give-read m r e (undefined y) (refused x) s n g = tt
   give-read m r e (undefined y) (entries es) s n g = g
   give-read m r e (relocations ms) (refused x) s n g = λ i. more-allowed r ms x (g (i .1))
@@ -74,16 +74,16 @@ module _ (size sections : ℕ) where
   -- a relocation whose record is refused
   give-refused : (m : Less) (r : Relocation) (w : Meaning) (x : Refusal)
       → ((r .place + r .size ≤ size) × Known sections (r .target) → (x ≡ Unfit) ⊎ ((x ≡ Unsupported) × (isLonePointer32 r ≡ true)))
-      → Agree m (withFirst r w) (refused x)
-  unfolding Agree
+      → Consistent m (withFirst r w) (refused x)
+  unfolding Consistent
   give-refused m r (undefined y) x f = tt
   give-refused m r (relocations ms) x f =
       λ i. ⊎-elim (λ u. inl u) (λ u. inr (u .0, ap (λ (b : Bool). b || hasLonePointer32 ms) (u .1))) (f (i .0))
 
   -- a SUBTRACTOR's entry before the rest
   minus-read : (q : Referent) (e : Reloc) (w : Meaning) (a : Reading) → e .ty ≡ ARM64-RELOC-SUBTRACTOR → namedBy (e .target) ≡ q
-      → Agree (less q) w a → Agree nothing w (before e a)
-  unfolding Agree choose
+      → Consistent (less q) w a → Consistent nothing w (before e a)
+  unfolding Consistent choose
   minus-read q e (undefined y) (refused x) t n g = tt
   minus-read q e (undefined y) (entries es) t n g = g
   minus-read q e (relocations ms) (refused x) t n g = g
@@ -91,9 +91,9 @@ module _ (size sections : ℕ) where
       rw (eq-eqb (e .ty) ARM64-RELOC-SUBTRACTOR t) (ap (λ (p : Referent). saidFrom (less p) es) n ∙ g)
 
   -- a SUBTRACTOR that is refused
-  minus-refused : (w : Meaning) (x : Refusal) → ((ms : List Relocation) → w ≡ relocations ms → Inside size sections ms → Allowed ms x)
-      → Agree nothing w (refused x)
-  unfolding Agree
+  minus-refused : (w : Meaning) (x : Refusal) → ((ms : List Relocation) → w ≡ relocations ms → Present size sections ms → Allowed ms x)
+      → Consistent nothing w (refused x)
+  unfolding Consistent
   minus-refused (undefined y) x f = tt
   minus-refused (relocations ms) x f = λ i. f ms refl i
 
@@ -121,11 +121,11 @@ not-lone r h =
 
 module _ (contents sections : List ℕ) where
   abbrev Ok : Less → Meaning → Reading → Type 0
-  Ok = Agree (length contents) (length sections)
+  Ok = Consistent (length contents) (length sections)
 
   -- a record that gives a relocation of its own
   single : (m : Less) (b : Bool) (r : MachRel) (rs : List MachRel) (g : Relocation) (w : Meaning)
-      → (typeOf (r .bits) ≡ ARM64-RELOC-ADDEND → ⊥) → (typeOf (r .bits) ≡ ARM64-RELOC-SUBTRACTOR → ⊥) → wellFormed r ≡ true
+      → (typeOf (r .bits) ≡ ARM64-RELOC-ADDEND → ⊥) → (typeOf (r .bits) ≡ ARM64-RELOC-SUBTRACTOR → ⊥) → isDefined r ≡ true
       → g .place ≡ r .offset → g .size ≡ 2 ^ p2sizeOf (r .bits) → g .target ≡ referentOf r
       → ((o : eqb (externOf (r .bits)) 1 ≡ false → idxOf (r .bits) ≡ 0 → ⊥) → sayOne m (own contents sections r b 0 m o) ≡ g)
       → (pointer32 r b ≡ true → isLonePointer32 g ≡ true)
@@ -148,7 +148,7 @@ module _ (contents sections : List ℕ) where
 
   -- an ADDEND record and one that gives a relocation with its addend
   summed : (a r : MachRel) (rs : List MachRel) (w : Meaning) → typeOf (a .bits) ≡ ARM64-RELOC-ADDEND → takesAddend (typeOf (r .bits)) ≡ true
-      → wellFormed r ≡ true → r .offset ≡ a .offset → Ok nothing w (readRecords contents sections false rs)
+      → isDefined r ≡ true → r .offset ≡ a .offset → Ok nothing w (readRecords contents sections false rs)
       → Ok nothing (withFirst (wordOf r (extend (idxOf (a .bits)) 24)) w) (readRecords contents sections false (a ∷ (r ∷ rs)))
   summed a r rs w t takes f o rest =
       pair-cases contents sections false (Ok nothing (withFirst g w)) a r rs t
@@ -181,33 +181,33 @@ module _ (contents sections : List ℕ) where
       room : r .offset + 2 ^ p2sizeOf (r .bits) ≤ length contents → 2 ^ p2sizeOf (r .bits) ≤ length (drop (r .offset) contents)
       room i = simp length-drop (omega arith)
 
-  -- a record whose fields do not go with its type is refused
-  unformed : (m : Less) (b : Bool) (r : MachRel) (rs : List MachRel) → (typeOf (r .bits) ≡ ARM64-RELOC-ADDEND → ⊥) → wellFormed r ≡ false
-      → Ok m (undefined form) (readRecords contents sections b (r ∷ rs))
+  -- a record that is not defined is refused
+  unformed : (m : Less) (b : Bool) (r : MachRel) (rs : List MachRel) → (typeOf (r .bits) ≡ ARM64-RELOC-ADDEND → ⊥) → isDefined r ≡ false
+      → Ok m (undefined (lackOf r)) (readRecords contents sections b (r ∷ rs))
   unformed m b r rs na f =
-      plain-cases contents sections b (Ok m (undefined form)) r rs na
-      (λ h. turned-down _ _ m form Bounds)
-      (λ h x e. turned-down _ _ m form x)
+      plain-cases contents sections b (Ok m (undefined (lackOf r))) r rs na
+      (λ h. turned-down _ _ m (lackOf r) Bounds)
+      (λ h x e. turned-down _ _ m (lackOf r) x)
       (λ h e k q. absurd (true≢false (sym (read-formed _ sections r b _ 0 1 q) ∙ f)))
 
-  unformed-pair : (a r : MachRel) (rs : List MachRel) → typeOf (a .bits) ≡ ARM64-RELOC-ADDEND → wellFormed r ≡ false
-      → Ok nothing (undefined form) (readRecords contents sections false (a ∷ (r ∷ rs)))
+  unformed-pair : (a r : MachRel) (rs : List MachRel) → typeOf (a .bits) ≡ ARM64-RELOC-ADDEND → isDefined r ≡ false
+      → Ok nothing (undefined (lackOf r)) (readRecords contents sections false (a ∷ (r ∷ rs)))
   unformed-pair a r rs t f =
-      pair-cases contents sections false (Ok nothing (undefined form)) a r rs t
-      (λ h. turned-down _ _ nothing form Bounds)
-      (λ h x e. turned-down _ _ nothing form x)
+      pair-cases contents sections false (Ok nothing (undefined (lackOf r))) a r rs t
+      (λ h. turned-down _ _ nothing (lackOf r) Bounds)
+      (λ h x e. turned-down _ _ nothing (lackOf r) x)
       (λ h e k q. absurd (true≢false (sym (read-formed _ sections r false _ (extend (idxOf (a .bits)) 24) 2 q) ∙ f)))
 
   -- what is subtracted has its bytes where the difference has them
-  first-inside : (g : Relocation) (w : Meaning) (ms : List Relocation) → withFirst g w ≡ relocations ms → Inside (length contents) (length sections) ms
+  first-inside : (g : Relocation) (w : Meaning) (ms : List Relocation) → withFirst g w ≡ relocations ms → Present (length contents) (length sections) ms
       → g .place + g .size ≤ length contents
   first-inside g (undefined y) ms e i = let z : _≡_ {A = ℕ} 0 1 = cc in absurd (omega arith)
   first-inside g (relocations ns) ms e i =
       let q : g ∷ ns ≡ ms = cc in
-      subst (Inside (length contents) (length sections)) (sym q) i .0 .0
+      subst (Present (length contents) (length sections)) (sym q) i .0 .0
 
   minus-inside : (q : MachRel) (rs : List MachRel) (ms : List Relocation) → meaningFrom contents sections (minus q) rs ≡ relocations ms
-      → Inside (length contents) (length sections) ms → q .offset + 2 ^ p2sizeOf (q .bits) ≤ length contents
+      → Present (length contents) (length sections) ms → q .offset + 2 ^ p2sizeOf (q .bits) ≤ length contents
   unfolding meaningFrom
   minus-inside q [] ms e i = let z : _≡_ {A = ℕ} 0 1 = cc in absurd (omega arith)
   minus-inside q (r ∷ rs) ms e i = go (View.after-minus contents sections q r) e
@@ -228,7 +228,7 @@ module _ (contents sections : List ℕ) where
           subst₂ (λ (k l : ℕ). k + 2 ^ l ≤ length contents) o z h
 
   -- a SUBTRACTOR before what follows it
-  subtracted : (r : MachRel) (rs : List MachRel) → typeOf (r .bits) ≡ ARM64-RELOC-SUBTRACTOR → wellFormed r ≡ true
+  subtracted : (r : MachRel) (rs : List MachRel) → typeOf (r .bits) ≡ ARM64-RELOC-SUBTRACTOR → isDefined r ≡ true
       → Ok (less (referentOf r)) (meaningFrom contents sections (minus r) rs) (readRecords contents sections true rs)
       → Ok nothing (meaningFrom contents sections (minus r) rs) (readRecords contents sections false (r ∷ rs))
   subtracted r rs t f rest =
@@ -267,7 +267,7 @@ module _ (contents sections : List ℕ) where
 
   good-end : (p : Pending) → Good p []
   unfolding Good meaningFrom
-  good-end none = rw (read-nil contents sections false) (unfold Agree in refl)
+  good-end none = rw (read-nil contents sections false) (unfold Consistent in refl)
   good-end (minus q) = rw (read-nil contents sections true) (tolerated _ _ _ subtractor-last refl _)
   good-end (plus a) = λ t. lone a t (ltb (length contents) (a .offset)) refl
     where
@@ -325,29 +325,29 @@ module _ (contents sections : List ℕ) where
 -- ---- the claims
 
 module _ (contents sections : List ℕ) (rs : List MachRel) where
-  -- where the header defines a table and it is read, the entries say what the header says
+  -- where a table is defined and read, the entries say what it means
   pub same-meaning : (ms : List Relocation) (es : List Reloc) → meaningOf contents sections rs ≡ relocations ms
       → readRecords contents sections false rs ≡ entries es → said es ≡ ms
-  unfolding Good Agree
-  same-meaning ms es e q = subst₂ (Agree (length contents) (length sections) nothing) e q (good contents sections rs none)
+  unfolding Good Consistent
+  same-meaning ms es e q = subst₂ (Consistent (length contents) (length sections) nothing) e q (good contents sections rs none)
 
-  -- where the header defines a table, and the bytes of its relocations and the sections that they refer to are there, it is refused only where a word is
+  -- where a table is defined, and the bytes of its relocations and the sections that they refer to are there, it is refused only where a word is
   -- unfit for its record, or where a pointer of 4 bytes stands alone
-  pub refused-only : (ms : List Relocation) (x : Refusal) → meaningOf contents sections rs ≡ relocations ms → Inside (length contents) (length sections) ms
+  pub refused-only : (ms : List Relocation) (x : Refusal) → meaningOf contents sections rs ≡ relocations ms → Present (length contents) (length sections) ms
       → readRecords contents sections false rs ≡ refused x → (x ≡ Unfit) ⊎ ((x ≡ Unsupported) × (hasLonePointer32 ms ≡ true))
-  unfolding Good Agree
-  refused-only ms x e i q = subst₂ (Agree (length contents) (length sections) nothing) e q (good contents sections rs none) i
+  unfolding Good Consistent
+  refused-only ms x e i q = subst₂ (Consistent (length contents) (length sections) nothing) e q (good contents sections rs none) i
 
-  -- where a table is read that the header does not define, the reason is one of the seven
+  -- where a table is read that is not defined, the reason is one of the seven
   pub tolerated-only : (y : Reason) (es : List Reloc) → meaningOf contents sections rs ≡ undefined y → readRecords contents sections false rs ≡ entries es
       → isTolerated y ≡ true
-  unfolding Good Agree
-  tolerated-only y es e q = subst₂ (Agree (length contents) (length sections) nothing) e q (good contents sections rs none)
+  unfolding Good Consistent
+  tolerated-only y es e q = subst₂ (Consistent (length contents) (length sections) nothing) e q (good contents sections rs none)
 
 -- the second of a call: with whole records, slots and sections enough it returns entries or one of these two numbers
 pub call-refused-only : (contents records sections slots : List ℕ) (ms : List Relocation) (x : Refusal) → length records % 8 ≡ 0 → length records / 8 < 2 ^ 32
     → length sections < 2 ^ 32 → 24 * (length records / 8) ≤ length slots → meaningOf contents sections (recordsOf records) ≡ relocations ms
-    → Inside (length contents) (length sections) ms → readRelocs contents records sections slots ≡ refused x
+    → Present (length contents) (length sections) ms → readRelocs contents records sections slots ≡ refused x
     → (x ≡ Unfit) ⊎ ((x ≡ Unsupported) × (hasLonePointer32 ms ≡ true))
 call-refused-only contents records sections slots ms x w n k l e i q =
     refused-only contents sections (recordsOf records) ms x e i (sym (enough contents records sections slots w n k l) ∙ q)

@@ -1,4 +1,4 @@
--- What a turn of the header's reading comes to in each of its cases, as data to match on.
+-- What a turn of a table's meaning comes to in each of its cases, as data to match on.
 use mathlib.Core.Path.{_≡_}
 use mathlib.Core.Bool.{true, false}
 use mathlib.Core.List.{List}
@@ -10,27 +10,27 @@ use Rattle.util.proofs.Choice.{split}
 use Rattle.macho.specs.MachRel.{idxOf, p2sizeOf, typeOf}
 use Rattle.macho.specs.Types.{ARM64-RELOC-UNSIGNED, ARM64-RELOC-SUBTRACTOR, ARM64-RELOC-ADDEND}
 use Rattle.macho.specs.declared.rel.MachRel.{MachRel}
-use Rattle.arm64_reader.specs.Header.{nothing, less, wellFormed, takesAddend, referentOf, pointerOf, wordOf, Turn, stop, wait, give}
-use Rattle.arm64_reader.specs.Header.{form, subtractor-type, subtractor-place, subtractor-size, addend-form, addend-type, addend-place}
+use Rattle.arm64_reader.specs.Header.{nothing, less, isDefined, takesAddend, referentOf, pointerOf, wordOf, Turn, stop, wait, give}
+use Rattle.arm64_reader.specs.Header.{lackOf, subtractor-type, subtractor-place, subtractor-size, addend-form, addend-type, addend-place}
 use Rattle.arm64_reader.specs.Header.{minus, plus, turnAlone, turnMinus, turnPlus}
 
 -- a record that completes nothing
 pub data Alone (contents sections : List ℕ) (r : MachRel) : Turn → Type 0 where
   odd-addend : typeOf (r .bits) ≡ ARM64-RELOC-ADDEND → Alone contents sections r (stop addend-form)
   addend : typeOf (r .bits) ≡ ARM64-RELOC-ADDEND → Alone contents sections r (wait (plus r))
-  unknown : (typeOf (r .bits) ≡ ARM64-RELOC-ADDEND → ⊥) → wellFormed r ≡ false → Alone contents sections r (stop form)
-  subtractor : typeOf (r .bits) ≡ ARM64-RELOC-SUBTRACTOR → wellFormed r ≡ true → Alone contents sections r (wait (minus r))
-  pointer : typeOf (r .bits) ≡ ARM64-RELOC-UNSIGNED → wellFormed r ≡ true → Alone contents sections r (give (pointerOf contents sections r nothing))
+  unknown : (typeOf (r .bits) ≡ ARM64-RELOC-ADDEND → ⊥) → isDefined r ≡ false → Alone contents sections r (stop (lackOf r))
+  subtractor : typeOf (r .bits) ≡ ARM64-RELOC-SUBTRACTOR → isDefined r ≡ true → Alone contents sections r (wait (minus r))
+  pointer : typeOf (r .bits) ≡ ARM64-RELOC-UNSIGNED → isDefined r ≡ true → Alone contents sections r (give (pointerOf contents sections r nothing))
   word : (typeOf (r .bits) ≡ ARM64-RELOC-ADDEND → ⊥) → (typeOf (r .bits) ≡ ARM64-RELOC-SUBTRACTOR → ⊥) → (typeOf (r .bits) ≡ ARM64-RELOC-UNSIGNED → ⊥)
-      → wellFormed r ≡ true → Alone contents sections r (give (wordOf r 0))
+      → isDefined r ≡ true → Alone contents sections r (give (wordOf r 0))
 
 pub alone : (contents sections : List ℕ) (r : MachRel) → Alone contents sections r (turnAlone contents sections r)
 unfolding turnAlone
 alone contents sections r =
     split A (eqb ty ARM64-RELOC-ADDEND) _ _
-    (λ a. split A (wellFormed r) _ _ (λ _. addend (eqb-true ty ARM64-RELOC-ADDEND a)) (λ _. odd-addend (eqb-true ty ARM64-RELOC-ADDEND a)))
+    (λ a. split A (isDefined r) _ _ (λ _. addend (eqb-true ty ARM64-RELOC-ADDEND a)) (λ _. odd-addend (eqb-true ty ARM64-RELOC-ADDEND a)))
     (λ a.
-    split A (wellFormed r) _ _
+    split A (isDefined r) _ _
     (λ f.
     split A (eqb ty ARM64-RELOC-SUBTRACTOR) _ _ (λ s. subtractor (eqb-true ty ARM64-RELOC-SUBTRACTOR s) f)
     (λ s.
@@ -47,10 +47,10 @@ alone contents sections r =
 -- a record after SUBTRACTOR s
 pub data AfterMinus (contents sections : List ℕ) (s r : MachRel) : Turn → Type 0 where
   other-type : AfterMinus contents sections s r (stop subtractor-type)
-  unknown : typeOf (r .bits) ≡ ARM64-RELOC-UNSIGNED → wellFormed r ≡ false → AfterMinus contents sections s r (stop form)
+  unknown : typeOf (r .bits) ≡ ARM64-RELOC-UNSIGNED → isDefined r ≡ false → AfterMinus contents sections s r (stop (lackOf r))
   other-place : AfterMinus contents sections s r (stop subtractor-place)
   other-size : AfterMinus contents sections s r (stop subtractor-size)
-  difference : typeOf (r .bits) ≡ ARM64-RELOC-UNSIGNED → wellFormed r ≡ true → r .offset ≡ s .offset → p2sizeOf (r .bits) ≡ p2sizeOf (s .bits)
+  difference : typeOf (r .bits) ≡ ARM64-RELOC-UNSIGNED → isDefined r ≡ true → r .offset ≡ s .offset → p2sizeOf (r .bits) ≡ p2sizeOf (s .bits)
       → AfterMinus contents sections s r (give (pointerOf contents sections r (less (referentOf s))))
 
 pub after-minus : (contents sections : List ℕ) (s r : MachRel) → AfterMinus contents sections s r (turnMinus contents sections s r)
@@ -58,7 +58,7 @@ unfolding turnMinus
 after-minus contents sections s r =
     split A (eqb (typeOf (r .bits)) ARM64-RELOC-UNSIGNED) _ _
     (λ u.
-    split A (wellFormed r) _ _
+    split A (isDefined r) _ _
     (λ f.
     split A (eqb (r .offset) (s .offset)) _ _
     (λ o.
@@ -77,16 +77,16 @@ after-minus contents sections s r =
 -- a record after ADDEND a
 pub data AfterPlus (a r : MachRel) : Turn → Type 0 where
   other-type : AfterPlus a r (stop addend-type)
-  unknown : wellFormed r ≡ false → AfterPlus a r (stop form)
+  unknown : isDefined r ≡ false → AfterPlus a r (stop (lackOf r))
   other-place : AfterPlus a r (stop addend-place)
-  sum : takesAddend (typeOf (r .bits)) ≡ true → wellFormed r ≡ true → r .offset ≡ a .offset → AfterPlus a r (give (wordOf r (extend (idxOf (a .bits)) 24)))
+  sum : takesAddend (typeOf (r .bits)) ≡ true → isDefined r ≡ true → r .offset ≡ a .offset → AfterPlus a r (give (wordOf r (extend (idxOf (a .bits)) 24)))
 
 pub after-plus : (a r : MachRel) → AfterPlus a r (turnPlus a r)
 unfolding turnPlus
 after-plus a r =
     split A (takesAddend (typeOf (r .bits))) _ _
     (λ t.
-    split A (wellFormed r) _ _
+    split A (isDefined r) _ _
     (λ f. split A (eqb (r .offset) (a .offset)) _ _ (λ o. sum t f (eqb-true (r .offset) (a .offset) o)) (λ _. other-place))
     (λ f. unknown f))
     (λ _. other-type)

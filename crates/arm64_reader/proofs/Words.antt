@@ -1,4 +1,4 @@
--- The word tests of number 6 against the manual: what `is_add_either` and `LoadStore::decode` answer, form by form.
+-- The word tests of number 6 against the manual: what `is_add_either` and `LoadStore::decode` answer, instruction by instruction.
 use mathlib.Core.Path.{_≡_, refl, sym, ap, ap₂, _∙_}
 use mathlib.Core.Bool.{Bool, true, false, not, _&&_, _||_}
 use Prim.Native.Nat.{ℕ, zero, suc, _^_, _<_}

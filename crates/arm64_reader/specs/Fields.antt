@@ -63,8 +63,8 @@ abbrev pub addendIn : List ℕ → MachRel → ℕ → ℕ
 addendIn sections r held = choose (eqb (externOf (r .bits)) 1) held (diff held (getD sections (idxOf (r .bits) - 1) 0))
 
 -- the entry that starts at record i: its offset is of that record, everything else of its own
-unfoldable pub entryAt : List ℕ → List ℕ → Bool → List MachRel → ℕ → Reloc
-entryAt contents sections before rs i =
+unfoldable pub entryFrom : List ℕ → List ℕ → Bool → List MachRel → ℕ → Reloc
+entryFrom contents sections before rs i =
     let offset = recordAt rs i .offset in
     let own = recordAt rs (ownOf rs i) in
     entryOf own (subtractedAt ARM64-RELOC-SUBTRACTOR before rs (ownOf rs i)) offset (targetIn own)

@@ -1,7 +1,7 @@
--- What a table of arm64 relocation records means by Apple's headers alone: `struct relocation_info` of mach-o/reloc.h and `enum reloc_type_arm64` of
--- mach-o/arm64/reloc.h, whose comments are quoted (RULES 4.16 to 4.22).
+-- What a table of arm64 relocation records means. Apple's headers say it where they speak, and are quoted: `struct relocation_info` of mach-o/reloc.h, `enum
+-- reloc_type_arm64` of mach-o/arm64/reloc.h. Of which forms a type takes they say little: there it is what the linker applies (RULES 4.6, 4.16 to 4.22).
 use Prim.Native.Nat.{ℕ, _+_, _-_, _^_, _<_, _≤_}
-use mathlib.Core.Bool.{Bool, true, false, _&&_, _||_}
+use mathlib.Core.Bool.{Bool, true, false, not, _&&_, _||_}
 use mathlib.Core.List.{List, [], _∷_}
 use lib.ListN.{getD}
 use lib.Dec.{eqb, leb}
@@ -10,44 +10,29 @@ use Rattle.util.specs.Choice.{choose}
 use Rattle.util.specs.Word.{le}
 use Rattle.util.specs.Wrap.{diff}
 use Rattle.macho.specs.MachRel.{idxOf, pcrelOf, p2sizeOf, externOf, typeOf}
-use Rattle.macho.specs.Types.{ARM64-RELOC-UNSIGNED, ARM64-RELOC-SUBTRACTOR, ARM64-RELOC-BRANCH26, ARM64-RELOC-PAGE21, ARM64-RELOC-PAGEOFF12}
-use Rattle.macho.specs.Types.{ARM64-RELOC-GOT-LOAD-PAGE21, ARM64-RELOC-GOT-LOAD-PAGEOFF12, ARM64-RELOC-POINTER-TO-GOT}
-use Rattle.macho.specs.Types.{ARM64-RELOC-TLVP-LOAD-PAGE21, ARM64-RELOC-TLVP-LOAD-PAGEOFF12, ARM64-RELOC-ADDEND}
+use Rattle.macho.specs.Types.{ARM64-RELOC-UNSIGNED, ARM64-RELOC-SUBTRACTOR, ARM64-RELOC-PAGE21, ARM64-RELOC-PAGEOFF12, ARM64-RELOC-GOT-LOAD-PAGE21}
+use Rattle.macho.specs.Types.{ARM64-RELOC-TLVP-LOAD-PAGE21, ARM64-RELOC-ADDEND, ARM64-RELOC-AUTHENTICATED-POINTER}
 use Rattle.macho.specs.declared.rel.MachRel.{MachRel}
+use Rattle.arm64_reader.specs.Support.{supportedOf}
 
 -- ---- a record
 
--- whether a type is one of a list
-abbrev oneOf : ℕ → List ℕ → Bool
-oneOf ty [] = false
-oneOf ty (t ∷ ts) = eqb ty t || oneOf ty ts
+-- the types that are a "pc-rel distance to page of target", "of GOT slot", "of TLVP slot"
+abbrev pub isPageDistance : ℕ → Bool
+isPageDistance ty = eqb ty ARM64-RELOC-PAGE21 || (eqb ty ARM64-RELOC-GOT-LOAD-PAGE21 || eqb ty ARM64-RELOC-TLVP-LOAD-PAGE21)
 
--- "a B/BL instruction with 26-bit displacement", "pc-rel distance to page of target", "of GOT slot", "of TLVP slot", "for pointers to GOT slots"
-abbrev pub isDistance : ℕ → Bool
-isDistance ty =
-    oneOf ty (ARM64-RELOC-BRANCH26 ∷ ARM64-RELOC-PAGE21 ∷ ARM64-RELOC-GOT-LOAD-PAGE21 ∷ ARM64-RELOC-TLVP-LOAD-PAGE21 ∷ ARM64-RELOC-POINTER-TO-GOT ∷ [])
-
--- "offset within page", "of GOT slot", "of TLVP slot"
-abbrev pub isPageOffset : ℕ → Bool
-isPageOffset ty = oneOf ty (ARM64-RELOC-PAGEOFF12 ∷ ARM64-RELOC-GOT-LOAD-PAGEOFF12 ∷ ARM64-RELOC-TLVP-LOAD-PAGEOFF12 ∷ [])
-
--- the types that an ADDEND record gives its addend to: "must be followed by PAGE21 or PAGEOFF12"
+-- the types that an ADDEND record "must be followed by": "PAGE21 or PAGEOFF12"
 abbrev pub takesAddend : ℕ → Bool
-takesAddend ty = oneOf ty (ARM64-RELOC-PAGE21 ∷ ARM64-RELOC-PAGEOFF12 ∷ [])
+takesAddend ty = eqb ty ARM64-RELOC-PAGE21 || eqb ty ARM64-RELOC-PAGEOFF12
 
--- whether r_pcrel, r_length and r_extern go with a type: pointers have 4 or 8 bytes, and a subtracted one is a symbol; distances are pc-relative words,
--- page offsets stand in instruction words, both of symbols; ADDEND names nothing
-abbrev pub goTogether : ℕ → ℕ → ℕ → ℕ → Bool
-goTogether ty pcrel length extern =
-    choose (eqb ty ARM64-RELOC-UNSIGNED) (eqb pcrel 0 && leb 2 length)
-    (choose (eqb ty ARM64-RELOC-SUBTRACTOR) (eqb pcrel 0 && (leb 2 length && eqb extern 1))
-    (choose (isDistance ty) (eqb pcrel 1 && (eqb length 2 && eqb extern 1))
-    (choose (isPageOffset ty) (eqb pcrel 0 && (eqb length 2 && eqb extern 1))
-    (choose (eqb ty ARM64-RELOC-ADDEND) (eqb pcrel 0 && (eqb length 2 && eqb extern 0)) false))))
+-- whether the headers have a record: its type is of the enum, whose last one stands in newer headers only, and r_pcrel is 1 where the comment says "pc-rel".
+-- They say no more of the fields: page offsets are "scaled by r_length", and nothing ties r_length or r_extern to a type
+abbrev pub inHeader : MachRel → Bool
+inHeader r = leb (typeOf (r .bits)) ARM64-RELOC-AUTHENTICATED-POINTER && (not (isPageDistance (typeOf (r .bits))) || eqb (pcrelOf (r .bits)) 1)
 
--- whether a record's fields go with its type
-unfoldable pub wellFormed : MachRel → Bool
-wellFormed r = goTogether (typeOf (r .bits)) (pcrelOf (r .bits)) (p2sizeOf (r .bits)) (externOf (r .bits))
+-- whether it is defined: the headers have it, and the linker's table has its form (RULES 4.6); from there come size, extern and r_pcrel of the other types
+unfoldable pub isDefined : MachRel → Bool
+isDefined r = inHeader r && supportedOf r
 
 -- ---- a relocation
 
@@ -66,9 +51,9 @@ abbrev pub isNothing : Less → Bool
 isNothing nothing = true
 isNothing (less x) = false
 
--- a relocation: its type, where it stands, how many bytes it has, what it refers to, what is added (as 64 bits), what is subtracted
+-- a relocation: its type, its place as an offset, how many bytes are there, what it refers to, what is added (as 64 bits), what is subtracted
 pub record Relocation : Type 0 where
-  pub kind : ℕ
+  pub ty : ℕ
   pub place : ℕ
   pub size : ℕ
   pub target : Referent
@@ -83,7 +68,8 @@ referentOf r = choose (eqb (externOf (r .bits)) 1) (symbol (idxOf (r .bits))) (s
 abbrev pub storedAt : List ℕ → ℕ → ℕ → ℕ
 storedAt contents place p2size = choose (eqb p2size 2) (extend (le 4 contents place) 32) (le 8 contents place)
 
--- what a pointer adds: what stands in its bytes; of a section that is an address, of which the section's own is no part
+-- what a pointer adds: what stands in its bytes; with r_extern that "does not include value of sym referenced", without it is an address, and the section's
+-- own is taken off
 abbrev pub addedBy : List ℕ → List ℕ → MachRel → ℕ
 addedBy contents sections r =
     let stored = storedAt contents (r .offset) (p2sizeOf (r .bits)) in
@@ -93,7 +79,7 @@ addedBy contents sections r =
 abbrev pub pointerOf : List ℕ → List ℕ → MachRel → Less → Relocation
 pointerOf contents sections r minus =
     record {
-      kind = typeOf (r .bits);
+      ty = typeOf (r .bits);
       place = r .offset;
       size = 2 ^ p2sizeOf (r .bits);
       target = referentOf r;
@@ -104,16 +90,24 @@ pointerOf contents sections r minus =
 -- what a record on an instruction says, with an addend
 abbrev pub wordOf : MachRel → ℕ → Relocation
 wordOf r addend =
-    record { kind = typeOf (r .bits); place = r .offset; size = 2 ^ p2sizeOf (r .bits); target = referentOf r; addend = addend; minus = nothing }
+    record { ty = typeOf (r .bits); place = r .offset; size = 2 ^ p2sizeOf (r .bits); target = referentOf r; addend = addend; minus = nothing }
 
 -- ---- a table
 
--- why the headers do not define a table: a type or form they do not have; SUBTRACTOR ("must be followed by a ARM64_RELOC_UNSIGNED") with no record
--- after it, with one of another type, place or size; ADDEND with other fields than its own, with no record after it, with one of another type or place
+-- why a table is not defined
 pub data Reason : Type 0 where
-  form : Reason
+  -- the headers do not have the record
+  not-in-header : Reason
+  -- they have it, and the linker does not apply its type or form
+  not-applied : Reason
+  -- SUBTRACTOR "must be followed by a ARM64_RELOC_UNSIGNED": no record follows, or one of another type; the pair is one relocation, and has one place and size
   subtractor-last subtractor-type subtractor-place subtractor-size : Reason
+  -- ADDEND "must be followed by PAGE21 or PAGEOFF12": the same, without size; its form is not that of the linker's table
   addend-form addend-last addend-type addend-place : Reason
+
+-- which of the first two
+abbrev pub lackOf : MachRel → Reason
+lackOf r = choose (inHeader r) not-applied not-in-header
 
 -- what the record before leaves to be completed: nothing, a difference, an addend
 pub data Pending : Type 0 where
@@ -130,28 +124,28 @@ pub data Turn : Type 0 where
 -- a record that completes nothing
 unfoldable pub turnAlone : List ℕ → List ℕ → MachRel → Turn
 turnAlone contents sections r =
-    choose (eqb (typeOf (r .bits)) ARM64-RELOC-ADDEND) (choose (wellFormed r) (wait (plus r)) (stop addend-form))
-    (choose (wellFormed r)
+    choose (eqb (typeOf (r .bits)) ARM64-RELOC-ADDEND) (choose (isDefined r) (wait (plus r)) (stop addend-form))
+    (choose (isDefined r)
     (choose (eqb (typeOf (r .bits)) ARM64-RELOC-SUBTRACTOR) (wait (minus r))
     (give (choose (eqb (typeOf (r .bits)) ARM64-RELOC-UNSIGNED) (pointerOf contents sections r nothing) (wordOf r 0))))
-    (stop form))
+    (stop (lackOf r)))
 
 -- a record after SUBTRACTOR s
 unfoldable pub turnMinus : List ℕ → List ℕ → MachRel → MachRel → Turn
 turnMinus contents sections s r =
     choose (eqb (typeOf (r .bits)) ARM64-RELOC-UNSIGNED)
-    (choose (wellFormed r)
+    (choose (isDefined r)
     (choose (eqb (r .offset) (s .offset))
     (choose (eqb (p2sizeOf (r .bits)) (p2sizeOf (s .bits))) (give (pointerOf contents sections r (less (referentOf s)))) (stop subtractor-size))
     (stop subtractor-place))
-    (stop form))
+    (stop (lackOf r)))
     (stop subtractor-type)
 
--- a record after ADDEND a, whose index is the signed addend
+-- a record after ADDEND a: the linker takes the addend from r_symbolnum, as signed (RULES 4.4); the headers do not say where it stands
 unfoldable pub turnPlus : MachRel → MachRel → Turn
 turnPlus a r =
     choose (takesAddend (typeOf (r .bits)))
-    (choose (wellFormed r) (choose (eqb (r .offset) (a .offset)) (give (wordOf r (extend (idxOf (a .bits)) 24))) (stop addend-place)) (stop form))
+    (choose (isDefined r) (choose (eqb (r .offset) (a .offset)) (give (wordOf r (extend (idxOf (a .bits)) 24))) (stop addend-place)) (stop (lackOf r)))
     (stop addend-type)
 
 -- what a record says by what the one before it left pending
@@ -199,22 +193,23 @@ Known sections (symbol n) = Unit {0}
 Known sections (section k) = (0 < k) × (k ≤ sections)
 
 -- the bytes of each relocation lie in the section, and each section that one refers to is there
-abbrev pub Inside : ℕ → ℕ → List Relocation → Type 0
-Inside size sections [] = Unit {0}
-Inside size sections (m ∷ ms) = ((m .place + m .size ≤ size) × Known sections (m .target)) × Inside size sections ms
+abbrev pub Present : ℕ → ℕ → List Relocation → Type 0
+Present size sections [] = Unit {0}
+Present size sections (m ∷ ms) = ((m .place + m .size ≤ size) × Known sections (m .target)) × Present size sections ms
 
 -- a pointer of 4 bytes of which nothing is subtracted
 abbrev pub isLonePointer32 : Relocation → Bool
-isLonePointer32 m = eqb (m .kind) ARM64-RELOC-UNSIGNED && (eqb (m .size) 4 && isNothing (m .minus))
+isLonePointer32 m = eqb (m .ty) ARM64-RELOC-UNSIGNED && (eqb (m .size) 4 && isNothing (m .minus))
 
 -- whether there is one
 abbrev pub hasLonePointer32 : List Relocation → Bool
 hasLonePointer32 [] = false
 hasLonePointer32 (m ∷ ms) = isLonePointer32 m || hasLonePointer32 ms
 
--- the reasons in spite of which a table can be read: each but a type or form that the headers do not have, and an ADDEND record with none after it
+-- the reasons in spite of which a table can be read: each but a record that is not in the headers or not applied, and an ADDEND record with none after it
 abbrev pub isTolerated : Reason → Bool
-isTolerated form = false
+isTolerated not-in-header = false
+isTolerated not-applied = false
 isTolerated subtractor-last = true
 isTolerated subtractor-type = true
 isTolerated subtractor-place = true

@@ -14,7 +14,7 @@ namedBy target = choose (isSection target) (section (target - targetSection + 1)
 
 -- an entry as a relocation
 abbrev pub sayOne : Less → Reloc → Relocation
-sayOne m e = record { kind = e .ty; place = e .offset; size = e .size; target = namedBy (e .target); addend = e .addend; minus = m }
+sayOne m e = record { ty = e .ty; place = e .offset; size = e .size; target = namedBy (e .target); addend = e .addend; minus = m }
 
 -- a SUBTRACTOR entry is what is subtracted in the entry after it
 abbrev pub saidFrom : Less → List Reloc → List Relocation

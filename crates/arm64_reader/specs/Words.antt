@@ -1,4 +1,4 @@
--- The words that a page offset may stand on, as forms of the Arm manual (C6.2; RULES 4.8).
+-- The words that a page offset may stand on, as instructions of the Arm manual (C6.2; RULES 4.8).
 use Prim.Native.Nat.{ℕ}
 use mathlib.Core.Bool.{Bool, false}
 use lib.Dec.{eqb}
@@ -6,7 +6,7 @@ use Rattle.util.specs.Choice.{choose}
 use Rattle.arm64_insn.specs.LoadStoreTable.{rowOf, movedBy, isStore}
 use Rattle.arm64_insn.specs.Manual as M
 
--- whether a form is ADD (immediate), of either width, whose immediate is not shifted
+-- whether an instruction is ADD (immediate), of either width, whose immediate is not shifted
 abbrev pub isUnshiftedAdd : M.Decoded → Bool
 isUnshiftedAdd M.none = false
 isUnshiftedAdd (M.instruction (M.ADR rd imm21)) = false
@@ -21,7 +21,7 @@ isUnshiftedAdd (M.instruction (M.BR rn)) = false
 isUnshiftedAdd (M.instruction M.NOP) = false
 isUnshiftedAdd (M.instruction (M.MOVZ sf hw rd imm16)) = false
 
--- the bytes that a form loads by a register and an unsigned immediate, 0 where it is no such load
+-- the bytes that an instruction loads by a register and an unsigned immediate, 0 where it is no such load
 abbrev pub loadedBy : M.Decoded → ℕ
 loadedBy M.none = 0
 loadedBy (M.instruction (M.ADR rd imm21)) = 0
