@@ -11,10 +11,10 @@ use Rattle.arm64_insn.specs.Manual.{imm12In, imm21In, imm26In}
 use Rattle.arm64_insn.specs.Reach.{pageImm, pageOffset}
 use Rattle.arm64_insn.specs.Branch.{branchWord}
 use Rattle.arm64_insn.specs.Fix.{adrpWith, scaleOf}
-use Rattle.arm64_fixup_entry.specs.Target.{placeOf}
+use Rattle.arm64_fixup_entry.specs.Target.{addressOf}
 use Rattle.arm64_fixup_entry.specs.Change.{displacement, dtraceSiteInsn}
 use Rattle.arm64_fixup_entry.specs.Roles.{Page, Offset}
-use Rattle.arm64_fixup.specs.Walk.{entryAt, targetAt, Fixed}
+use Rattle.arm64_fixup.specs.Walk.{lentEntry, lentTarget, Fixed}
 use Rattle.arm64_fixup.specs.Footprint.{Lone, wordAt}
 use Rattle.arm64_fixup_entry.specs.declared.target.Bases.{Bases}
 use Rattle.arm64_fixup_entry.specs.declared.change.Traced.the-variants.{Untraced}
@@ -66,15 +66,15 @@ branch-word-bits x d =
 
 module _ {section : List ℕ} {b : Bases} {entries targets slots : List ℕ} {f : Fixed} {k : ℕ} (l : Lone section b entries targets slots f k) where
   -- a page: bit 31, bits 28..24 and bits 4..0 stay, bits 30..29 and 23..5 are the immediate
-  pub page-bits : {target : ℕ} → Page (entryAt entries k) (targetAt targets k) target
+  pub page-bits : {target : ℕ} → Page (lentEntry entries k) (lentTarget targets k) target
       → (field (wordAt entries (f .section) k) 31 1 ≡ field (wordAt entries section k) 31 1)
       × (field (wordAt entries (f .section) k) 24 5 ≡ field (wordAt entries section k) 24 5)
       × (field (wordAt entries (f .section) k) 0 5 ≡ field (wordAt entries section k) 0 5)
-      × (imm21In (wordAt entries (f .section) k) ≡ pageImm target (placeOf b (entryAt entries k)))
-  page-bits {target} r = rw (page-word l r) (adrp-with-bits (wordAt entries section k) target (placeOf b (entryAt entries k)))
+      × (imm21In (wordAt entries (f .section) k) ≡ pageImm target (addressOf b (lentEntry entries k)))
+  page-bits {target} r = rw (page-word l r) (adrp-with-bits (wordAt entries section k) target (addressOf b (lentEntry entries k)))
 
   -- a page offset that is a multiple of the word's scale: bits 31..22 and 9..0 stay, bits 21..10 are the offset in that scale
-  pub offset-bits : {target : ℕ} → Offset (entryAt entries k) (targetAt targets k) target → target % 2 ^ scaleOf (wordAt entries section k) ≡ 0
+  pub offset-bits : {target : ℕ} → Offset (lentEntry entries k) (lentTarget targets k) target → target % 2 ^ scaleOf (wordAt entries section k) ≡ 0
       → (field (wordAt entries (f .section) k) 22 10 ≡ field (wordAt entries section k) 22 10)
       × (imm12In (wordAt entries (f .section) k) ≡ target % 2 ^ 12 / 2 ^ scaleOf (wordAt entries section k))
       × (field (wordAt entries (f .section) k) 0 10 ≡ field (wordAt entries section k) 0 10)
@@ -85,9 +85,9 @@ module _ {section : List ℕ} {b : Bases} {entries targets slots : List ℕ} {f 
       (omega arith) (omega arith) (omega arith))
 
   -- a branch at no tracing site: bits 31..26 stay, bits 25..0 are the displacement in words
-  pub branch-bits : entryAt entries k .ty ≡ ARM64-RELOC-BRANCH26 → dtraceSiteInsn (entryAt entries k) (targetAt targets k) ≡ Untraced
+  pub branch-bits : lentEntry entries k .ty ≡ ARM64-RELOC-BRANCH26 → dtraceSiteInsn (lentEntry entries k) (lentTarget targets k) ≡ Untraced
       → (field (wordAt entries (f .section) k) 26 6 ≡ field (wordAt entries section k) 26 6)
-      × (imm26In (wordAt entries (f .section) k) ≡ field (displacement (entryAt entries k) (targetAt targets k) (placeOf b (entryAt entries k))) 2 26)
+      × (imm26In (wordAt entries (f .section) k) ≡ field (displacement (lentEntry entries k) (lentTarget targets k) (addressOf b (lentEntry entries k))) 2 26)
   branch-bits ty plain =
       rw (branch-word l ty plain)
-      (branch-word-bits (wordAt entries section k) (displacement (entryAt entries k) (targetAt targets k) (placeOf b (entryAt entries k))))
+      (branch-word-bits (wordAt entries section k) (displacement (lentEntry entries k) (lentTarget targets k) (addressOf b (lentEntry entries k))))

@@ -16,7 +16,7 @@ use Rattle.macho.specs.declared.reloc.Reloc.{Reloc}
 use Rattle.macho.specs.declared.resolved.Resolved.{Resolved}
 use Rattle.arm64_fixup_entry.specs.Target.{widthOf}
 use Rattle.arm64_fixup_entry.specs.Change.{bytesIn, silent, changeOf}
-use Rattle.arm64_fixup.specs.Walk.{entryAt, targetAt, entryCount, consumed, checkTo, stored, Fixed, changeAt, workAt, fixTo}
+use Rattle.arm64_fixup.specs.Walk.{lentEntry, lentTarget, entryCount, consumed, checkTo, stored, Fixed, changeAt, workAt, fixTo}
 use Rattle.arm64_fixup.specs.Footprint.{offsetAt, widthAt, Touches, writtenAt, Writes}
 use Rattle.arm64_fixup_entry.specs.declared.target.Bases.{Bases}
 use Rattle.macho.specs.declared.refusal.Check.the-variants.{Fit}
@@ -66,7 +66,7 @@ stored-agree s t at (Pointer v) p l m h = put-agree 8 s t at v p l m h
 
 -- the width of an entry that is worked
 pub worked-width : (entries targets : List ℕ) (i : ℕ) → consumed entries i ≡ false
-    → widthAt entries targets i ≡ widthOf (entryAt entries i) (targetAt targets i)
+    → widthAt entries targets i ≡ widthOf (lentEntry entries i) (lentTarget targets i)
 unfolding widthAt
 worked-width entries targets i e = choose-false (consumed entries i) 0 _ e
 
@@ -121,7 +121,7 @@ module _ (section : List ℕ) (b : Bases) (entries targets : List ℕ) where
       go true e = rw (taken-writes i e) zero-le
       go false e =
           rw (worked-writes i e, worked-width entries targets i e)
-          (change-fits b i (entryAt entries i) (targetAt targets i) (entryAt entries (i + 1)) (targetAt targets (i + 1))
+          (change-fits b i (lentEntry entries i) (lentTarget targets i) (lentEntry entries (i + 1)) (lentTarget targets (i + 1))
           (le 4 (fixTo b entries targets section i .section) (offsetAt entries i)))
 
 -- a byte of a footprint is one of an entry that is worked
@@ -129,7 +129,7 @@ pub touched-worked : (entries targets : List ℕ) (i : ℕ) → 0 < widthAt entr
 unfolding widthAt choose
 touched-worked entries targets i = go (consumed entries i)
   where
-    go : (t : Bool) → 0 < choose t 0 (widthOf (entryAt entries i) (targetAt targets i)) → t ≡ false
+    go : (t : Bool) → 0 < choose t 0 (widthOf (lentEntry entries i) (lentTarget targets i)) → t ≡ false
     go true h = absurd (omega arith)
     go false h = refl
 
@@ -142,14 +142,14 @@ does-nothing b i e t next nextTarget word h = choose-true (eqb (widthOf e t) 0) 
 -- what an entry does depends on the bytes of its footprint alone
 pub reads-touch : (b : Bases) (entries targets : List ℕ) (i : ℕ) (s s′ : List ℕ) → consumed entries i ≡ false
     → ((p : ℕ) → Touches entries targets i p → getD s p 0 ≡ getD s′ p 0) → changeAt b entries targets s i ≡ changeAt b entries targets s′ i
-reads-touch b entries targets i s s′ free same = go (eqb (widthOf (entryAt entries i) (targetAt targets i)) 0) refl
+reads-touch b entries targets i s s′ free same = go (eqb (widthOf (lentEntry entries i) (lentTarget targets i)) 0) refl
   where
-    go : (z : Bool) → eqb (widthOf (entryAt entries i) (targetAt targets i)) 0 ≡ z → changeAt b entries targets s i ≡ changeAt b entries targets s′ i
+    go : (z : Bool) → eqb (widthOf (lentEntry entries i) (lentTarget targets i)) 0 ≡ z → changeAt b entries targets s i ≡ changeAt b entries targets s′ i
     go true h = does-nothing b i _ _ _ _ _ h ∙ sym (does-nothing b i _ _ _ _ _ h)
     go false h =
-        let n = wide (entryAt entries i) (targetAt targets i) h in
+        let n = wide (lentEntry entries i) (lentTarget targets i) h in
         let m = worked-width entries targets i free in
-        ap (λ (w : ℕ). changeOf b i (entryAt entries i) (targetAt targets i) (entryAt entries (i + 1)) (targetAt targets (i + 1)) w)
+        ap (λ (w : ℕ). changeOf b i (lentEntry entries i) (lentTarget targets i) (lentEntry entries (i + 1)) (lentTarget targets (i + 1)) w)
         (le-ext 4 s s′ (offsetAt entries i) (offsetAt entries i) (λ j l. same (offsetAt entries i + j) (omega arith, omega arith)))
 
 -- ---- an entry whose bytes no other writes
@@ -176,7 +176,7 @@ module _ (section : List ℕ) (b : Bases) (entries targets : List ℕ) (k : ℕ)
 
       has-room : offsetAt entries k + bytesIn (changeAt b entries targets section k .write) ≤ length section
       has-room =
-          room (length section) b k (entryAt entries k) (targetAt targets k) _ _ _ _
+          room (length section) b k (lentEntry entries k) (lentTarget targets k) _ _ _ _
           (fit-at b entries targets section k free fit below refl refl refl) refl
 
       pub only-it : (p : ℕ) → Touches entries targets k p → ((j : ℕ) → k < j → j < entryCount entries → Writes section b entries targets j p → ⊥)

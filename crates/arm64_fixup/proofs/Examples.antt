@@ -8,19 +8,24 @@ use lib.Dec.{lit<}
 use Rattle.util.specs.Choice.{choose}
 use Rattle.util.specs.Word.{le, put, bytes}
 use Rattle.util.specs.Wrap.{inRange}
-use Rattle.macho.specs.Types.{ARM64-RELOC-UNSIGNED, ARM64-RELOC-SUBTRACTOR, ARM64-RELOC-BRANCH26, ARM64-RELOC-PAGEOFF12}
+use Rattle.macho.specs.Types.{ARM64-RELOC-UNSIGNED, ARM64-RELOC-SUBTRACTOR, ARM64-RELOC-BRANCH26, ARM64-RELOC-PAGE21, ARM64-RELOC-PAGEOFF12}
 use Rattle.macho.specs.Types.{ARM64-RELOC-GOT-LOAD-PAGEOFF12, ARM64-RELOC-POINTER-TO-GOT, ARM64-RELOC-ADDEND}
 use Rattle.macho.specs.Refusal.{answerNumber}
 use Rattle.macho.specs.Record.{bytesOf}
 use Rattle.macho.specs.Reloc.{relocAt, relocBytes}
 use Rattle.macho.specs.Resolved.{resolvedAt, resolvedBytes, wellFormed}
 use Rattle.arm64_insn.specs.Branch.{branchReaches, branchWord}
-use Rattle.arm64_insn.specs.Fix.{scaleOf, offsetWith, relaxedWord}
+use Rattle.arm64_insn.specs.Fix.{adrpWith, scaleOf, offsetWith, relaxedWord}
+use Rattle.arm64_insn.specs.Page.{pageOf}
+use Rattle.arm64_insn.specs.Reach.{pageImm, pageOffset, adrpReaches}
+use Rattle.arm64_insn.specs.Manual.{ADRP, ADD, instruction, decode}
 use Rattle.arm64_fixup_entry.specs.Target.{targetOf, widthOf}
 use Rattle.arm64_fixup_entry.specs.Check.{checkOf}
-use Rattle.arm64_fixup_entry.specs.Change.{branchTarget, dtraceSiteInsn, branch, pageoff12, relaxed, gotPageoff12, wordChange, changeOf}
-use Rattle.arm64_fixup.specs.Walk.{consumed, checkAt, checkTo, Fixed, workAt, fixTo}
-use Rattle.arm64_fixup.specs.Footprint.{writtenAt, Writes, Lone}
+use Rattle.arm64_fixup_entry.specs.Change.{branchTarget, dtraceSiteInsn, branch, page21, pageoff12, relaxed, gotPageoff12, wordChange, changeOf}
+use Rattle.arm64_fixup_entry.specs.Roles as Roles
+use Rattle.arm64_fixup_entry.specs.Roles.{Page, Offset}
+use Rattle.arm64_fixup.specs.Walk.{lentEntry, lentTarget, consumed, checkAt, checkTo, Fixed, workAt, fixTo}
+use Rattle.arm64_fixup.specs.Footprint.{widthAt, Touches, writtenAt, Writes, Lone, wordAt}
 use Rattle.arm64_fixup.specs.Answer.{checkLists, basesOf, Outcome, fixed, outcomeOf, answerOf}
 
 -- an entry of a type, at an offset, with its target field; the other fields are zeros
@@ -116,3 +121,50 @@ second-lone =
     first-writes-nothing zero p l ne w = absurd (omega arith)
     first-writes-nothing (suc zero) p l ne w = ne refl
     first-writes-nothing (suc (suc i)) p l ne w = absurd (omega arith)
+
+-- PAGE21 on "adrp x0, 0" and PAGEOFF12 on "add x0, x0, #0" after it, at 0x1000, both to 0x5678
+abbrev pub pairWords : List ℕ
+pairWords = bytes 4 0x90000000 ++ bytes 4 0x91000000
+
+abbrev pub pairEntries : List ℕ
+pairEntries = entry ARM64-RELOC-PAGE21 0 0 ++ entry ARM64-RELOC-PAGEOFF12 4 0
+
+abbrev pub pairTargets : List ℕ
+pairTargets = resolved 0x5678 4 ++ resolved 0x5678 4
+
+abbrev pub pairFixed : Fixed
+pairFixed = record { section = bytes 4 0x90000020 ++ bytes 4 0x9119e000; reports = [] }
+
+accepts-pair : outcomeOf pairWords (basesOf 0x1000 0) pairEntries pairTargets (bytes 48 0) ≡ fixed pairFixed
+unfolding relocBytes resolvedBytes bytesOf bytes outcomeOf checkLists checkTo checkAt checkOf consumed relocAt resolvedAt le wellFormed
+    widthOf fixTo workAt changeOf wordChange page21 adrpReaches pageOf pageImm pageOffset inRange adrpWith pageoff12 targetOf offsetWith scaleOf put choose
+accepts-pair = refl
+
+apart : (k i p : ℕ) → k < 2 → i < 2 → (i ≡ k → ⊥) → Touches pairEntries pairTargets k p
+    → Writes pairWords (basesOf 0x1000 0) pairEntries pairTargets i p → ⊥
+unfolding relocBytes resolvedBytes bytesOf bytes consumed relocAt resolvedAt le
+    widthOf widthAt fixTo workAt changeOf wordChange page21 adrpReaches pageOf pageImm pageOffset inRange adrpWith pageoff12 targetOf offsetWith scaleOf put choose writtenAt
+apart zero zero p l m ne t w = ne refl
+apart zero (suc zero) p l m ne t w = absurd (omega arith)
+apart (suc zero) zero p l m ne t w = absurd (omega arith)
+apart (suc zero) (suc zero) p l m ne t w = ne refl
+apart (suc (suc k)) i p l m ne t w = absurd (omega arith)
+apart zero (suc (suc i)) p l m ne t w = absurd (omega arith)
+apart (suc zero) (suc (suc i)) p l m ne t w = absurd (omega arith)
+
+-- both stand alone
+pub both-lone : Lone pairWords (basesOf 0x1000 0) pairEntries pairTargets (bytes 48 0) pairFixed 0
+    × Lone pairWords (basesOf 0x1000 0) pairEntries pairTargets (bytes 48 0) pairFixed 1
+unfolding relocBytes bytesOf bytes consumed relocAt le
+both-lone = (
+  record { accepted = accepts-pair; listed = lit< tt; worked = refl; alone = λ i p l ne t w. apart 0 i p (lit< tt) l ne t w },
+  record { accepted = accepts-pair; listed = lit< tt; worked = refl; alone = λ i p l ne t w. apart 1 i p (lit< tt) l ne t w },
+)
+
+-- what the entries are, and their words
+pub both-roles : Page (lentEntry pairEntries 0) (lentTarget pairTargets 0) 0x5678
+    × Offset (lentEntry pairEntries 1) (lentTarget pairTargets 1) 0x5678
+    × (decode (wordAt pairEntries pairWords 0) ≡ instruction (ADRP 0 0))
+    × (decode (wordAt pairEntries pairWords 1) ≡ instruction (ADD 1 0 0 0 0))
+unfolding relocBytes resolvedBytes bytesOf bytes relocAt resolvedAt le targetOf decode choose
+both-roles = (Roles.page refl refl, Roles.offset refl refl, refl, refl)

@@ -1,56 +1,35 @@
--- What is ignored changes nothing: an entry's spare bytes and its pc-relative and subtracted marks, and of an entry that a SUBTRACTOR
+-- What is ignored changes nothing: of an entry and its target what `seen` and `SameUse` leave out, and of an entry that a SUBTRACTOR
 -- consumes everything but its addend and its target's address. Lists that agree in the rest have the same outcome.
-use mathlib.Core.Path.{_≡_, refl, sym, ap, ap₂, _∙_}
+use mathlib.Core.Path.{_≡_, refl, sym, ap, ap₂, _∙_, subst}
 use mathlib.Core.Bool.{Bool, true, false, true≢false, _&&_, not}
 use mathlib.Core.List.{List}
 use mathlib.Core.Logic.{_⊎_, inl, inr, ⊎-elim}
 use Prim.Native.Nat.{ℕ, zero, suc, _+_, _*_, _/_, _≤_, _<_}
 use native.Mathlib.Omega.{arith}
 use native.Mathlib.Nat.{eq-or-lt-of-le, mul-suc, mul-le-mul-left}
-use borrow.Author.Tests.{ltb-true, ltb-false}
+use borrow.Author.Tests.{ltb-true, ltb-false, eqb-true, eqb-false, ne-eqb}
 use lib.Dec.{eqb, ltb, lit≤}
 use lib.ListN.{length, set, length-set}
 use Rattle.util.specs.Choice.{choose}
 use Rattle.util.specs.Word.{le}
 use Rattle.util.proofs.Word.{le-set}
-use Rattle.macho.specs.Reloc.{relocAt}
-use Rattle.macho.specs.Resolved.{resolvedAt}
+use Rattle.macho.specs.Types.{ARM64-RELOC-SUBTRACTOR}
+use Rattle.macho.specs.Reloc.{relocAt, isSection}
+use Rattle.macho.specs.Resolved.{resolvedAt, wellFormed}
 use Rattle.macho.specs.declared.reloc.Reloc.{Reloc}
 use Rattle.macho.specs.declared.resolved.Resolved.{Resolved}
-use Rattle.arm64_fixup_entry.specs.Target.{targetOf, slotOf, gotTarget, widthOf}
 use Rattle.arm64_fixup_entry.specs.Check.{subtracts, checkOf}
-use Rattle.arm64_fixup_entry.specs.Change.{unsignedValue, subtractorValue, difference, dtraceSiteInsn, branchTarget, thunkServes, branch, gotPage21}
-use Rattle.arm64_fixup_entry.specs.Change.{gotPageoff12, pointerToGot, wordChange, changeOf}
-use Rattle.arm64_fixup.specs.Walk.{entryAt, targetAt, entryCount, consumed, checkAt, first, checkTo, Fixed, changeAt, applied, workAt, fixTo}
+use Rattle.arm64_fixup_entry.specs.Change.{changeOf}
+use Rattle.arm64_fixup_entry.specs.Seen.{seen, SameUse, equal}
+use Rattle.arm64_fixup.specs.Walk.{lentEntry, lentTarget, entryCount, consumed, checkAt, first, checkTo, Fixed, changeAt, applied, workAt, fixTo}
 use Rattle.arm64_fixup.specs.Answer.{checkLists, after, fixed, outcomeOf}
 use Rattle.arm64_fixup_entry.specs.declared.target.Bases.{Bases}
 use Rattle.macho.specs.declared.refusal.Check.{Check}
 use Rattle.macho.specs.declared.refusal.Check.the-variants.{Fit, Refused}
 use Rattle.arm64_fixup_entry.specs.declared.change.Change.{Change}
 use Rattle.arm64_fixup_entry.proofs.Sound.{followed}
-use Rattle.arm64_fixup.proofs.Turns.{and-false, check-taken, check-worked, passes, work-worked, work-taken}
-
--- an entry with zeros for its spare bytes and marks
-abbrev pub seen : Reloc → Reloc
-seen e =
-    record { offset = e .offset; ty = e .ty; size = e .size; «is_pcrel» = 0; «is_subtracted» = 0; target = e .target; spare = 0; addend = e .addend }
-
-check-seen : (len : ℕ) (b : Bases) (e : Reloc) (t : Resolved) (last : Bool) → checkOf len b (seen e) t last ≡ checkOf len b e t last
-unfolding checkOf widthOf
-check-seen len b e t last = refl
-
--- what the work of an entry takes of the next one and its target
-abbrev addendOf : ℕ → Reloc
-addendOf a = record { offset = 0; ty = 0; size = 0; «is_pcrel» = 0; «is_subtracted» = 0; target = 0; spare = 0; addend = a }
-
-abbrev addressOf : ℕ → Resolved
-addressOf s = record { addr = s; got = 0; branch = 0; thunk = 0; helper = 0; flags = 0; zero = 0 }
-
-change-seen : (b : Bases) (i : ℕ) (e : Reloc) (t : Resolved) (next : Reloc) (nextTarget : Resolved) (word : ℕ)
-    → changeOf b i (seen e) t (addendOf (next .addend)) (addressOf (nextTarget .addr)) word ≡ changeOf b i e t next nextTarget word
-unfolding changeOf widthOf unsignedValue subtractorValue difference targetOf slotOf gotTarget wordChange
-    dtraceSiteInsn branchTarget thunkServes branch gotPage21 gotPageoff12 pointerToGot
-change-seen b i e t next nextTarget word = refl
+use Rattle.arm64_fixup_entry.proofs.Seen.{check-seen, ofAddend, ofAddress, change-seen, check-same, change-same}
+use Rattle.arm64_fixup.proofs.Turns.{and-false, pair, check-taken, check-worked, passes, work-worked, work-taken}
 
 -- only a SUBTRACTOR takes anything of them
 indifferent : (b : Bases) (i : ℕ) (e : Reloc) (t : Resolved) (n₁ n₂ : Reloc) (t₁ t₂ : Resolved) (word : ℕ) → subtracts (e .ty) ≡ false
@@ -58,23 +37,25 @@ indifferent : (b : Bases) (i : ℕ) (e : Reloc) (t : Resolved) (n₁ n₂ : Relo
 unfolding changeOf choose
 indifferent b i e t n₁ n₂ t₁ t₂ word s = rw s
 
--- lists that agree in what is not ignored
-pub record Agree (entries entries′ targets targets′ : List ℕ) : Type 0 where
+-- lists that agree in what is looked at
+pub record AlikeLists (entries entries′ targets targets′ : List ℕ) : Type 0 where
   pub length-entries : length entries ≡ length entries′
   pub length-targets : length targets ≡ length targets′
   pub worked : (i : ℕ) → i < entryCount entries → consumed entries i ≡ false
-      → (seen (entryAt entries i) ≡ seen (entryAt entries′ i)) × (targetAt targets i ≡ targetAt targets′ i)
+      → (seen (lentEntry entries i) ≡ seen (lentEntry entries′ i))
+      × (wellFormed (lentTarget targets i) ≡ wellFormed (lentTarget targets′ i))
+      × SameUse (lentEntry entries i) (lentTarget targets i) (lentTarget targets′ i)
   pub taken : (i : ℕ) → i < entryCount entries → consumed entries i ≡ true
-      → (entryAt entries i .addend ≡ entryAt entries′ i .addend) × (targetAt targets i .addr ≡ targetAt targets′ i .addr)
+      → (lentEntry entries i .addend ≡ lentEntry entries′ i .addend) × (lentTarget targets i .addr ≡ lentTarget targets′ i .addr)
 
-module _ (b : Bases) (entries entries′ targets targets′ : List ℕ) (agree : Agree entries entries′ targets targets′) where
+module _ (b : Bases) (entries entries′ targets targets′ : List ℕ) (alike : AlikeLists entries entries′ targets targets′) where
   same-count : entryCount entries ≡ entryCount entries′
-  same-count = ap (λ (n : ℕ). n / 24) (agree .length-entries)
+  same-count = ap (λ (n : ℕ). n / 24) (alike .length-entries)
 
   consumed-next : (i : ℕ) → i < entryCount entries → consumed entries i ≡ consumed entries′ i → (t : Bool) → consumed entries i ≡ t
-      → (subtracts (entryAt entries i .ty) && not (consumed entries i)) ≡ (subtracts (entryAt entries′ i .ty) && not (consumed entries′ i))
-  consumed-next i l h true e = rw (sym h ∙ e, e) (and-false (subtracts (entryAt entries i .ty)) ∙ sym (and-false (subtracts (entryAt entries′ i .ty))))
-  consumed-next i l h false e = ap₂ (λ (x y : Bool). x && not y) (ap (λ (r : Reloc). subtracts (r .ty)) (agree .worked i l e .0)) h
+      → (subtracts (lentEntry entries i .ty) && not (consumed entries i)) ≡ (subtracts (lentEntry entries′ i .ty) && not (consumed entries′ i))
+  consumed-next i l h true e = rw (sym h ∙ e, e) (and-false (subtracts (lentEntry entries i .ty)) ∙ sym (and-false (subtracts (lentEntry entries′ i .ty))))
+  consumed-next i l h false e = ap₂ (λ (x y : Bool). x && not y) (ap (λ (r : Reloc). subtracts (r .ty)) (alike .worked i l e .0)) h
 
   same-consumed : (i : ℕ) → i ≤ entryCount entries → consumed entries i ≡ consumed entries′ i
   unfolding consumed
@@ -86,12 +67,12 @@ module _ (b : Bases) (entries entries′ targets targets′ : List ℕ) (agree :
       → checkAt len b entries targets i ≡ checkAt len b entries′ targets′ i
   same-check-at len i l true e = check-taken len b entries targets i e ∙ sym (check-taken len b entries′ targets′ i (sym (same-consumed i (omega arith)) ∙ e))
   same-check-at len i l false e =
-      let a = agree .worked i l e in
+      let a = alike .worked i l e in
       check-worked len b entries targets i e
+      ∙ check-same len b (lentEntry entries i) (lentTarget targets i) (lentTarget targets′ i) _ (a .1) (a .2)
       ∙ sym (check-seen len b _ _ _)
-      ∙ ap (λ (r : Reloc). checkOf len b r (targetAt targets i) (eqb (i + 1) (entryCount entries))) (a .0)
-      ∙ ap (λ (t : Resolved). checkOf len b (seen (entryAt entries′ i)) t (eqb (i + 1) (entryCount entries))) (a .1)
-      ∙ ap (λ (n : ℕ). checkOf len b (seen (entryAt entries′ i)) (targetAt targets′ i) (eqb (i + 1) n)) same-count
+      ∙ ap (λ (r : Reloc). checkOf len b r (lentTarget targets′ i) (eqb (i + 1) (entryCount entries))) (a .0)
+      ∙ ap (λ (n : ℕ). checkOf len b (seen (lentEntry entries′ i)) (lentTarget targets′ i) (eqb (i + 1) n)) same-count
       ∙ check-seen len b _ _ _
       ∙ sym (check-worked len b entries′ targets′ i (sym (same-consumed i (omega arith)) ∙ e))
 
@@ -101,37 +82,36 @@ module _ (b : Bases) (entries entries′ targets targets′ : List ℕ) (agree :
   same-check len (suc i) l = ap₂ first (same-check len i (omega arith)) (same-check-at len i l (consumed entries i) refl)
 
   -- the second walk
-  same-next : (i : ℕ) → i < entryCount entries → (t : Bool) → consumed entries i ≡ t
-      → (entryAt entries i .addend ≡ entryAt entries′ i .addend) × (targetAt targets i .addr ≡ targetAt targets′ i .addr)
-  same-next i l true e = agree .taken i l e
-  same-next i l false e =
-      let a = agree .worked i l e in
-      (ap (λ (r : Reloc). r .addend) (a .0), ap (λ (t : Resolved). t .addr) (a .1))
+  same-next : (i : ℕ) → i + 1 < entryCount entries → consumed entries (suc i) ≡ true
+      → (lentEntry entries (i + 1) .addend ≡ lentEntry entries′ (i + 1) .addend)
+      × (lentTarget targets (i + 1) .addr ≡ lentTarget targets′ (i + 1) .addr)
+  same-next i l e = alike .taken (i + 1) l (subst (λ (k : ℕ). consumed entries k ≡ true) {x = suc i} {y = i + 1} (omega arith) e)
 
   module _ (len : ℕ) (fit : checkTo len b entries targets (entryCount entries) ≡ Fit) where
     module _ (i : ℕ) (l : i < entryCount entries) (free : consumed entries i ≡ false) (s : List ℕ) where
       -- the entry's own fields
       same-own : (next : Reloc) (nextTarget : Resolved)
-          → changeOf b i (entryAt entries i) (targetAt targets i) next nextTarget (le 4 s (entryAt entries i .offset))
-          ≡ changeOf b i (entryAt entries′ i) (targetAt targets′ i) next nextTarget (le 4 s (entryAt entries′ i .offset))
+          → changeOf b i (lentEntry entries i) (lentTarget targets i) next nextTarget (le 4 s (lentEntry entries i .offset))
+          ≡ changeOf b i (lentEntry entries′ i) (lentTarget targets′ i) next nextTarget (le 4 s (lentEntry entries′ i .offset))
       same-own next nextTarget =
-          sym (change-seen b i (entryAt entries i) (targetAt targets i) next nextTarget _)
-          ∙ ap₂ (λ (r : Reloc) (t : Resolved). changeOf b i r t (addendOf (next .addend)) (addressOf (nextTarget .addr)) (le 4 s (r .offset)))
-          (agree .worked i l free .0) (agree .worked i l free .1)
-          ∙ change-seen b i (entryAt entries′ i) (targetAt targets′ i) next nextTarget _
+          change-same b i (lentEntry entries i) (lentTarget targets i) (lentTarget targets′ i) next nextTarget _ (alike .worked i l free .2)
+          ∙ sym (change-seen b i (lentEntry entries i) (lentTarget targets′ i) next nextTarget _)
+          ∙ ap (λ (r : Reloc). changeOf b i r (lentTarget targets′ i) (ofAddend (next .addend)) (ofAddress (nextTarget .addr)) (le 4 s (r .offset)))
+          (alike .worked i l free .0)
+          ∙ change-seen b i (lentEntry entries′ i) (lentTarget targets′ i) next nextTarget _
 
       -- what it takes of the next entry
-      same-other : (word : ℕ) (t : Bool) → subtracts (entryAt entries′ i .ty) ≡ t
-          → changeOf b i (entryAt entries′ i) (targetAt targets′ i) (entryAt entries (i + 1)) (targetAt targets (i + 1)) word
-          ≡ changeOf b i (entryAt entries′ i) (targetAt targets′ i) (entryAt entries′ (i + 1)) (targetAt targets′ (i + 1)) word
+      same-other : (word : ℕ) (t : Bool) → subtracts (lentEntry entries′ i .ty) ≡ t
+          → changeOf b i (lentEntry entries′ i) (lentTarget targets′ i) (lentEntry entries (i + 1)) (lentTarget targets (i + 1)) word
+          ≡ changeOf b i (lentEntry entries′ i) (lentTarget targets′ i) (lentEntry entries′ (i + 1)) (lentTarget targets′ (i + 1)) word
       same-other word false e = indifferent b i _ _ _ _ _ _ word e
       same-other word true e =
-          let own = ap (λ (r : Reloc). subtracts (r .ty)) (agree .worked i l free .0) ∙ e in
+          let own = ap (λ (r : Reloc). subtracts (r .ty)) (alike .worked i l free .0) ∙ e in
           let checked = sym (check-worked len b entries targets i free) ∙ passes len b entries targets (entryCount entries) i fit l in
-          let n = same-next (i + 1) (followed len b _ _ i (entryCount entries) checked own l) (consumed entries (i + 1)) refl in
-          sym (change-seen b i _ _ (entryAt entries (i + 1)) (targetAt targets (i + 1)) word)
-          ∙ ap₂ (λ (a s : ℕ). changeOf b i (seen (entryAt entries′ i)) (targetAt targets′ i) (addendOf a) (addressOf s) word) (n .0) (n .1)
-          ∙ change-seen b i _ _ (entryAt entries′ (i + 1)) (targetAt targets′ (i + 1)) word
+          let n = same-next i (followed len b _ _ i (entryCount entries) checked own l) (pair entries i free own) in
+          sym (change-seen b i _ _ (lentEntry entries (i + 1)) (lentTarget targets (i + 1)) word)
+          ∙ ap₂ (λ (a s : ℕ). changeOf b i (seen (lentEntry entries′ i)) (lentTarget targets′ i) (ofAddend a) (ofAddress s) word) (n .0) (n .1)
+          ∙ change-seen b i _ _ (lentEntry entries′ (i + 1)) (lentTarget targets′ (i + 1)) word
 
       same-change : changeAt b entries targets s i ≡ changeAt b entries′ targets′ s i
       same-change = same-own _ _ ∙ same-other _ _ refl
@@ -141,7 +121,7 @@ module _ (b : Bases) (entries entries′ targets targets′ : List ℕ) (agree :
     same-work-at f i l true e = work-taken b entries targets f i e ∙ sym (work-taken b entries′ targets′ f i (sym (same-consumed i (omega arith)) ∙ e))
     same-work-at f i l false e =
         work-worked b entries targets f i e
-        ∙ ap₂ (λ (r : Reloc) (c : Change). applied f (r .offset) c) (agree .worked i l e .0) (same-change i l e (f .section))
+        ∙ ap₂ (λ (r : Reloc) (c : Change). applied f (r .offset) c) (alike .worked i l e .0) (same-change i l e (f .section))
         ∙ sym (work-worked b entries′ targets′ f i (sym (same-consumed i (omega arith)) ∙ e))
 
     same-work : (section : List ℕ) (k : ℕ) → k ≤ entryCount entries → fixTo b entries targets section k ≡ fixTo b entries′ targets′ section k
@@ -157,7 +137,7 @@ module _ (b : Bases) (entries entries′ targets targets′ : List ℕ) (agree :
   ignored section slots = go (checkTo (length section) b entries targets (entryCount entries)) refl
     where
       lists-same : checkLists (length entries) (length targets) (length slots) ≡ checkLists (length entries′) (length targets′) (length slots)
-      lists-same = ap₂ (λ (m n : ℕ). checkLists m n (length slots)) (agree .length-entries) (agree .length-targets)
+      lists-same = ap₂ (λ (m n : ℕ). checkLists m n (length slots)) (alike .length-entries) (alike .length-targets)
 
       checks-same : checkTo (length section) b entries targets (entryCount entries) ≡ checkTo (length section) b entries′ targets′ (entryCount entries′)
       checks-same = same-check (length section) (entryCount entries) (omega arith) ∙ ap (λ (n : ℕ). checkTo (length section) b entries′ targets′ n) same-count
@@ -170,43 +150,6 @@ module _ (b : Bases) (entries entries′ targets targets′ : List ℕ) (agree :
           (rw (e, sym checks-same ∙ e)
           (ap fixed
           (same-work (length section) e section (entryCount entries) (omega arith) ∙ ap (λ (n : ℕ). fixTo b entries′ targets′ section n) same-count)))
-
--- ---- the spare bytes of one entry
-
--- spare byte j of entry i is in no other field of any entry
-elsewhere : (i j k off n : ℕ) → j < 4 → (off + n ≤ 12) ⊎ ((16 ≤ off) × (off + n ≤ 24))
-    → (24 * i + 12 + j < 24 * k + off) ⊎ (24 * k + off + n ≤ 24 * i + 12 + j)
-elsewhere i j k off n l h = go (ltb k i) (ltb i k) refl refl
-  where
-    go : (x y : Bool) → ltb k i ≡ x → ltb i k ≡ y → (24 * i + 12 + j < 24 * k + off) ⊎ (24 * k + off + n ≤ 24 * i + 12 + j)
-    go true y e d = inr (⊎-elim (λ w. omega (arith, ltb-true k i e)) (λ w. omega (arith, ltb-true k i e)) h)
-    go false true e d = inl (omega (arith, ltb-true i k d))
-    go false false e d =
-        ⊎-elim (λ w. inr (omega (arith, ltb-false k i e, ltb-false i k d))) (λ w. inl (omega (arith, ltb-false k i e, ltb-false i k d))) h
-
-seen-set : (entries : List ℕ) (i j v k : ℕ) → j < 4 → seen (entryAt (set entries (24 * i + 12 + j) v) k) ≡ seen (entryAt entries k)
-unfolding relocAt
-seen-set entries i j v k l =
-    let p : ℕ = 24 * i + 12 + j in
-    let at : (n off : ℕ) → (off + n ≤ 12) ⊎ ((16 ≤ off) × (off + n ≤ 24)) → le n (set entries p v) (24 * k + off) ≡ le n entries (24 * k + off) =
-    λ n off h. le-set n entries (24 * k + off) p v (elsewhere i j k off n l h) in
-    let zero-off : 24 * k ≡ 24 * k + 0 = omega arith in
-    let o : le 4 (set entries p v) (24 * k) ≡ le 4 entries (24 * k) = rw zero-off (at 4 0 (inl (lit≤ tt))) in
-    rw (o, at 1 4 (inl (lit≤ tt)), at 1 5 (inl (lit≤ tt)), at 4 8 (inl (lit≤ tt)), at 8 16 (inr (lit≤ tt, lit≤ tt)))
-
--- whatever they hold
-pub spare-bytes : (section : List ℕ) (b : Bases) (entries targets slots : List ℕ) (i j v : ℕ) → j < 4
-    → outcomeOf section b entries targets slots ≡ outcomeOf section b (set entries (24 * i + 12 + j) v) targets slots
-spare-bytes section b entries targets slots i j v l =
-    ignored b entries (set entries (24 * i + 12 + j) v) targets targets
-    (record {
-      length-entries = simp length-set;
-      length-targets = refl;
-      worked = λ k _ _. (sym (seen-set entries i j v k l), refl);
-      taken = λ k _ _. (ap (λ (r : Reloc). r .addend) (sym (seen-set entries i j v k l)), refl);
-    })
-    section
-    slots
 
 -- ---- the bytes of an entry that a SUBTRACTOR consumes, its addend aside, and of its target, the address aside
 
@@ -221,7 +164,7 @@ apart size i j k off n ne l h = go (ltb i k) refl
     go true e = inl (omega (arith, past i k (ltb-true i k e)))
     go false e = inr (⊎-elim (λ q. absurd (ne q)) (λ (w : k < i). omega (arith, past k i w)) (eq-or-lt-of-le (ltb-false i k e)))
 
-entry-set : (entries : List ℕ) (i j v k : ℕ) → (k ≡ i → ⊥) → j < 24 → entryAt (set entries (24 * i + j) v) k ≡ entryAt entries k
+entry-set : (entries : List ℕ) (i j v k : ℕ) → (k ≡ i → ⊥) → j < 24 → lentEntry (set entries (24 * i + j) v) k ≡ lentEntry entries k
 unfolding relocAt
 entry-set entries i j v k ne l =
     let p : ℕ = 24 * i + j in
@@ -240,7 +183,7 @@ entry-set entries i j v k ne l =
       at 8 16 (lit≤ tt),
     )
 
-target-set : (targets : List ℕ) (i j v k : ℕ) → (k ≡ i → ⊥) → j < 48 → targetAt (set targets (48 * i + j) v) k ≡ targetAt targets k
+target-set : (targets : List ℕ) (i j v k : ℕ) → (k ≡ i → ⊥) → j < 48 → lentTarget (set targets (48 * i + j) v) k ≡ lentTarget targets k
 unfolding resolvedAt
 target-set targets i j v k ne l =
     let p : ℕ = 48 * i + j in
@@ -251,7 +194,7 @@ target-set targets i j v k ne l =
     rw (o, at 8 8 (lit≤ tt), at 8 16 (lit≤ tt), at 8 24 (lit≤ tt), at 8 32 (lit≤ tt), at 4 40 (lit≤ tt), at 4 44 (lit≤ tt))
 
 -- an addend, and an address, hold no other byte of a record
-addend-set : (entries : List ℕ) (i j v k : ℕ) → j < 16 → entryAt (set entries (24 * i + j) v) k .addend ≡ entryAt entries k .addend
+addend-set : (entries : List ℕ) (i j v k : ℕ) → j < 16 → lentEntry (set entries (24 * i + j) v) k .addend ≡ lentEntry entries k .addend
 unfolding relocAt
 addend-set entries i j v k l = le-set 8 entries (24 * k + 16) (24 * i + j) v (go (ltb k i) refl)
   where
@@ -259,7 +202,7 @@ addend-set entries i j v k l = le-set 8 entries (24 * k + 16) (24 * i + j) v (go
     go true e = inr (omega (arith, ltb-true k i e))
     go false e = inl (omega (arith, ltb-false k i e))
 
-address-set : (targets : List ℕ) (i j v k : ℕ) → 8 ≤ j → j < 48 → targetAt (set targets (48 * i + j) v) k .addr ≡ targetAt targets k .addr
+address-set : (targets : List ℕ) (i j v k : ℕ) → 8 ≤ j → j < 48 → lentTarget (set targets (48 * i + j) v) k .addr ≡ lentTarget targets k .addr
 unfolding resolvedAt
 address-set targets i j v k m l = le-set 8 targets (48 * k) (48 * i + j) v (go (ltb i k) refl)
   where
@@ -277,7 +220,7 @@ module _ (section : List ℕ) (b : Bases) (entries targets slots : List ℕ) (i 
       (record {
         length-entries = simp length-set;
         length-targets = refl;
-        worked = λ k _ free. (ap seen (sym (entry-set entries i j v k (other k free) (omega arith))), refl);
+        worked = λ k _ free. (ap seen (sym (entry-set entries i j v k (other k free) (omega arith))), refl, equal refl);
         taken = λ k _ _. (sym (addend-set entries i j v k l), refl);
       })
       section
@@ -289,8 +232,83 @@ module _ (section : List ℕ) (b : Bases) (entries targets slots : List ℕ) (i 
       (record {
         length-entries = refl;
         length-targets = simp length-set;
-        worked = λ k _ free. (refl, sym (target-set targets i j v k (other k free) l));
+        worked = λ k _ free.
+            let q = sym (target-set targets i j v k (other k free) l) in
+            (refl, ap wellFormed q, equal q);
         taken = λ k _ _. (refl, sym (address-set targets i j v k m l));
       })
       section
       slots
+
+-- ---- single bytes of an entry before its addend
+
+module _ (section : List ℕ) (b : Bases) (entries targets slots : List ℕ) (i j v : ℕ) where
+  -- the entry's other fields
+  field-kept : (n off : ℕ) → (j < off) ⊎ (off + n ≤ j) → le n (set entries (24 * i + j) v) (24 * i + off) ≡ le n entries (24 * i + off)
+  field-kept n off h = le-set n entries (24 * i + off) (24 * i + j) v (⊎-elim (λ w. inl (omega arith)) (λ w. inr (omega arith)) h)
+
+  offset-kept : 4 ≤ j → le 4 (set entries (24 * i + j) v) (24 * i) ≡ le 4 entries (24 * i)
+  offset-kept h = le-set 4 entries (24 * i) (24 * i + j) v (inr (omega arith))
+
+  -- a byte that leaves what is seen of its entry
+  entry-byte : j < 16 → seen (lentEntry (set entries (24 * i + j) v) i) ≡ seen (lentEntry entries i)
+      → outcomeOf section b entries targets slots ≡ outcomeOf section b (set entries (24 * i + j) v) targets slots
+  entry-byte l same =
+      ignored b entries (set entries (24 * i + j) v) targets targets
+      (record {
+        length-entries = simp length-set;
+        length-targets = refl;
+        worked = λ k _ _. (sym (at k (eqb k i) refl), refl, equal refl);
+        taken = λ k _ _. (sym (addend-set entries i j v k l), refl);
+      })
+      section
+      slots
+    where
+      at : (k : ℕ) (x : Bool) → eqb k i ≡ x → seen (lentEntry (set entries (24 * i + j) v) k) ≡ seen (lentEntry entries k)
+      at k true e =
+          subst (λ (n : ℕ). seen (lentEntry (set entries (24 * i + j) v) n) ≡ seen (lentEntry entries n)) (sym (eqb-true k i e)) same
+      at k false e = ap seen (entry-set entries i j v k (eqb-false k i e) (omega arith))
+
+  -- the marks, bytes 6 and 7, and the spare bytes 12 to 15
+  pub spare-bytes : ((6 ≤ j) × (j < 8)) ⊎ ((12 ≤ j) × (j < 16))
+      → outcomeOf section b entries targets slots ≡ outcomeOf section b (set entries (24 * i + j) v) targets slots
+  unfolding relocAt
+  spare-bytes sp =
+      let past : (n : ℕ) → n ≤ 6 → n ≤ j = λ n m. ⊎-elim (λ w. omega arith) (λ w. omega arith) sp in
+      let low : j < 16 = ⊎-elim (λ w. omega arith) (λ w. w .1) sp in
+      entry-byte low
+      (rw (
+        offset-kept (past 4 (lit≤ tt)),
+        field-kept 1 4 (inr (past 5 (lit≤ tt))),
+        field-kept 1 5 (inr (past 6 (lit≤ tt))),
+        field-kept 4 8 (⊎-elim (λ w. inl (w .1)) (λ w. inr (w .0)) sp),
+        field-kept 8 16 (inl low),
+      ))
+
+  -- the size byte, but for SUBTRACTOR
+  pub size-byte : j ≡ 5 → (lentEntry entries i .ty ≡ ARM64-RELOC-SUBTRACTOR → ⊥)
+      → outcomeOf section b entries targets slots ≡ outcomeOf section b (set entries (24 * i + j) v) targets slots
+  unfolding relocAt choose
+  size-byte is ne =
+      entry-byte (omega arith)
+      (rw (
+        offset-kept (omega arith),
+        field-kept 1 4 (inr (omega arith)),
+        ne-eqb _ _ ne,
+        field-kept 4 8 (inl (omega arith)),
+        field-kept 8 16 (inl (omega arith)),
+      ))
+
+  -- a byte of the target field that leaves bit 31
+  pub target-byte : 8 ≤ j → j < 12 → isSection (lentEntry (set entries (24 * i + j) v) i .target) ≡ isSection (lentEntry entries i .target)
+      → outcomeOf section b entries targets slots ≡ outcomeOf section b (set entries (24 * i + j) v) targets slots
+  unfolding relocAt
+  target-byte l m same =
+      entry-byte (omega arith)
+      (rw (
+        offset-kept (omega arith),
+        field-kept 1 4 (inr (omega arith)),
+        field-kept 1 5 (inr (omega arith)),
+        same,
+        field-kept 8 16 (inl (omega arith)),
+      ))

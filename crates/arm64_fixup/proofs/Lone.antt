@@ -9,7 +9,7 @@ use Rattle.util.specs.Word.{le}
 use Rattle.util.proofs.Word.{le-put}
 use Rattle.arm64_fixup_entry.specs.Target.{widthOf}
 use Rattle.arm64_fixup_entry.specs.Change.{bytesIn}
-use Rattle.arm64_fixup.specs.Walk.{entryAt, targetAt, entryCount, stored, Fixed, changeAt, fixTo}
+use Rattle.arm64_fixup.specs.Walk.{lentEntry, lentTarget, entryCount, stored, Fixed, changeAt, fixTo}
 use Rattle.arm64_fixup.specs.Footprint.{offsetAt, widthAt, Lone, wordAt, pointerAt}
 use Rattle.arm64_fixup_entry.specs.declared.target.Bases.{Bases}
 use Rattle.arm64_fixup_entry.specs.declared.change.Write.{Write}
@@ -23,9 +23,9 @@ use Rattle.arm64_fixup.proofs.Footprint.{only-word}
 
 module _ {section : List ℕ} {b : Bases} {entries targets slots : List ℕ} {f : Fixed} {k : ℕ} (l : Lone section b entries targets slots f k) where
   -- the entry passed its check
-  pub passed : Sound (length section) b (entryAt entries k) (targetAt targets k) (eqb (k + 1) (entryCount entries))
+  pub passed : Sound (length section) b (lentEntry entries k) (lentTarget targets k) (eqb (k + 1) (entryCount entries))
   passed =
-      sound (length section) b (entryAt entries k) (targetAt targets k) (eqb (k + 1) (entryCount entries))
+      sound (length section) b (lentEntry entries k) (lentTarget targets k) (eqb (k + 1) (entryCount entries))
       (fit-at b entries targets section k (l .worked) (accepts section b entries targets slots (l .accepted) .fit) (l .listed) refl refl refl)
 
   -- its step at its turn is the one on the lent bytes
@@ -46,7 +46,7 @@ module _ {section : List ℕ} {b : Bases} {entries targets slots : List ℕ} {f 
   wide-enough : (n : ℕ) → bytesIn (changeAt b entries targets section k .write) ≡ n → n ≤ widthAt entries targets k
   wide-enough n h =
       rw (← h, worked-width entries targets k (l .worked))
-      (change-fits b k (entryAt entries k) (targetAt targets k) (entryAt entries (k + 1)) (targetAt targets (k + 1)) (wordAt entries section k))
+      (change-fits b k (lentEntry entries k) (lentTarget targets k) (lentEntry entries (k + 1)) (lentTarget targets (k + 1)) (wordAt entries section k))
 
   -- the word, or the pointer, that it stores
   pub stores-word : {v : ℕ} → changeAt b entries targets section k .write ≡ Word v → wordAt entries (f .section) k ≡ v % 2 ^ 32
@@ -60,7 +60,7 @@ module _ {section : List ℕ} {b : Bases} {entries targets slots : List ℕ} {f 
       w .1 ∙ ap (λ (x : Write). le 8 (stored section (offsetAt entries k) x) (offsetAt entries k)) h ∙ le-put 8 section (offsetAt entries k) v (w .0)
 
   -- the word that it leaves
-  pub leaves-word : 4 ≤ widthOf (entryAt entries k) (targetAt targets k) → changeAt b entries targets section k .write ≡ Nothing
+  pub leaves-word : 4 ≤ widthOf (lentEntry entries k) (lentTarget targets k) → changeAt b entries targets section k .write ≡ Nothing
       → wordAt entries (f .section) k ≡ wordAt entries section k
   leaves-word n h =
       stands 4 (rw (worked-width entries targets k (l .worked)) n) .1

@@ -26,10 +26,10 @@ use Rattle.arm64_insn.specs.declared.fix.OffsetWord.the-variants as OffsetWord
 use Rattle.arm64_insn.proofs.Encodes.{adrp-patched, add-patched, load-store-patched, prefetch-patched, relaxed-made}
 use Rattle.arm64_insn.proofs.Meaning.{adrp-means, add-means, access-means}
 use Rattle.arm64_insn.proofs.Manual.{decode-encode, decode-in-range, encode-lt}
-use Rattle.arm64_fixup_entry.specs.Target.{placeOf, targetOf, slotOf, gotTarget, widthOf}
+use Rattle.arm64_fixup_entry.specs.Target.{addressOf, targetOf, slotOf, gotTarget, widthOf}
 use Rattle.arm64_fixup_entry.specs.Change.{page21, fitted}
 use Rattle.arm64_fixup_entry.specs.Change.{canRelax, relaxed, gotPageoff12}
-use Rattle.arm64_fixup.specs.Walk.{entryAt, targetAt, Fixed, changeAt}
+use Rattle.arm64_fixup.specs.Walk.{lentEntry, lentTarget, Fixed, changeAt}
 use Rattle.arm64_fixup.specs.Footprint.{Lone, wordAt}
 use Rattle.arm64_fixup_entry.specs.Roles.{Page, page, got-page, tlv-page, GotOffset, Offset, offset, got-offset, Relaxed}
 use Rattle.arm64_fixup_entry.specs.declared.target.Bases.{Bases}
@@ -42,9 +42,9 @@ use Rattle.arm64_fixup.proofs.Lone.{passed, stores-word, leaves-word}
 -- ---- pages
 
 -- whatever the reach, the word is written
-page-write : (s : Site) (target word : ℕ) → page21 s target word .write ≡ Word (adrpWith word target (s .place))
+page-write : (s : Site) (target word : ℕ) → page21 s target word .write ≡ Word (adrpWith word target (s .addr))
 unfolding page21
-page-write s target word = chosen (λ (c : Change). c .write ≡ Word (adrpWith word target (s .place))) (adrpReaches target (s .place)) _ _ refl refl
+page-write s target word = chosen (λ (c : Change). c .write ≡ Word (adrpWith word target (s .addr))) (adrpReaches target (s .addr)) _ _ refl refl
 
 target-lt : (e : Reloc) (t : Resolved) → targetOf e t < 2 ^ 64
 unfolding targetOf
@@ -66,21 +66,21 @@ adrp-with-lt w hi lo = omega arith
 
 module _ {section : List ℕ} {b : Bases} {entries targets slots : List ℕ} {f : Fixed} {k : ℕ} (l : Lone section b entries targets slots f k) where
   -- any word: bit 31, bits 28..24 and bits 4..0 stay, the others are the immediate
-  pub page-word : {target : ℕ} → Page (entryAt entries k) (targetAt targets k) target
-      → wordAt entries (f .section) k ≡ adrpWith (wordAt entries section k) target (placeOf b (entryAt entries k))
+  pub page-word : {target : ℕ} → Page (lentEntry entries k) (lentTarget targets k) target
+      → wordAt entries (f .section) k ≡ adrpWith (wordAt entries section k) target (addressOf b (lentEntry entries k))
   page-word {target} r =
       stores-word l (ap (λ (c : Change). c .write) (page-does-it b k _ _ _ _ _ r) ∙ page-write _ target (wordAt entries section k))
-      ∙ mod-eq-of-lt (adrp-with-lt (wordAt entries section k) target (placeOf b (entryAt entries k)))
+      ∙ mod-eq-of-lt (adrp-with-lt (wordAt entries section k) target (addressOf b (lentEntry entries k)))
 
   -- an ADRP is one of the old register; in reach, it makes the target's page
-  pub page-means : {target : ℕ} → Page (entryAt entries k) (targetAt targets k) target
+  pub page-means : {target : ℕ} → Page (lentEntry entries k) (lentTarget targets k) target
       → (rd imm : ℕ) → decode (wordAt entries section k) ≡ instruction (ADRP rd imm)
-      → adrpReaches target (placeOf b (entryAt entries k)) ≡ true
-      → (decode (wordAt entries (f .section) k) ≡ instruction (ADRP rd (pageImm target (placeOf b (entryAt entries k)))))
-      × (adrpPage (pageImm target (placeOf b (entryAt entries k))) (placeOf b (entryAt entries k)) ≡ pageOf target)
+      → adrpReaches target (addressOf b (lentEntry entries k)) ≡ true
+      → (decode (wordAt entries (f .section) k) ≡ instruction (ADRP rd (pageImm target (addressOf b (lentEntry entries k)))))
+      × (adrpPage (pageImm target (addressOf b (lentEntry entries k))) (addressOf b (lentEntry entries k)) ≡ pageOf target)
   page-means {target} r rd imm d near = (
     ap decode (page-word r) ∙ adrp-patched _ rd imm target _ (le-lt 4 section _) d,
-    adrp-means target _ (page-lt _ _ r) (passed l .place) near,
+    adrp-means target _ (page-lt _ _ r) (passed l .address) near,
   )
 
 -- ---- page offsets
@@ -96,14 +96,14 @@ offset-width e t (offset h a) = rw (h, a) (lit≤ tt)
 offset-width e t (got-offset g n) = got-offset-width e t g
 
 module _ {section : List ℕ} {b : Bases} {entries targets slots : List ℕ} {f : Fixed} {k : ℕ} (l : Lone section b entries targets slots f k) where
-  module _ {target : ℕ} (r : Offset (entryAt entries k) (targetAt targets k) target) where
+  module _ {target : ℕ} (r : Offset (lentEntry entries k) (lentTarget targets k) target) where
     fits : {w : ℕ} → offsetWith (wordAt entries section k) target ≡ OffsetWord.Word w → wordAt entries (f .section) k ≡ w % 2 ^ 32
-    fits e = stores-word l (ap (λ (c : Change). c .write) (offset-does-it b k _ _ _ _ _ r ∙ ap (fitted (siteOf b k (entryAt entries k))) e))
+    fits e = stores-word l (ap (λ (c : Change). c .write) (offset-does-it b k _ _ _ _ _ r ∙ ap (fitted (siteOf b k (lentEntry entries k))) e))
 
     stays : {n : ℕ} → offsetWith (wordAt entries section k) target ≡ OffsetWord.Misaligned n → wordAt entries (f .section) k ≡ wordAt entries section k
     stays e =
         leaves-word l (offset-width _ _ r)
-        (ap (λ (c : Change). c .write) (offset-does-it b k _ _ _ _ _ r ∙ ap (fitted (siteOf b k (entryAt entries k))) e))
+        (ap (λ (c : Change). c .write) (offset-does-it b k _ _ _ _ _ r ∙ ap (fitted (siteOf b k (lentEntry entries k))) e))
 
     -- an ADD is the old one with the target's low 12 bits
     pub offset-add : (sf sh rd rn imm12 : ℕ) → decode (wordAt entries section k) ≡ instruction (ADD sf sh rd rn imm12)
@@ -163,20 +163,20 @@ unfolding gotPageoff12 choose
 relaxes-it s e t word h = rw h
 
 module _ {section : List ℕ} {b : Bases} {entries targets slots : List ℕ} {f : Fixed} {k : ℕ} (l : Lone section b entries targets slots f k)
-    (r : Relaxed (entryAt entries k) (targetAt targets k))
+    (r : Relaxed (lentEntry entries k) (lentTarget targets k))
   where
     pub relaxed-does : changeAt b entries targets section k
-        ≡ relaxed (siteOf b k (entryAt entries k)) (entryAt entries k .ty) (targetOf (entryAt entries k) (targetAt targets k)) (wordAt entries section k)
+        ≡ relaxed (siteOf b k (lentEntry entries k)) (lentEntry entries k .ty) (targetOf (lentEntry entries k) (lentTarget targets k)) (wordAt entries section k)
     relaxed-does = got-offset-does-it b k _ _ _ _ _ (r .type) ∙ relaxes-it _ _ _ _ (r .relaxes)
 
     -- an LDR, for GOT also a 64-bit ADD, becomes the 64-bit ADD of its registers and the low 12 bits of S + A
-    pub relaxed-means : canRelax (entryAt entries k .ty) (wordAt entries section k) ≡ true
+    pub relaxed-means : canRelax (lentEntry entries k .ty) (wordAt entries section k) ≡ true
         → decode (wordAt entries (f .section) k)
         ≡ instruction (ADD 1 0 (rdIn (wordAt entries section k)) (rnIn (wordAt entries section k))
-        (field (targetOf (entryAt entries k) (targetAt targets k)) 0 12))
+        (field (targetOf (lentEntry entries k) (lentTarget targets k)) 0 12))
     unfolding relaxed relaxedWord
     relaxed-means h =
-        let target = targetOf (entryAt entries k) (targetAt targets k) in
+        let target = targetOf (lentEntry entries k) (lentTarget targets k) in
         let w = wordAt entries section k in
         let j : InRange (ADD 1 0 (rdIn w) (rnIn w) (field target 0 12)) = (lit< tt, lit< tt, omega arith, omega arith, omega arith) in
         ap decode
@@ -185,7 +185,7 @@ module _ {section : List ℕ} {b : Bases} {entries targets slots : List ℕ} {f 
         ∙ relaxed-made w target
 
     -- any other word stays
-    pub relaxed-kept : canRelax (entryAt entries k .ty) (wordAt entries section k) ≡ false → wordAt entries (f .section) k ≡ wordAt entries section k
+    pub relaxed-kept : canRelax (lentEntry entries k .ty) (wordAt entries section k) ≡ false → wordAt entries (f .section) k ≡ wordAt entries section k
     unfolding relaxed
     relaxed-kept h =
         leaves-word l (got-offset-width _ _ (r .type)) (ap (λ (c : Change). c .write) (relaxed-does ∙ choose-false _ _ _ h))
@@ -195,45 +195,45 @@ module _ {section : List ℕ} {b : Bases} {entries targets slots : List ℕ} {f 
 
 module _ {section : List ℕ} {b : Bases} {entries targets slots : List ℕ} {f : Fixed} {k m : ℕ}
     (l : Lone section b entries targets slots f k) (l′ : Lone section b entries targets slots f m)
-    {target : ℕ} (r : Page (entryAt entries k) (targetAt targets k) target) (near : adrpReaches target (placeOf b (entryAt entries k)) ≡ true)
+    {target : ℕ} (r : Page (lentEntry entries k) (lentTarget targets k) target) (near : adrpReaches target (addressOf b (lentEntry entries k)) ≡ true)
     (rd imm : ℕ) (d : decode (wordAt entries section k) ≡ instruction (ADRP rd imm))
   where
     -- ADRP and an unshifted ADD of 64 bits make the target
-    pub adrp-add : Offset (entryAt entries m) (targetAt targets m) target
+    pub adrp-add : Offset (lentEntry entries m) (lentTarget targets m) target
         → (rd′ rn imm12 : ℕ) → decode (wordAt entries section m) ≡ instruction (ADD 1 0 rd′ rn imm12)
-        → (decode (wordAt entries (f .section) k) ≡ instruction (ADRP rd (pageImm target (placeOf b (entryAt entries k)))))
+        → (decode (wordAt entries (f .section) k) ≡ instruction (ADRP rd (pageImm target (addressOf b (lentEntry entries k)))))
         × (decode (wordAt entries (f .section) m) ≡ instruction (ADD 1 0 rd′ rn (field target 0 12)))
-        × (M.addValue 1 0 (adrpPage (pageImm target (placeOf b (entryAt entries k))) (placeOf b (entryAt entries k))) (field target 0 12) ≡ target)
+        × (M.addValue 1 0 (adrpPage (pageImm target (addressOf b (lentEntry entries k))) (addressOf b (lentEntry entries k))) (field target 0 12) ≡ target)
     adrp-add r′ rd′ rn imm12 d′ = (
       page-means l r rd imm d near .0,
       offset-add l′ r′ 1 0 rd′ rn imm12 d′,
-      add-means target (placeOf b (entryAt entries k)) (page-lt _ _ r) (passed l .place) near,
+      add-means target (addressOf b (lentEntry entries k)) (page-lt _ _ r) (passed l .address) near,
     )
 
     -- and so do ADRP and a relaxed load
-    pub adrp-relaxed : Relaxed (entryAt entries m) (targetAt targets m) → targetOf (entryAt entries m) (targetAt targets m) ≡ target
-        → canRelax (entryAt entries m .ty) (wordAt entries section m) ≡ true
-        → (decode (wordAt entries (f .section) k) ≡ instruction (ADRP rd (pageImm target (placeOf b (entryAt entries k)))))
+    pub adrp-relaxed : Relaxed (lentEntry entries m) (lentTarget targets m) → targetOf (lentEntry entries m) (lentTarget targets m) ≡ target
+        → canRelax (lentEntry entries m .ty) (wordAt entries section m) ≡ true
+        → (decode (wordAt entries (f .section) k) ≡ instruction (ADRP rd (pageImm target (addressOf b (lentEntry entries k)))))
         × (decode (wordAt entries (f .section) m)
         ≡ instruction (ADD 1 0 (rdIn (wordAt entries section m)) (rnIn (wordAt entries section m)) (field target 0 12)))
-        × (M.addValue 1 0 (adrpPage (pageImm target (placeOf b (entryAt entries k))) (placeOf b (entryAt entries k))) (field target 0 12) ≡ target)
+        × (M.addValue 1 0 (adrpPage (pageImm target (addressOf b (lentEntry entries k))) (addressOf b (lentEntry entries k))) (field target 0 12) ≡ target)
     adrp-relaxed r′ same h = (
       page-means l r rd imm d near .0,
       relaxed-means l′ r′ h
           ∙ ap (λ (t : ℕ). instruction (ADD 1 0 (rdIn (wordAt entries section m)) (rnIn (wordAt entries section m)) (field t 0 12))) same,
-      add-means target (placeOf b (entryAt entries k)) (page-lt _ _ r) (passed l .place) near,
+      add-means target (addressOf b (lentEntry entries k)) (page-lt _ _ r) (passed l .address) near,
     )
 
     -- ADRP and a load or store, whose size divides the target, access it
-    pub adrp-access : Offset (entryAt entries m) (targetAt targets m) target
+    pub adrp-access : Offset (lentEntry entries m) (lentTarget targets m) target
         → (size v opc rt rn imm12 : ℕ) → decode (wordAt entries section m) ≡ instruction (LDST size v opc rt rn imm12) → target % movedBy (rowOf size v opc) ≡ 0
-        → (decode (wordAt entries (f .section) k) ≡ instruction (ADRP rd (pageImm target (placeOf b (entryAt entries k)))))
+        → (decode (wordAt entries (f .section) k) ≡ instruction (ADRP rd (pageImm target (addressOf b (lentEntry entries k)))))
         × (decode (wordAt entries (f .section) m) ≡ instruction (LDST size v opc rt rn (target % 2 ^ 12 / movedBy (rowOf size v opc))))
-        × (M.accessAddress (rowOf size v opc) (adrpPage (pageImm target (placeOf b (entryAt entries k))) (placeOf b (entryAt entries k)))
+        × (M.accessAddress (rowOf size v opc) (adrpPage (pageImm target (addressOf b (lentEntry entries k))) (addressOf b (lentEntry entries k)))
         (target % 2 ^ 12 / movedBy (rowOf size v opc))
         ≡ target)
     adrp-access r′ size v opc rt rn imm12 d′ h = (
       page-means l r rd imm d near .0,
       offset-access l′ r′ size v opc rt rn imm12 d′ h,
-      access-means target (placeOf b (entryAt entries k)) (page-lt _ _ r) (passed l .place) _ size v opc rt rn imm12 d′ near h,
+      access-means target (addressOf b (lentEntry entries k)) (page-lt _ _ r) (passed l .address) _ size v opc rt rn imm12 d′ near h,
     )

@@ -15,7 +15,7 @@ use Rattle.macho.specs.declared.reloc.Reloc.{Reloc}
 use Rattle.macho.specs.declared.resolved.Resolved.{Resolved}
 use Rattle.macho.specs.declared.refusal.Refusal.{Refusal}
 use Rattle.arm64_fixup_entry.specs.Check.{subtracts, checkOf}
-use Rattle.arm64_fixup.specs.Walk.{entryCount, entryAt, targetAt, takenBy, consumed, checkAt, first, checkTo, stored, Fixed, changeAt, applied}
+use Rattle.arm64_fixup.specs.Walk.{entryCount, lentEntry, lentTarget, takenBy, consumed, checkAt, first, checkTo, stored, Fixed, changeAt, applied}
 use Rattle.arm64_fixup.specs.Walk.{workAt, fixTo}
 use Rattle.arm64_fixup_entry.specs.declared.target.Bases.{Bases}
 use Rattle.macho.specs.declared.refusal.Check.{Check}
@@ -32,31 +32,31 @@ and-false false = refl
 
 module _ (entries : List ℕ) (i : ℕ) (free : consumed entries i ≡ false) where
   -- an entry that takes no other is followed by one that is worked
-  single : subtracts (entryAt entries i .ty) ≡ false → consumed entries (suc i) ≡ false
+  single : subtracts (lentEntry entries i .ty) ≡ false → consumed entries (suc i) ≡ false
   unfolding consumed
   single s = rw s
 
   -- a SUBTRACTOR takes the next entry
-  pair : subtracts (entryAt entries i .ty) ≡ true → consumed entries (suc i) ≡ true
+  pub pair : subtracts (lentEntry entries i .ty) ≡ true → consumed entries (suc i) ≡ true
   unfolding consumed
   pair s = rw (s, free)
 
   -- and the one after that is worked
-  after-pair : subtracts (entryAt entries i .ty) ≡ true → consumed entries (suc (suc i)) ≡ false
+  after-pair : subtracts (lentEntry entries i .ty) ≡ true → consumed entries (suc (suc i)) ≡ false
   unfolding consumed
-  after-pair s = rw (s, free) (and-false (subtracts (entryAt entries (suc i) .ty)))
+  after-pair s = rw (s, free) (and-false (subtracts (lentEntry entries (suc i) .ty)))
 
   -- what holds at the next index that is worked: after one entry, or after a SUBTRACTOR and the entry that it takes
-  pub next : (P : ℕ → Type 0) → (subtracts (entryAt entries i .ty) ≡ false → P (suc i))
-      → (subtracts (entryAt entries i .ty) ≡ true → P (suc (suc i))) → P (i + takenBy (entryAt entries i .ty))
+  pub next : (P : ℕ → Type 0) → (subtracts (lentEntry entries i .ty) ≡ false → P (suc i))
+      → (subtracts (lentEntry entries i .ty) ≡ true → P (suc (suc i))) → P (i + takenBy (lentEntry entries i .ty))
   unfolding choose
-  next P one two = go (subtracts (entryAt entries i .ty)) refl
+  next P one two = go (subtracts (lentEntry entries i .ty)) refl
     where
-      go : (s : Bool) → subtracts (entryAt entries i .ty) ≡ s → P (i + choose s 2 1)
+      go : (s : Bool) → subtracts (lentEntry entries i .ty) ≡ s → P (i + choose s 2 1)
       go true e = subst P (omega arith) (two e)
       go false e = subst P (omega arith) (one e)
 
-  pub next-worked : consumed entries (i + takenBy (entryAt entries i .ty)) ≡ false
+  pub next-worked : consumed entries (i + takenBy (lentEntry entries i .ty)) ≡ false
   next-worked = next (λ (k : ℕ). consumed entries k ≡ false) single after-pair
 
 -- ---- the first walk
@@ -92,44 +92,44 @@ module _ (len : ℕ) (b : Bases) (entries targets : List ℕ) where
 
   module _ (i : ℕ) (free : consumed entries i ≡ false) where
     -- and of one that is worked
-    pub check-worked : checkAt len b entries targets i ≡ checkOf len b (entryAt entries i) (targetAt targets i) (eqb (i + 1) (entryCount entries))
+    pub check-worked : checkAt len b entries targets i ≡ checkOf len b (lentEntry entries i) (lentTarget targets i) (eqb (i + 1) (entryCount entries))
     unfolding checkAt choose
     check-worked = rw free
 
     module _ (below : i < entryCount entries) (before : checkTo len b entries targets i ≡ Fit) where
       -- a turn that ends the walk
-      pub check-refused : {e : Reloc} {t : Resolved} {c : Check} {r : Refusal} → e ≡ entryAt entries i → t ≡ targetAt targets i
+      pub check-refused : {e : Reloc} {t : Resolved} {c : Check} {r : Refusal} → e ≡ lentEntry entries i → t ≡ lentTarget targets i
           → c ≡ checkOf len b e t (eqb (i + 1) (entryCount entries)) → c ≡ Refused r → Refused r ≡ checkTo len b entries targets (entryCount entries)
       check-refused {r = r} pe pt q p =
           let k : entryCount entries - suc i + suc i ≡ entryCount entries = omega arith in
-          let found : checkOf len b (entryAt entries i) (targetAt targets i) (eqb (i + 1) (entryCount entries)) ≡ Refused r = rw (← pe, ← pt) (sym q ∙ p) in
+          let found : checkOf len b (lentEntry entries i) (lentTarget targets i) (eqb (i + 1) (entryCount entries)) ≡ Refused r = rw (← pe, ← pt) (sym q ∙ p) in
           sym
           (ap (λ (m : ℕ). checkTo len b entries targets m) (sym k)
           ∙ stays (entryCount entries - suc i) (suc i) r
           (check-suc i ∙ ap (λ (a : Check). first a (checkAt len b entries targets i)) before ∙ check-worked ∙ found))
 
-      module _ (fit : checkOf len b (entryAt entries i) (targetAt targets i) (eqb (i + 1) (entryCount entries)) ≡ Fit) where
+      module _ (fit : checkOf len b (lentEntry entries i) (lentTarget targets i) (eqb (i + 1) (entryCount entries)) ≡ Fit) where
         check-one : checkTo len b entries targets (suc i) ≡ Fit
         check-one = check-suc i ∙ ap (λ (a : Check). first a (checkAt len b entries targets i)) before ∙ check-worked ∙ fit
 
-        check-next : checkTo len b entries targets (i + takenBy (entryAt entries i .ty)) ≡ Fit
+        check-next : checkTo len b entries targets (i + takenBy (lentEntry entries i .ty)) ≡ Fit
         check-next =
             next entries i free (λ (k : ℕ). checkTo len b entries targets k ≡ Fit) (λ s. check-one)
             (λ s. check-suc (suc i)
             ∙ ap (λ (a : Check). first a (checkAt len b entries targets (suc i))) check-one
             ∙ check-taken (suc i) (pair entries i free s))
 
-    pub next-within : i < entryCount entries → checkOf len b (entryAt entries i) (targetAt targets i) (eqb (i + 1) (entryCount entries)) ≡ Fit
-        → i + takenBy (entryAt entries i .ty) ≤ entryCount entries
+    pub next-within : i < entryCount entries → checkOf len b (lentEntry entries i) (lentTarget targets i) (eqb (i + 1) (entryCount entries)) ≡ Fit
+        → i + takenBy (lentEntry entries i .ty) ≤ entryCount entries
     next-within below fit =
         next entries i free (λ (k : ℕ). k ≤ entryCount entries) (λ s. below) (λ s. omega (arith, followed len b _ _ i (entryCount entries) fit s below))
 
     -- a turn that goes on
     pub check-again : {e : Reloc} {t : Resolved} {c : Check} {k : ℕ} → i < entryCount entries → checkTo len b entries targets i ≡ Fit
-        → e ≡ entryAt entries i → t ≡ targetAt targets i → c ≡ checkOf len b e t (eqb (i + 1) (entryCount entries)) → c ≡ Fit → k ≡ takenBy (e .ty)
+        → e ≡ lentEntry entries i → t ≡ lentTarget targets i → c ≡ checkOf len b e t (eqb (i + 1) (entryCount entries)) → c ≡ Fit → k ≡ takenBy (e .ty)
         → (i + k ≤ entryCount entries) × (consumed entries (i + k) ≡ false) × (checkTo len b entries targets (i + k) ≡ Fit)
     check-again below before pe pt q p pk =
-        let fit : checkOf len b (entryAt entries i) (targetAt targets i) (eqb (i + 1) (entryCount entries)) ≡ Fit = rw (← pe, ← pt) (sym q ∙ p) in
+        let fit : checkOf len b (lentEntry entries i) (lentTarget targets i) (eqb (i + 1) (entryCount entries)) ≡ Fit = rw (← pe, ← pt) (sym q ∙ p) in
         rw (pk, pe) (next-within below fit, next-worked entries i free, check-next below before fit)
 
 -- what holds at the end
@@ -150,7 +150,7 @@ length-stored s at (Pointer v) = length-put 8 s at v
 module _ (b : Bases) (entries targets : List ℕ) where
   -- an entry that is worked, and one that is taken
   pub work-worked : (f : Fixed) (i : ℕ) → consumed entries i ≡ false
-      → workAt b entries targets f i ≡ applied f (entryAt entries i .offset) (changeAt b entries targets (f .section) i)
+      → workAt b entries targets f i ≡ applied f (lentEntry entries i .offset) (changeAt b entries targets (f .section) i)
   unfolding workAt choose
   work-worked f i free = rw free
 
@@ -162,7 +162,7 @@ module _ (b : Bases) (entries targets : List ℕ) where
   unfolding workAt
   length-work f i =
       chosen (λ (g : Fixed). length (g .section) ≡ length (f .section)) (consumed entries i) f _ refl
-      (length-stored (f .section) (entryAt entries i .offset) (changeAt b entries targets (f .section) i .write))
+      (length-stored (f .section) (lentEntry entries i .offset) (changeAt b entries targets (f .section) i .write))
 
   module _ (section : List ℕ) where
     pub fix-suc : (i : ℕ) → fixTo b entries targets section (suc i) ≡ workAt b entries targets (fixTo b entries targets section i) i
@@ -171,14 +171,14 @@ module _ (b : Bases) (entries targets : List ℕ) where
 
     -- a turn
     pub fix-next : (i : ℕ) → consumed entries i ≡ false
-        → fixTo b entries targets section (i + takenBy (entryAt entries i .ty))
-        ≡ applied (fixTo b entries targets section i) (entryAt entries i .offset) (changeAt b entries targets (fixTo b entries targets section i .section) i)
+        → fixTo b entries targets section (i + takenBy (lentEntry entries i .ty))
+        ≡ applied (fixTo b entries targets section i) (lentEntry entries i .offset) (changeAt b entries targets (fixTo b entries targets section i .section) i)
     fix-next i free =
         let one = fix-suc i ∙ work-worked (fixTo b entries targets section i) i free in
         next entries i free
         (λ (k : ℕ).
         fixTo b entries targets section k
-        ≡ applied (fixTo b entries targets section i) (entryAt entries i .offset) (changeAt b entries targets (fixTo b entries targets section i .section) i))
+        ≡ applied (fixTo b entries targets section i) (lentEntry entries i .offset) (changeAt b entries targets (fixTo b entries targets section i .section) i))
         (λ s. one)
         (λ s. fix-suc (suc i) ∙ work-taken (fixTo b entries targets section (suc i)) (suc i) (pair entries i free s) ∙ one)
 

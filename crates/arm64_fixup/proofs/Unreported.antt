@@ -4,7 +4,7 @@
 use mathlib.Core.Path.{_≡_, refl, sym, ap, _∙_, subst}
 use mathlib.Core.Bool.{Bool, true, false}
 use mathlib.Core.List.{List}
-use mathlib.Core.Logic.{_⊎_, ⊎-elim}
+use mathlib.Core.Logic.{_⊎_, inl, inr, ⊎-elim}
 use Prim.Native.Nat.{ℕ, _/_, _%_, _^_}
 use native.Mathlib.Omega.{arith}
 use borrow.Author.Tests.{eqb-true}
@@ -25,10 +25,10 @@ use Rattle.arm64_insn.specs.Branch.{branchReaches}
 use Rattle.arm64_insn.specs.declared.fix.OffsetWord.{OffsetWord}
 use Rattle.arm64_insn.specs.declared.fix.OffsetWord.the-variants as OffsetWord
 use Rattle.arm64_insn.proofs.Encodes.{load-store-patched}
-use Rattle.arm64_fixup_entry.specs.Target.{placeOf, targetOf, slotOf, gotTarget}
+use Rattle.arm64_fixup_entry.specs.Target.{addressOf, targetOf, slotOf, gotTarget}
 use Rattle.arm64_fixup_entry.specs.Change.{branchTarget, thunkServes, dtraceSiteInsn, displacement, fitted, canRelax, relaxed}
 use Rattle.arm64_fixup_entry.specs.Roles.{Page, GotOffset, Offset, got-offset, Relaxed}
-use Rattle.arm64_fixup.specs.Walk.{entryAt, targetAt, Fixed}
+use Rattle.arm64_fixup.specs.Walk.{lentEntry, lentTarget, Fixed}
 use Rattle.arm64_fixup.specs.Footprint.{Lone, Unreported, wordAt}
 use Rattle.arm64_fixup_entry.specs.declared.target.Bases.{Bases}
 use Rattle.arm64_fixup_entry.specs.declared.change.Site.{Site}
@@ -37,35 +37,63 @@ use Rattle.arm64_fixup_entry.specs.declared.change.Traced.the-variants.{Untrace
 use Rattle.arm64_fixup_entry.specs.declared.change.Told.the-variants.{Silent}
 use Rattle.arm64_fixup_entry.proofs.ByType.{siteOf, offset-does-it}
 use Rattle.arm64_fixup.proofs.Means.{relaxed-does, adrp-add, adrp-relaxed, adrp-access}
-use Rattle.arm64_fixup.proofs.Branches.{b-stays, bl-stays, goes}
-use Rattle.arm64_fixup.proofs.Reports.{silent-test, unreported, page-in-reach, branch-in-reach}
+use Rattle.arm64_fixup.proofs.Branches.{b-stays, bl-stays, goes, goes-by-thunk}
+use Rattle.arm64_fixup.proofs.Reports.{silent-test, unreported, page-in-reach, branch-in-reach, must-serve}
 
 -- ---- branches
 
 module _ {section : List ℕ} {b : Bases} {entries targets slots : List ℕ} {f : Fixed} {k : ℕ} (l : Lone section b entries targets slots f k)
-    (ty : entryAt entries k .ty ≡ ARM64-RELOC-BRANCH26) (plain : dtraceSiteInsn (entryAt entries k) (targetAt targets k) ≡ Untraced)
+    (ty : lentEntry entries k .ty ≡ ARM64-RELOC-BRANCH26) (plain : dtraceSiteInsn (lentEntry entries k) (lentTarget targets k) ≡ Untraced)
     (u : Unreported f k)
-    (direct : (branchReaches (branchTarget (entryAt entries k) (targetAt targets k)) (placeOf b (entryAt entries k)) ≡ true)
-    ⊎ (thunkServes (entryAt entries k) (targetAt targets k) (branchTarget (entryAt entries k) (targetAt targets k)) ≡ false))
-    (t : branchTarget (entryAt entries k) (targetAt targets k) % 4 ≡ 0) (p : placeOf b (entryAt entries k) % 4 ≡ 0)
+    (direct : (branchReaches (branchTarget (lentEntry entries k) (lentTarget targets k)) (addressOf b (lentEntry entries k)) ≡ true)
+    ⊎ (thunkServes (lentEntry entries k) (lentTarget targets k) (branchTarget (lentEntry entries k) (lentTarget targets k)) ≡ false))
+    (t : branchTarget (lentEntry entries k) (lentTarget targets k) % 4 ≡ 0) (p : addressOf b (lentEntry entries k) % 4 ≡ 0)
   where
     -- the immediate that it gets
     abbrev imm : ℕ
-    imm = field (displacement (entryAt entries k) (targetAt targets k) (placeOf b (entryAt entries k))) 2 26
+    imm = field (displacement (lentEntry entries k) (lentTarget targets k) (addressOf b (lentEntry entries k))) 2 26
 
-    to-target : M.branchTarget imm (placeOf b (entryAt entries k)) ≡ branchTarget (entryAt entries k) (targetAt targets k)
+    to-target : M.branchTarget imm (addressOf b (lentEntry entries k)) ≡ branchTarget (lentEntry entries k) (lentTarget targets k)
     to-target = goes l ty plain (⊎-elim (λ h. h) (branch-in-reach l ty plain u) direct) t p
 
     -- a B or a BL that takes no thunk, since it reaches T or since none serves, goes from P to T
     pub b-goes : (imm26 : ℕ) → decode (wordAt entries section k) ≡ instruction (B imm26)
         → (decode (wordAt entries (f .section) k) ≡ instruction (B imm))
-        × (M.branchTarget imm (placeOf b (entryAt entries k)) ≡ branchTarget (entryAt entries k) (targetAt targets k))
+        × (M.branchTarget imm (addressOf b (lentEntry entries k)) ≡ branchTarget (lentEntry entries k) (lentTarget targets k))
     b-goes imm26 d = (b-stays l ty plain imm26 d, to-target)
 
     pub bl-goes : (imm26 : ℕ) → decode (wordAt entries section k) ≡ instruction (BL imm26)
         → (decode (wordAt entries (f .section) k) ≡ instruction (BL imm))
-        × (M.branchTarget imm (placeOf b (entryAt entries k)) ≡ branchTarget (entryAt entries k) (targetAt targets k))
+        × (M.branchTarget imm (addressOf b (lentEntry entries k)) ≡ branchTarget (lentEntry entries k) (lentTarget targets k))
     bl-goes imm26 d = (bl-stays l ty plain imm26 d, to-target)
+
+-- any that is not reported: it reaches T and goes there; or a thunk serves, and it goes to the thunk where it reaches that, which is not asked
+module _ {section : List ℕ} {b : Bases} {entries targets slots : List ℕ} {f : Fixed} {k : ℕ} (l : Lone section b entries targets slots f k)
+    (ty : lentEntry entries k .ty ≡ ARM64-RELOC-BRANCH26) (plain : dtraceSiteInsn (lentEntry entries k) (lentTarget targets k) ≡ Untraced)
+    (u : Unreported f k) (p : addressOf b (lentEntry entries k) % 4 ≡ 0)
+  where
+    abbrev P : ℕ
+    P = addressOf b (lentEntry entries k)
+
+    abbrev T : ℕ
+    T = branchTarget (lentEntry entries k) (lentTarget targets k)
+
+    abbrev goal : ℕ
+    goal = M.branchTarget (field (displacement (lentEntry entries k) (lentTarget targets k) P) 2 26) P
+
+    pub goes-somewhere : ((branchReaches T P ≡ true) × (T % 4 ≡ 0 → goal ≡ T))
+        ⊎ ((branchReaches T P ≡ false)
+        × (thunkServes (lentEntry entries k) (lentTarget targets k) T ≡ true)
+        × (branchReaches (lentTarget targets k .thunk) P ≡ true → lentTarget targets k .thunk % 4 ≡ 0 → goal ≡ lentTarget targets k .thunk))
+    goes-somewhere = go (branchReaches T P) refl
+      where
+        go : (x : Bool) → branchReaches T P ≡ x
+            → ((branchReaches T P ≡ true) × (T % 4 ≡ 0 → goal ≡ T))
+            ⊎ ((branchReaches T P ≡ false)
+            × (thunkServes (lentEntry entries k) (lentTarget targets k) T ≡ true)
+            × (branchReaches (lentTarget targets k .thunk) P ≡ true → lentTarget targets k .thunk % 4 ≡ 0 → goal ≡ lentTarget targets k .thunk))
+        go true h = inl (h, λ t. goes l ty plain h t p)
+        go false h = let s = must-serve l ty plain u h in inr (h, s, λ near t. goes-by-thunk l ty plain h s near t p)
 
 -- ---- page offsets
 
@@ -80,21 +108,21 @@ relaxed-silent s ty target word h = silent-test (canRelax ty word) _ _ _ refl h
 
 module _ {section : List ℕ} {b : Bases} {entries targets slots : List ℕ} {f : Fixed} {k : ℕ} (l : Lone section b entries targets slots f k) where
   -- the size of a load or store divides the target
-  pub access-aligned : {target : ℕ} → Offset (entryAt entries k) (targetAt targets k) target → Unreported f k
+  pub access-aligned : {target : ℕ} → Offset (lentEntry entries k) (lentTarget targets k) target → Unreported f k
       → (size v opc rt rn imm12 : ℕ) → decode (wordAt entries section k) ≡ instruction (LDST size v opc rt rn imm12) → target % movedBy (rowOf size v opc) ≡ 0
   access-aligned {target} r u size v opc rt rn imm12 d =
       eqb-true (target % movedBy (rowOf size v opc)) 0
-      (fitted-silent (siteOf b k (entryAt entries k)) (eqb (target % movedBy (rowOf size v opc)) 0) _ _
+      (fitted-silent (siteOf b k (lentEntry entries k)) (eqb (target % movedBy (rowOf size v opc)) 0) _ _
       (sym
       (ap (λ (c : Change). c .told)
       (offset-does-it b k _ _ _ _ _ r
-      ∙ ap (λ (x : OffsetWord). fitted (siteOf b k (entryAt entries k)) x) (load-store-patched _ size v opc rt rn imm12 target d)))
+      ∙ ap (λ (x : OffsetWord). fitted (siteOf b k (lentEntry entries k)) x) (load-store-patched _ size v opc rt rn imm12 target d)))
       ∙ unreported l u))
 
   -- a relaxed page offset had a word that can be relaxed
-  pub relaxed-fits : Relaxed (entryAt entries k) (targetAt targets k) → Unreported f k → canRelax (entryAt entries k .ty) (wordAt entries section k) ≡ true
+  pub relaxed-fits : Relaxed (lentEntry entries k) (lentTarget targets k) → Unreported f k → canRelax (lentEntry entries k .ty) (wordAt entries section k) ≡ true
   relaxed-fits r u =
-      relaxed-silent (siteOf b k (entryAt entries k)) (entryAt entries k .ty) (targetOf (entryAt entries k) (targetAt targets k)) (wordAt entries section k)
+      relaxed-silent (siteOf b k (lentEntry entries k)) (lentEntry entries k .ty) (targetOf (lentEntry entries k) (lentTarget targets k)) (wordAt entries section k)
       (sym (ap (λ (c : Change). c .told) (relaxed-does l r)) ∙ unreported l u)
 
 -- ---- pairs: entry k has a page and the word of an ADRP, entry m the page offset. What the word at m makes or accesses is said of a source
@@ -114,17 +142,17 @@ module _ {section : List ℕ} {b : Bases} {entries targets slots : List ℕ} {f 
   where
     -- the page of a target that the word at k makes
     abbrev pageTo : ℕ → ℕ
-    pageTo target = adrpPage (pageImm target (placeOf b (entryAt entries k))) (placeOf b (entryAt entries k))
+    pageTo target = adrpPage (pageImm target (addressOf b (lentEntry entries k))) (addressOf b (lentEntry entries k))
 
     -- what k's word is then
     abbrev PageAt : ℕ → Type 0
-    PageAt target = decode (wordAt entries (f .section) k) ≡ instruction (ADRP rd (pageImm target (placeOf b (entryAt entries k))))
+    PageAt target = decode (wordAt entries (f .section) k) ≡ instruction (ADRP rd (pageImm target (addressOf b (lentEntry entries k))))
 
-    page-of : {page target : ℕ} → Page (entryAt entries k) (targetAt targets k) page → page ≡ target → Page (entryAt entries k) (targetAt targets k) target
-    page-of r same = subst (λ (t : ℕ). Page (entryAt entries k) (targetAt targets k) t) same r
+    page-of : {page target : ℕ} → Page (lentEntry entries k) (lentTarget targets k) page → page ≡ target → Page (lentEntry entries k) (lentTarget targets k) target
+    page-of r same = subst (λ (t : ℕ). Page (lentEntry entries k) (lentTarget targets k) t) same r
 
     -- an unshifted ADD of 64 bits makes the target that both have: S + A of PAGE21 and PAGEOFF12
-    pub pair-add : {page target : ℕ} → Page (entryAt entries k) (targetAt targets k) page → Offset (entryAt entries m) (targetAt targets m) target
+    pub pair-add : {page target : ℕ} → Page (lentEntry entries k) (lentTarget targets k) page → Offset (lentEntry entries m) (lentTarget targets m) target
         → page ≡ target
         → (rd′ rn imm12 : ℕ) → decode (wordAt entries section m) ≡ instruction (ADD 1 0 rd′ rn imm12)
         → PageAt target
@@ -133,15 +161,15 @@ module _ {section : List ℕ} {b : Bases} {entries targets slots : List ℕ} {f 
     pair-add r r′ same = let p = page-of r same in adrp-add l l′ p (page-in-reach l p u) rd imm d r′
 
     -- of a GOT or TLVP pair that is not relaxed, G + A
-    pub got-add : Page (entryAt entries k) (targetAt targets k) (gotTarget (entryAt entries k) (targetAt targets k)) → GotOffset (entryAt entries m)
-        → canRelaxGot (targetAt targets k) ≡ false
-        → canRelaxGot (targetAt targets m) ≡ false
-        → slotOf (entryAt entries k) (targetAt targets k) ≡ slotOf (entryAt entries m) (targetAt targets m)
+    pub got-add : Page (lentEntry entries k) (lentTarget targets k) (gotTarget (lentEntry entries k) (lentTarget targets k)) → GotOffset (lentEntry entries m)
+        → canRelaxGot (lentTarget targets k) ≡ false
+        → canRelaxGot (lentTarget targets m) ≡ false
+        → slotOf (lentEntry entries k) (lentTarget targets k) ≡ slotOf (lentEntry entries m) (lentTarget targets m)
         → (rd′ rn imm12 : ℕ) → decode (wordAt entries section m) ≡ instruction (ADD 1 0 rd′ rn imm12)
-        → PageAt (slotOf (entryAt entries m) (targetAt targets m))
-        × (decode (wordAt entries (f .section) m) ≡ instruction (ADD 1 0 rd′ rn (field (slotOf (entryAt entries m) (targetAt targets m)) 0 12)))
-        × (M.addValue 1 0 (pageTo (slotOf (entryAt entries m) (targetAt targets m))) (field (slotOf (entryAt entries m) (targetAt targets m)) 0 12)
-        ≡ slotOf (entryAt entries m) (targetAt targets m))
+        → PageAt (slotOf (lentEntry entries m) (lentTarget targets m))
+        × (decode (wordAt entries (f .section) m) ≡ instruction (ADD 1 0 rd′ rn (field (slotOf (lentEntry entries m) (lentTarget targets m)) 0 12)))
+        × (M.addValue 1 0 (pageTo (slotOf (lentEntry entries m) (lentTarget targets m))) (field (slotOf (lentEntry entries m) (lentTarget targets m)) 0 12)
+        ≡ slotOf (lentEntry entries m) (lentTarget targets m))
     got-add r g n n′ same = pair-add r (got-offset g n′) (got-slot _ _ n ∙ same)
 
     module _ (size v opc rt rn imm12 : ℕ) (d′ : decode (wordAt entries section m) ≡ instruction (LDST size v opc rt rn imm12))
@@ -154,7 +182,7 @@ module _ {section : List ℕ} {b : Bases} {entries targets slots : List ℕ} {f 
             × (M.accessAddress (rowOf size v opc) (pageTo target) (target % 2 ^ 12 / movedBy (rowOf size v opc)) ≡ target)
 
         -- a load or store accesses the target that both have: S + A of PAGE21 and PAGEOFF12
-        pub pair-access : {page target : ℕ} → Page (entryAt entries k) (targetAt targets k) page → Offset (entryAt entries m) (targetAt targets m) target
+        pub pair-access : {page target : ℕ} → Page (lentEntry entries k) (lentTarget targets k) page → Offset (lentEntry entries m) (lentTarget targets m) target
             → page ≡ target
             → PageAt target × AccessAt target
         pair-access r r′ same =
@@ -164,25 +192,25 @@ module _ {section : List ℕ} {b : Bases} {entries targets slots : List ℕ} {f 
             (w .0, (w .1, w .2))
 
         -- of a GOT or TLVP pair that is not relaxed, G + A
-        pub got-access : Page (entryAt entries k) (targetAt targets k) (gotTarget (entryAt entries k) (targetAt targets k)) → GotOffset (entryAt entries m)
-            → canRelaxGot (targetAt targets k) ≡ false
-            → canRelaxGot (targetAt targets m) ≡ false
-            → slotOf (entryAt entries k) (targetAt targets k) ≡ slotOf (entryAt entries m) (targetAt targets m)
-            → PageAt (slotOf (entryAt entries m) (targetAt targets m)) × AccessAt (slotOf (entryAt entries m) (targetAt targets m))
+        pub got-access : Page (lentEntry entries k) (lentTarget targets k) (gotTarget (lentEntry entries k) (lentTarget targets k)) → GotOffset (lentEntry entries m)
+            → canRelaxGot (lentTarget targets k) ≡ false
+            → canRelaxGot (lentTarget targets m) ≡ false
+            → slotOf (lentEntry entries k) (lentTarget targets k) ≡ slotOf (lentEntry entries m) (lentTarget targets m)
+            → PageAt (slotOf (lentEntry entries m) (lentTarget targets m)) × AccessAt (slotOf (lentEntry entries m) (lentTarget targets m))
         got-access r g n n′ same = pair-access r (got-offset g n′) (got-slot _ _ n ∙ same)
 
     -- of one that is relaxed, the ADD in the load's place makes S + A
-    pub got-relaxed : Page (entryAt entries k) (targetAt targets k) (gotTarget (entryAt entries k) (targetAt targets k))
-        → Relaxed (entryAt entries m) (targetAt targets m)
+    pub got-relaxed : Page (lentEntry entries k) (lentTarget targets k) (gotTarget (lentEntry entries k) (lentTarget targets k))
+        → Relaxed (lentEntry entries m) (lentTarget targets m)
         → Unreported f m
-        → canRelaxGot (targetAt targets k) ≡ true
-        → targetOf (entryAt entries k) (targetAt targets k) ≡ targetOf (entryAt entries m) (targetAt targets m)
-        → PageAt (targetOf (entryAt entries m) (targetAt targets m))
+        → canRelaxGot (lentTarget targets k) ≡ true
+        → targetOf (lentEntry entries k) (lentTarget targets k) ≡ targetOf (lentEntry entries m) (lentTarget targets m)
+        → PageAt (targetOf (lentEntry entries m) (lentTarget targets m))
         × (decode (wordAt entries (f .section) m)
         ≡ instruction (ADD 1 0 (rdIn (wordAt entries section m)) (rnIn (wordAt entries section m))
-        (field (targetOf (entryAt entries m) (targetAt targets m)) 0 12)))
-        × (M.addValue 1 0 (pageTo (targetOf (entryAt entries m) (targetAt targets m))) (field (targetOf (entryAt entries m) (targetAt targets m)) 0 12)
-        ≡ targetOf (entryAt entries m) (targetAt targets m))
+        (field (targetOf (lentEntry entries m) (lentTarget targets m)) 0 12)))
+        × (M.addValue 1 0 (pageTo (targetOf (lentEntry entries m) (lentTarget targets m))) (field (targetOf (lentEntry entries m) (lentTarget targets m)) 0 12)
+        ≡ targetOf (lentEntry entries m) (lentTarget targets m))
     got-relaxed r r′ u′ x same =
         let p = page-of r (got-address _ _ x ∙ same) in
         adrp-relaxed l l′ p (page-in-reach l p u) rd imm d r′ refl (relaxed-fits l′ r′ u′)

@@ -17,7 +17,7 @@ use Rattle.macho.specs.declared.resolved.Resolved.{Resolved}
 use Rattle.macho.specs.declared.report.Report.{Report}
 use Rattle.arm64_fixup_entry.specs.Check.{checkOf}
 use Rattle.arm64_fixup_entry.specs.Change.{bytesIn, changeOf}
-use Rattle.arm64_fixup.specs.Walk.{entryCount, entryAt, targetAt, takenBy, consumed, checkAll, stored, reportsOf, Fixed}
+use Rattle.arm64_fixup.specs.Walk.{entryCount, lentEntry, lentTarget, takenBy, consumed, checkAll, stored, reportsOf, Fixed}
 use Rattle.arm64_fixup.specs.Walk.{applied, fixTo, fixAll}
 use Rattle.arm64_fixup.specs.Answer.{filled}
 use Rattle.arm64_fixup_entry.specs.declared.target.Bases.{Bases}
@@ -75,13 +75,13 @@ room len b i e t last next nextTarget word h q =
 module _ (b : Bases) (entries targets section : List ℕ) (i : ℕ) (free : consumed entries i ≡ false) where
   -- the entry was checked
   pub fit-at : {e : Reloc} {t : Resolved} {len : ℕ} → checkAll (length section) b entries targets ≡ Fit → i < entryCount entries
-      → e ≡ entryAt entries i → t ≡ targetAt targets i → len ≡ length section → checkOf len b e t (eqb (i + 1) (entryCount entries)) ≡ Fit
+      → e ≡ lentEntry entries i → t ≡ lentTarget targets i → len ≡ length section → checkOf len b e t (eqb (i + 1) (entryCount entries)) ≡ Fit
   fit-at h below pe pt pl =
       rw (pl, pe, pt) (sym (check-worked (length section) b entries targets i free) ∙ passes (length section) b entries targets (entryCount entries) i h below)
 
-  module _ {e : Reloc} {t : Resolved} {c : Change} {k : ℕ} (pe : e ≡ entryAt entries i) (pt : t ≡ targetAt targets i) (pk : k ≡ takenBy (e .ty))
+  module _ {e : Reloc} {t : Resolved} {c : Change} {k : ℕ} (pe : e ≡ lentEntry entries i) (pt : t ≡ lentTarget targets i) (pk : k ≡ takenBy (e .ty))
       {buf : List ℕ} (pb : buf ≡ fixTo b entries targets section i .section)
-      (pc : c ≡ changeOf b i e t (entryAt entries (i + 1)) (targetAt targets (i + 1)) (le 4 buf (e .offset)))
+      (pc : c ≡ changeOf b i e t (lentEntry entries (i + 1)) (lentTarget targets (i + 1)) (le 4 buf (e .offset)))
     where
       step : fixTo b entries targets section (i + k) ≡ applied (fixTo b entries targets section i) (e .offset) c
       step = rw (pc, pb, pk, pe, pt) (fix-next b entries targets section i free)

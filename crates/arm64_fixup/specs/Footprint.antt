@@ -8,17 +8,17 @@ use Rattle.util.specs.Word.{le}
 use Rattle.macho.specs.declared.report.Report.{Report}
 use Rattle.arm64_fixup_entry.specs.Target.{widthOf}
 use Rattle.arm64_fixup_entry.specs.Change.{bytesIn}
-use Rattle.arm64_fixup.specs.Walk.{entryAt, targetAt, entryCount, consumed, Fixed, changeAt, fixTo}
+use Rattle.arm64_fixup.specs.Walk.{lentEntry, lentTarget, entryCount, consumed, Fixed, changeAt, fixTo}
 use Rattle.arm64_fixup.specs.Answer.{fixed, outcomeOf}
 use Rattle.arm64_fixup_entry.specs.declared.target.Bases.{Bases}
 
 -- where entry i's bytes start
 abbrev pub offsetAt : List ℕ → ℕ → ℕ
-offsetAt entries i = entryAt entries i .offset
+offsetAt entries i = lentEntry entries i .offset
 
 -- how many they are: none of an entry that a SUBTRACTOR consumes
 unfoldable pub widthAt : List ℕ → List ℕ → ℕ → ℕ
-widthAt entries targets i = choose (consumed entries i) 0 (widthOf (entryAt entries i) (targetAt targets i))
+widthAt entries targets i = choose (consumed entries i) 0 (widthOf (lentEntry entries i) (lentTarget targets i))
 
 -- byte p is in entry i's footprint: it reads or writes it
 abbrev pub Touches : List ℕ → List ℕ → ℕ → ℕ → Type 0

@@ -14,17 +14,21 @@ use Rattle.arm64_insn.specs.declared.stub.Words3.{Words3}
 use Rattle.arm64_fixup.specs.declared.stub.StubAnswer.{StubAnswer}
 use Rattle.arm64_fixup.specs.declared.stub.StubAnswer.the-variants as S
 
--- three words at the front, where there are 12 bytes
+-- how many bytes a stub entry has, and a thunk entry: three words
+abbrev pub stubSize : ℕ
+stubSize = 12
+
+-- three words at the front, where they have room
 unfoldable pub wordsIn : List ℕ → Words3 → List ℕ
-wordsIn s w = choose (ltb (length s) 12) s (put 4 (put 4 (put 4 s 0 (w .first)) 4 (w .second)) 8 (w .third))
+wordsIn s w = choose (ltb (length s) stubSize) s (put 4 (put 4 (put 4 s 0 (w .first)) 4 (w .second)) 8 (w .third))
 
--- a stub entry at addr with its pointer at ptr: written, with whether ADRP reaches; or fewer than 12 bytes
+-- a stub entry at addr with its pointer at ptr: written, with whether ADRP reaches; or fewer bytes than it has
 unfoldable pub stubAnswer : List ℕ → ℕ → ℕ → StubAnswer
-stubAnswer s addr ptr = choose (ltb (length s) 12) (S.Refused Bounds) (choose (adrpReaches ptr addr) S.Reaches S.OutOfReach)
+stubAnswer s addr ptr = choose (ltb (length s) stubSize) (S.Refused Bounds) (choose (adrpReaches ptr addr) S.Reaches S.OutOfReach)
 
--- a thunk entry: fewer than 12 bytes, or it is written
+-- a thunk entry: fewer bytes than it has, or it is written
 unfoldable pub thunkCheck : List ℕ → Check
-thunkCheck s = choose (ltb (length s) 12) (C.Refused Bounds) C.Fit
+thunkCheck s = choose (ltb (length s) stubSize) (C.Refused Bounds) C.Fit
 
 -- the number (RULES 3.1) of a stub's answer, 0 for none
 abbrev pub stubNumber : StubAnswer → ℕ

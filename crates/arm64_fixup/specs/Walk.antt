@@ -22,13 +22,13 @@ use Rattle.arm64_fixup_entry.specs.declared.change.Told.{Told}
 use Rattle.arm64_fixup_entry.specs.declared.change.Told.the-variants.{Silent, Report}
 use Rattle.arm64_fixup_entry.specs.declared.change.Change.{Change}
 
--- entry i
-abbrev pub entryAt : List ℕ → ℕ → Reloc
-entryAt entries i = relocAt entries (relocSize * i)
+-- entry i of the lent list
+abbrev pub lentEntry : List ℕ → ℕ → Reloc
+lentEntry entries i = relocAt entries (relocSize * i)
 
 -- its target
-abbrev pub targetAt : List ℕ → ℕ → Resolved
-targetAt targets i = resolvedAt targets (resolvedSize * i)
+abbrev pub lentTarget : List ℕ → ℕ → Resolved
+lentTarget targets i = resolvedAt targets (resolvedSize * i)
 
 -- how many entries a list has
 abbrev pub entryCount : List ℕ → ℕ
@@ -45,12 +45,12 @@ takenBy ty = choose (subtracts ty) 2 1
 -- whether the SUBTRACTOR before it takes entry i
 unfoldable pub consumed : List ℕ → ℕ → Bool
 consumed entries zero = false
-consumed entries (suc i) = subtracts (entryAt entries i .ty) && not (consumed entries i)
+consumed entries (suc i) = subtracts (lentEntry entries i .ty) && not (consumed entries i)
 
 -- the check of entry i; a consumed one is not looked at
 unfoldable pub checkAt : ℕ → Bases → List ℕ → List ℕ → ℕ → Check
 checkAt len b entries targets i =
-    choose (consumed entries i) Fit (checkOf len b (entryAt entries i) (targetAt targets i) (eqb (i + 1) (entryCount entries)))
+    choose (consumed entries i) Fit (checkOf len b (lentEntry entries i) (lentTarget targets i) (eqb (i + 1) (entryCount entries)))
 
 -- the first refusal of two checks
 abbrev pub first : Check → Check → Check
@@ -84,11 +84,11 @@ pub record Fixed : Type 0 where
 
 -- what an entry i does to the section: the next entry and the word at its place are looked up
 abbrev pub changeBy : Bases → List ℕ → List ℕ → List ℕ → ℕ → Reloc → Resolved → Change
-changeBy b entries targets section i e t = changeOf b i e t (entryAt entries (i + 1)) (targetAt targets (i + 1)) (le 4 section (e .offset))
+changeBy b entries targets section i e t = changeOf b i e t (lentEntry entries (i + 1)) (lentTarget targets (i + 1)) (le 4 section (e .offset))
 
 -- what entry i of the list does to the section
 abbrev pub changeAt : Bases → List ℕ → List ℕ → List ℕ → ℕ → Change
-changeAt b entries targets section i = changeBy b entries targets section i (entryAt entries i) (targetAt targets i)
+changeAt b entries targets section i = changeBy b entries targets section i (lentEntry entries i) (lentTarget targets i)
 
 -- a change at a place
 abbrev pub applied : Fixed → ℕ → Change → Fixed
@@ -96,7 +96,7 @@ applied f at c = record { section = stored (f .section) at (c .write); reports =
 
 -- entry i after those before it; a consumed one does nothing of its own
 unfoldable pub workAt : Bases → List ℕ → List ℕ → Fixed → ℕ → Fixed
-workAt b entries targets f i = choose (consumed entries i) f (applied f (entryAt entries i .offset) (changeAt b entries targets (f .section) i))
+workAt b entries targets f i = choose (consumed entries i) f (applied f (lentEntry entries i .offset) (changeAt b entries targets (f .section) i))
 
 -- the first k entries, from the lent section on
 unfoldable pub fixTo : Bases → List ℕ → List ℕ → List ℕ → ℕ → Fixed

@@ -11,7 +11,7 @@ ghost use Prim.Native.Nat.{_≤_};
 ghost use lib.ListN.{length};
 ghost use Rattle.util.specs.Word.{put};
 ghost use Rattle.arm64_insn.specs.Stub.{stubWords, thunkWords};
-ghost use Rattle.arm64_fixup.specs.Stub.{wordsIn, stubAnswer, thunkCheck};
+ghost use Rattle.arm64_fixup.specs.Stub.{stubSize, wordsIn, stubAnswer, thunkCheck};
 
 // What became of a stub entry: written, and whether its ADRP reaches the pointer's page.
 pub enum StubAnswer {
@@ -20,14 +20,12 @@ pub enum StubAnswer {
     Refused(Refusal),
 }
 
-// How many bytes an entry has.
+// How many bytes a stub entry has, and a thunk entry.
 const STUB_SIZE: usize = 12;
-
-const THUNK_SIZE: usize = 12;
 
 // Stores three words at the front.
 fn write_words(buf: &mut [u8], w: Words3)
-    requires { ⌜ 12 ≤ length (now buf) ⌝ }
+    requires { ⌜ stubSize ≤ length (now buf) ⌝ }
     ensures { λ _. ⌜ now (buf .exit) ≡ put 4 (put 4 (put 4 (now (buf .entry)) 0 (w .first)) 4 (w .second)) 8 (w .third) ⌝ }
 {
     write32(buf, 0, w.first);
@@ -55,7 +53,7 @@ pub fn write_thunk(buf: &mut [u8], addr: u64, target: u64) -> Check
     ensures answer { λ r. ⌜ r ≡ thunkCheck (now (buf .entry)) ⌝ }
     ensures bytes { λ _. ⌜ now (buf .exit) ≡ wordsIn (now (buf .entry)) (thunkWords addr target) ⌝ }
 {
-    if buf.len() < THUNK_SIZE {
+    if buf.len() < STUB_SIZE {
         return Check::Refused(Refusal::Bounds);
     }
     write_words(buf, thunk_words(addr, target));

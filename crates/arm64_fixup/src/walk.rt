@@ -116,7 +116,7 @@ fn change_at(
     let at = e.offset as usize;
     let s = Site {
         entry: i as u32,
-        place: bases.base + e.offset as u64,
+        addr: bases.base + e.offset as u64,
     };
     word_change(s, e, t, read32(buf, at))
 }

@@ -12,7 +12,7 @@ use Rattle.macho.specs.Resolved.{hasAddress, canRelaxGot, hasHelper}
 use Rattle.macho.specs.declared.reloc.Reloc.{Reloc}
 use Rattle.macho.specs.declared.resolved.Resolved.{Resolved}
 use Rattle.arm64_insn.specs.Fix.{offsetWith}
-use Rattle.arm64_fixup_entry.specs.Target.{importedSymbol, placeOf, targetOf, slotOf, gotTarget, widthOf}
+use Rattle.arm64_fixup_entry.specs.Target.{importedSymbol, addressOf, targetOf, slotOf, gotTarget, widthOf}
 use Rattle.arm64_fixup_entry.specs.Change.{silent, unsignedValue, subtractorValue, difference, dtraceSiteInsn, branch, branchUnless, page21, fitted}
 use Rattle.arm64_fixup_entry.specs.Change.{pageoff12, gotPage21, gotPageoff12, pointerToGot, wordChange, changeOf}
 use Rattle.arm64_fixup_entry.specs.Roles.{Page, page, got-page, tlv-page, GotOffset, Offset, offset, got-offset}
@@ -23,9 +23,9 @@ use Rattle.arm64_fixup_entry.specs.declared.change.Traced.{Traced}
 use Rattle.arm64_fixup_entry.specs.declared.change.Traced.the-variants.{Untraced}
 use Rattle.arm64_fixup_entry.specs.declared.change.Write.the-variants.{Word, Pointer}
 
--- entry i's number and place
+-- entry i's number and P
 abbrev pub siteOf : Bases → ℕ → Reloc → Site
-siteOf b i e = record { entry = i; place = placeOf b e }
+siteOf b i e = record { entry = i; addr = addressOf b e }
 
 module _ (b : Bases) (i : ℕ) (e : Reloc) (t : Resolved) (next : Reloc) (nextTarget : Resolved) (word : ℕ) where
   pub unsigned-does : e .ty ≡ ARM64-RELOC-UNSIGNED → importedSymbol e t ≡ false

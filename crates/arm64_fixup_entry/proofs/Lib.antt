@@ -3,3 +3,4 @@ pub mod Sound
 pub mod Shapes
 pub mod Width
 pub mod ByType
+pub mod Seen

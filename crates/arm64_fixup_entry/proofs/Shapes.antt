@@ -1,4 +1,4 @@
--- What the change of a word can be: a word with no report, a word with a report of reach, or no word with a report on it.
+-- What the change of a word can be: a word with no report, a word with a report of reach, no word with a report on it, or nothing.
 use Prim.Native.Nat.{ℕ}
 use Rattle.util.proofs.Choice.{chosen}
 use Rattle.macho.specs.declared.reloc.Reloc.{Reloc}
@@ -14,8 +14,8 @@ use Rattle.arm64_fixup_entry.specs.declared.change.Traced.the-variants.{
 use Rattle.arm64_fixup_entry.specs.declared.change.Write.the-variants.{Nothing, Word}
 use Rattle.arm64_fixup_entry.specs.declared.change.Change.{Change}
 
--- what holds of these three holds of the change of any word
-module _ (P : Change → Type 0) (s : Site) (plain : (w : ℕ) → P (silent (Word w)))
+-- what holds of these four holds of the change of any word
+module _ (P : Change → Type 0) (s : Site) (none : P (silent Nothing)) (plain : (w : ℕ) → P (silent (Word w)))
     (far : (w kind target : ℕ) → P (reported (Word w) (reachReport s kind target))) (unfit : (kind size : ℕ) → P (reported Nothing (wordReport s kind size)))
   where
     of-page : (target word : ℕ) → P (page21 s target word)
@@ -52,4 +52,4 @@ module _ (P : Change → Type 0) (s : Site) (plain : (w : ℕ) → P (silent (Wo
         chosen P _ _ _ (of-unless (dtraceSiteInsn e t) _ (of-branch e t word))
         (chosen P _ _ _ (of-page _ word)
         (chosen P _ _ _ (of-offset _ word)
-        (chosen P _ _ _ (of-got-page e t word) (chosen P _ _ _ (of-page _ word) (chosen P _ _ _ (plain _) (of-got-offset e t word))))))
+        (chosen P _ _ _ (of-got-page e t word) (chosen P _ _ _ (of-page _ word) (chosen P _ _ _ (plain _) (chosen P _ _ _ (of-got-offset e t word) none))))))

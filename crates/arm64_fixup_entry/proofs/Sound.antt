@@ -9,7 +9,7 @@ use Rattle.util.specs.Choice.{choose}
 use Rattle.macho.specs.declared.reloc.Reloc.{Reloc}
 use Rattle.macho.specs.declared.resolved.Resolved.{Resolved}
 use Rattle.macho.specs.declared.refusal.Refusal.{Refusal}
-use Rattle.arm64_fixup_entry.specs.Target.{placeOf, widthOf}
+use Rattle.arm64_fixup_entry.specs.Target.{addressOf, widthOf}
 use Rattle.arm64_fixup_entry.specs.Check.{outside, misflagged, overflows, unsupported, subtracts, lacksNext, lacksSymbol, short, checkOf}
 use Rattle.arm64_fixup_entry.specs.declared.target.Bases.{Bases}
 use Rattle.macho.specs.declared.refusal.Check.{Check}
@@ -18,7 +18,7 @@ use Rattle.macho.specs.declared.refusal.Check.the-variants.{Fit, Refused}
 -- an entry that is turned down with no number
 pub record Sound (len : ℕ) (b : Bases) (e : Reloc) (t : Resolved) (last : Bool) : Type 0 where
   pub flags : misflagged t ≡ false
-  pub place : placeOf b e < 2 ^ 64
+  pub address : addressOf b e < 2 ^ 64
   pub known : e .ty < 10
   pub paired : lacksNext (e .ty) last ≡ false
   pub symbol : lacksSymbol e t ≡ false
@@ -42,7 +42,7 @@ sound len b e t last h =
     let p₇ = passed (short len e t) _ _ (p₆ .1) in
     record {
       flags = p₂ .0;
-      place = leb-false _ _ (p₃ .0);
+      address = leb-false _ _ (p₃ .0);
       known = leb-false _ _ (p₄ .0);
       paired = p₅ .0;
       symbol = p₆ .0;

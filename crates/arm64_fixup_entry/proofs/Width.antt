@@ -25,7 +25,7 @@ Fits n c = bytesIn (c .write) ≤ n
 
 word-fits : (s : Site) (e : Reloc) (t : Resolved) (word : ℕ) → Fits 4 (wordChange s e t word)
 unfolding Fits
-word-fits s = of-word (Fits 4) s (λ w. lit≤ tt) (λ w kind target. lit≤ tt) (λ kind size. lit≤ tt)
+word-fits s = of-word (Fits 4) s (lit≤ tt) (λ w. lit≤ tt) (λ w kind target. lit≤ tt) (λ kind size. lit≤ tt)
 
 -- a width that is not 0
 pub wide : (e : Reloc) (t : Resolved) → eqb (widthOf e t) 0 ≡ false → 4 ≤ widthOf e t

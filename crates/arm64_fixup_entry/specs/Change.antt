@@ -6,7 +6,7 @@ use Rattle.util.specs.Choice.{choose}
 use Rattle.util.specs.Wrap.{sum, diff}
 use Rattle.util.specs.Diagram.{matches}
 use Rattle.macho.specs.Types.{ARM64-RELOC-UNSIGNED, ARM64-RELOC-BRANCH26, ARM64-RELOC-PAGE21, ARM64-RELOC-PAGEOFF12, ARM64-RELOC-GOT-LOAD-PAGE21}
-use Rattle.macho.specs.Types.{ARM64-RELOC-GOT-LOAD-PAGEOFF12, ARM64-RELOC-POINTER-TO-GOT, ARM64-RELOC-TLVP-LOAD-PAGE21}
+use Rattle.macho.specs.Types.{ARM64-RELOC-GOT-LOAD-PAGEOFF12, ARM64-RELOC-POINTER-TO-GOT, ARM64-RELOC-TLVP-LOAD-PAGE21, ARM64-RELOC-TLVP-LOAD-PAGEOFF12}
 use Rattle.macho.specs.Report.{adrpReach, branchReach, alignment, nonLdr}
 use Rattle.macho.specs.Resolved.{isTls, canRelaxGot, hasThunk, hasHelper, helperIsOwn, isProbe, isEnabled}
 use Rattle.macho.specs.declared.reloc.Reloc.{Reloc}
@@ -18,7 +18,7 @@ use Rattle.arm64_insn.specs.Branch.{branchReaches, branchWord, helperWord}
 use Rattle.arm64_insn.specs.Fix.{nopWord, isEnabledWord, adrpWith, offsetWith, relaxedWord}
 use Rattle.arm64_insn.specs.declared.fix.OffsetWord.{OffsetWord}
 use Rattle.arm64_insn.specs.declared.fix.OffsetWord.the-variants as OffsetWord
-use Rattle.arm64_fixup_entry.specs.Target.{isSymbol, placeOf, targetOf, slotOf, gotTarget, widthOf}
+use Rattle.arm64_fixup_entry.specs.Target.{isSymbol, addressOf, targetOf, slotOf, gotTarget, widthOf}
 use Rattle.arm64_fixup_entry.specs.Check.{subtracts}
 use Rattle.arm64_fixup_entry.specs.declared.target.Bases.{Bases}
 use Rattle.arm64_fixup_entry.specs.declared.change.Site.{Site}
@@ -43,9 +43,9 @@ silent w = record { write = w; told = Silent }
 abbrev pub reported : Write → R.Report → Change
 reported w r = record { write = w; told = Report r }
 
--- a report of kind 1 or 2, with place and target
+-- a report of kind 1 or 2, with P and the target
 abbrev pub reachReport : Site → ℕ → ℕ → R.Report
-reachReport s kind target = record { entry = s .entry; kind = kind; size = 0; place = s .place; target = target }
+reachReport s kind target = record { entry = s .entry; kind = kind; size = 0; place = s .addr; target = target }
 
 -- a report of kind 3, with the size of the access, or 4, with none
 abbrev pub wordReport : Site → ℕ → ℕ → R.Report
@@ -78,9 +78,9 @@ thunkServes e t target = isSymbol e && hasThunk t && eqb (e .addend) 0 && adrpRe
 -- T - P in the branch's reach; otherwise by the thunk; else report 2, with T - P all the same
 unfoldable pub branch : Site → Reloc → Resolved → ℕ → Change
 branch s e t word =
-    choose (branchReaches (branchTarget e t) (s .place)) (silent (Word (branchWord word (diff (branchTarget e t) (s .place)))))
-    (choose (thunkServes e t (branchTarget e t)) (silent (Word (branchWord word (diff (t .thunk) (s .place)))))
-    (reported (Word (branchWord word (diff (branchTarget e t) (s .place)))) (reachReport s branchReach (branchTarget e t))))
+    choose (branchReaches (branchTarget e t) (s .addr)) (silent (Word (branchWord word (diff (branchTarget e t) (s .addr)))))
+    (choose (thunkServes e t (branchTarget e t)) (silent (Word (branchWord word (diff (t .thunk) (s .addr)))))
+    (reported (Word (branchWord word (diff (branchTarget e t) (s .addr)))) (reachReport s branchReach (branchTarget e t))))
 
 -- the displacement that a branch at p gets: to T in reach; else to the thunk, where it serves; else to T all the same
 abbrev pub displacement : Reloc → Resolved → ℕ → ℕ
@@ -96,8 +96,8 @@ branchUnless Untraced c = c
 -- ADRP to the target's page; out of reach report 1, with the word all the same
 unfoldable pub page21 : Site → ℕ → ℕ → Change
 page21 s target word =
-    choose (adrpReaches target (s .place)) (silent (Word (adrpWith word target (s .place))))
-    (reported (Word (adrpWith word target (s .place))) (reachReport s adrpReach target))
+    choose (adrpReaches target (s .addr)) (silent (Word (adrpWith word target (s .addr))))
+    (reported (Word (adrpWith word target (s .addr))) (reachReport s adrpReach target))
 
 -- a word with its page offset; report 3 where the access size does not divide the target
 abbrev pub fitted : Site → OffsetWord → Change
@@ -111,7 +111,7 @@ pageoff12 s target word = fitted s (offsetWith word target)
 -- a GOT page: B (own) or BL to the helper, where there is one
 unfoldable pub gotPage21 : Site → Reloc → Resolved → ℕ → Change
 gotPage21 s e t word =
-    choose (hasHelper t) (silent (Word (helperWord (helperIsOwn t) (diff (t .helper) (s .place)))))
+    choose (hasHelper t) (silent (Word (helperWord (helperIsOwn t) (diff (t .helper) (s .addr)))))
     (page21 s (gotTarget e t) word)
 
 -- what a relaxed page offset takes: LDR W or X, for GOT also a 64-bit ADD
@@ -128,9 +128,13 @@ gotPageoff12 s e t word = choose (canRelaxGot t) (relaxed s (e .ty) (targetOf e 
 
 -- POINTER_TO_GOT: the low 32 bits of G + A - P
 unfoldable pub pointerToGot : Site → Reloc → Resolved → ℕ
-pointerToGot s e t = diff (slotOf e t) (s .place) % 2 ^ 32
+pointerToGot s e t = diff (slotOf e t) (s .addr) % 2 ^ 32
 
--- the types that work on the 4-byte word at the place; those left at the end are GOT_LOAD_PAGEOFF12 and TLVP_LOAD_PAGEOFF12
+-- the types that put the page offset of a GOT or TLVP slot into a word
+abbrev pub isGotOffset : ℕ → Bool
+isGotOffset ty = eqb ty ARM64-RELOC-GOT-LOAD-PAGEOFF12 || eqb ty ARM64-RELOC-TLVP-LOAD-PAGEOFF12
+
+-- the types that work on the 4-byte word at the place. Any other number would do nothing: 0 and 1 do not come here, the check turns down 10 and above
 unfoldable pub wordChange : Site → Reloc → Resolved → ℕ → Change
 wordChange s e t word =
     choose (eqb (e .ty) ARM64-RELOC-BRANCH26) (branchUnless (dtraceSiteInsn e t) (branch s e t word))
@@ -139,7 +143,8 @@ wordChange s e t word =
     (choose (eqb (e .ty) ARM64-RELOC-GOT-LOAD-PAGE21) (gotPage21 s e t word)
     (choose (eqb (e .ty) ARM64-RELOC-TLVP-LOAD-PAGE21) (page21 s (gotTarget e t) word)
     (choose (eqb (e .ty) ARM64-RELOC-POINTER-TO-GOT) (silent (Word (pointerToGot s e t)))
-    (gotPageoff12 s e t word))))))
+    (choose (isGotOffset (e .ty)) (gotPageoff12 s e t word)
+    (silent Nothing)))))))
 
 -- entry i, with the entry after it and the word at its place: nothing where it touches no byte
 unfoldable pub changeOf : Bases → ℕ → Reloc → Resolved → Reloc → Resolved → ℕ → Change
@@ -147,4 +152,4 @@ changeOf b i e t next nextTarget word =
     choose (eqb (widthOf e t) 0) (silent Nothing)
     (choose (eqb (e .ty) ARM64-RELOC-UNSIGNED) (silent (Pointer (unsignedValue b e t)))
     (choose (subtracts (e .ty)) (difference e (subtractorValue t next nextTarget))
-    (wordChange (record { entry = i; place = placeOf b e }) e t word)))
+    (wordChange (record { entry = i; addr = addressOf b e }) e t word)))

@@ -10,7 +10,7 @@ use Rattle.macho.specs.Resolved.{hasHelper, wellFormed}
 use Rattle.macho.specs.declared.reloc.Reloc.{Reloc}
 use Rattle.macho.specs.declared.resolved.Resolved.{Resolved}
 use Rattle.macho.specs.declared.refusal.Refusal.the-variants.{Bounds, Flags, Overflow, Unsupported, LoneSubtractor, NeedsSymbol}
-use Rattle.arm64_fixup_entry.specs.Target.{placeOf, widthOf}
+use Rattle.arm64_fixup_entry.specs.Target.{addressOf, widthOf}
 use Rattle.arm64_fixup_entry.specs.declared.target.Bases.{Bases}
 use Rattle.macho.specs.declared.refusal.Check.{Check}
 use Rattle.macho.specs.declared.refusal.Check.the-variants.{Fit, Refused}
@@ -25,7 +25,7 @@ misflagged t = not (wellFormed t)
 
 -- number 9: P passes 2^64 - 1
 abbrev pub overflows : Bases → Reloc → Bool
-overflows b e = leb (2 ^ 64) (placeOf b e)
+overflows b e = leb (2 ^ 64) (addressOf b e)
 
 -- number 5: ADDEND, 10, or a type above
 abbrev pub unsupported : ℕ → Bool

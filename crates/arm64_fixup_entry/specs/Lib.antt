@@ -3,3 +3,4 @@ pub mod Target
 pub mod Check
 pub mod Change
 pub mod Roles
+pub mod Seen

@@ -19,9 +19,9 @@ isSymbol e = not (isSection (e .target))
 abbrev pub importedSymbol : Reloc → Resolved → Bool
 importedSymbol e t = isSymbol e && isImported t
 
--- P, the place: base plus offset
-abbrev pub placeOf : Bases → Reloc → ℕ
-placeOf b e = b .base + e .offset
+-- P: base plus offset
+abbrev pub addressOf : Bases → Reloc → ℕ
+addressOf b e = b .base + e .offset
 
 -- S + A
 unfoldable pub targetOf : Reloc → Resolved → ℕ

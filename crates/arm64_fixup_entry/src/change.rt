@@ -20,6 +20,7 @@ use macho::consts::ARM64_RELOC_PAGE21;
 use macho::consts::ARM64_RELOC_PAGEOFF12;
 use macho::consts::ARM64_RELOC_POINTER_TO_GOT;
 use macho::consts::ARM64_RELOC_TLVP_LOAD_PAGE21;
+use macho::consts::ARM64_RELOC_TLVP_LOAD_PAGEOFF12;
 use macho::reloc::Reloc;
 use macho::report::Report;
 use macho::resolved::Resolved;
@@ -27,12 +28,12 @@ ghost use mathlib.Core.Path.{_≡_};
 ghost use Prim.Native.Nat.{_<_};
 ghost use Rattle.arm64_fixup_entry.specs.Change.{silent, reported, reachReport, wordReport, unsignedValue, subtractorValue, difference};
 ghost use Rattle.arm64_fixup_entry.specs.Change.{dtraceSiteInsn, branchTarget, thunkServes, branch, branchUnless, page21, pageoff12};
-ghost use Rattle.arm64_fixup_entry.specs.Change.{gotPage21, canRelax, relaxed, gotPageoff12, pointerToGot, wordChange};
+ghost use Rattle.arm64_fixup_entry.specs.Change.{gotPage21, canRelax, relaxed, gotPageoff12, pointerToGot, isGotOffset, wordChange};
 
-// An entry's number and its place, base plus offset.
+// An entry's number, and P: base plus offset.
 pub struct Site {
     pub entry: u32,
-    pub place: u64,
+    pub addr: u64,
 }
 
 // What an entry stores at its offset.
@@ -80,7 +81,7 @@ fn out_of_reach(s: Site, kind: u8, target: u64, word: u32) -> Change
             entry: s.entry,
             kind,
             size: 0,
-            place: s.place,
+            place: s.addr,
             target,
         }),
     }
@@ -177,12 +178,12 @@ fn branch(s: Site, e: Reloc, t: Resolved, word: u32) -> Change
     ensures { λ r. ⌜ r ≡ branch s e t word ⌝ }
 {
     let target = branch_target(e, t);
-    let direct = branch_word(word, util::wrapping_sub(target, s.place));
-    if branch_reaches(target, s.place) {
+    let direct = branch_word(word, util::wrapping_sub(target, s.addr));
+    if branch_reaches(target, s.addr) {
         return silent(Write::Word(direct));
     }
     if thunk_serves(e, t, target) {
-        return silent(Write::Word(branch_word(word, util::wrapping_sub(t.thunk, s.place))));
+        return silent(Write::Word(branch_word(word, util::wrapping_sub(t.thunk, s.addr))));
     }
     out_of_reach(s, Report::BRANCH_REACH, target, direct)
 }
@@ -201,8 +202,8 @@ pub fn branch26(s: Site, e: Reloc, t: Resolved, word: u32) -> Change
 pub fn page21(s: Site, target: u64, word: u32) -> Change
     ensures { λ r. ⌜ r ≡ page21 s target word ⌝ }
 {
-    let insn = write_adrp_word(word, target, s.place);
-    if adrp_reaches(target, s.place) {
+    let insn = write_adrp_word(word, target, s.addr);
+    if adrp_reaches(target, s.addr) {
         return silent(Write::Word(insn));
     }
     out_of_reach(s, Report::ADRP_REACH, target, insn)
@@ -224,7 +225,7 @@ pub fn got_page21(s: Site, e: Reloc, t: Resolved, word: u32) -> Change
 {
     if t.has_helper() {
         let own = t.helper_is_own();
-        return silent(Write::Word(helper_word(own, util::wrapping_sub(t.helper, s.place))));
+        return silent(Write::Word(helper_word(own, util::wrapping_sub(t.helper, s.addr))));
     }
     page21(s, got_target(e, t), word)
 }
@@ -266,10 +267,20 @@ pub fn got_pageoff12(s: Site, e: Reloc, t: Resolved, word: u32) -> Change
 pub fn pointer_to_got(s: Site, e: Reloc, t: Resolved) -> u32
     ensures { λ r. ⌜ r ≡ pointerToGot s e t ⌝ }
 {
-    (util::wrapping_sub(slot_of(e, t), s.place) % 0x1_0000_0000) as u32
+    (util::wrapping_sub(slot_of(e, t), s.addr) % 0x1_0000_0000) as u32
 }
 
-// The types that work on the word at the place.
+// Whether a type puts the page offset of a GOT or TLVP slot into a word.
+fn is_got_offset(ty: u8) -> bool
+    ensures { λ r. ⌜ r ≡ isGotOffset ty ⌝ }
+{
+    if ty == ARM64_RELOC_GOT_LOAD_PAGEOFF12 {
+        return true;
+    }
+    ty == ARM64_RELOC_TLVP_LOAD_PAGEOFF12
+}
+
+// The types that work on the word at the place; any other number does nothing, and the check turns down 10 and above.
 pub fn word_change(s: Site, e: Reloc, t: Resolved, word: u32) -> Change
     ensures { λ r. ⌜ r ≡ wordChange s e t word ⌝ }
 {
@@ -291,5 +302,8 @@ pub fn word_change(s: Site, e: Reloc, t: Resolved, word: u32) -> Change
     if e.ty == ARM64_RELOC_POINTER_TO_GOT {
         return silent(Write::Word(pointer_to_got(s, e, t)));
     }
-    got_pageoff12(s, e, t, word)
+    if is_got_offset(e.ty) {
+        return got_pageoff12(s, e, t, word);
+    }
+    silent(Write::Nothing)
 }

@@ -1,12 +1,19 @@
 -- What the fix-up makes of a section: the theorems of arm64_fixup, gathered by entry.
-use mathlib.Core.Path.{_≡_, refl}
+use mathlib.Core.Path.{_≡_, refl, ap, _∙_}
 use mathlib.Core.List.{List}
 use Prim.Native.Nat.{ℕ}
+use native.Mathlib.Omega.{arith}
+use Rattle.util.specs.Choice.{choose}
+use Rattle.macho.specs.Refusal.{answerNumber}
+use Rattle.macho.specs.declared.refusal.Answer.{Answer}
+use Rattle.macho.specs.declared.refusal.Answer.the-variants.{Filled, Refused}
 use Rattle.arm64_insn.specs.Manual.{ADRP, instruction, decode}
 use Rattle.arm64_fixup_entry.specs.declared.target.Bases.{Bases}
 use Rattle.arm64_fixup.specs.Walk.{Fixed}
+use Rattle.arm64_fixup.specs.Answer.{basesOf, answerTo, sectionTo}
 use Rattle.arm64_fixup.specs.Footprint.{Lone, Unreported, wordAt}
 use Rattle.arm64_fixup.proofs.Means as Means
+use Rattle.arm64_fixup.proofs.Reports.{none-filled, none-named, must-serve}
 use Rattle.arm64_fixup.proofs.Unreported as U
 use Rattle.arm64_fixup.proofs.Branches as Branches
 use Rattle.arm64_fixup.proofs.Values as Values
@@ -15,6 +22,8 @@ use Rattle.arm64_fixup.proofs.Footprint as Footprint
 use Rattle.arm64_fixup.proofs.Bytewise.{reads-touch}
 use Rattle.arm64_fixup.proofs.StubEntry as Stub
 use Rattle.arm64_fixup.proofs.Examples as Examples
+use Rattle.hauklivo.specs.Lent.{lentNumber, lentCount}
+use Rattle.hauklivo.proofs.Lent.{lent-kept}
 use Rattle.claims.specs.Fixup.{Entry, Pair, Fixup}
 
 module _ {section : List ℕ} {b : Bases} {entries targets slots : List ℕ} {f : Fixed} {k : ℕ} (l : Lone section b entries targets slots f k) where
@@ -34,6 +43,8 @@ module _ {section : List ℕ} {b : Bases} {entries targets slots : List ℕ} {f 
         goes-by-thunk = Branches.goes-by-thunk l;
         b-goes = U.b-goes l;
         bl-goes = U.bl-goes l;
+        must-serve = must-serve l;
+        unreported-goes = U.goes-somewhere l;
         probe-site = Branches.probe-site l;
         is-enabled-site = Branches.is-enabled-site l;
         helper-own = Branches.helper-own l;
@@ -62,12 +73,28 @@ module _ {section : List ℕ} {b : Bases} {entries targets slots : List ℕ} {f 
           got-relaxed = λ p r u′ n e. let q = U.got-relaxed l u l′ rd imm d p r u′ n e in (q .0, (q .1, q .2));
         }
 
+-- an answer with number 0 and count 0
+no-report : (a : Answer) (count : ℕ) → answerNumber a ≡ 0 → lentCount a count ≡ 0 → a ≡ Filled 0
+unfolding lentCount lentNumber choose
+no-report (Filled n) count h c = ap Filled c
+no-report (Refused x) count h c = absurd (omega (arith, kept))
+  where
+    kept : _≡_ {A = ℕ} 0 1
+    kept = lent-kept x 1 0 ∙ ap (λ (n : ℕ). lentNumber n 1 0) h
+
 pub fixup : Fixup
 fixup =
     record {
       entry-alone = λ section b entries targets slots f k l. entry l;
       pair-alone = λ section b entries targets slots f k m l l′ u rd imm d. pair l l′ u rd imm d;
       second-alone = Examples.second-lone;
+      both-alone =
+          let r = Examples.both-roles in
+          (Examples.both-lone .0, Examples.both-lone .1, λ k. none-named (Examples.pairFixed .section) k, r .0, r .1, r .2, r .3);
+      none-reported = λ section base tls entries targets slots count n c. (
+        none-filled section (basesOf base tls) entries targets slots (no-report (answerTo section base tls entries targets slots) count n c),
+        λ k. none-named (sectionTo section base tls entries targets slots) k,
+      );
       unwritten = Footprint.unwritten;
       only = λ section b entries targets slots {f} a k below alone. Footprint.only section b entries targets slots a k below alone;
       last-written = λ section b entries targets slots {f} a k below. Footprint.last-written section b entries targets slots a k below;

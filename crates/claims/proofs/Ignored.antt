@@ -21,6 +21,8 @@ ignored =
       fix-up-alike = λ b entries entries′ targets targets′ section slots le lt w t.
           Fixup.ignored b entries entries′ targets targets′ (record { length-entries = le; length-targets = lt; worked = w; taken = t }) section slots;
       fix-up-spare = Fixup.spare-bytes;
+      fix-up-size = Fixup.size-byte;
+      fix-up-target-bits = Fixup.target-byte;
       fix-up-taken = Fixup.consumed-entry;
       fix-up-taken-target = Fixup.consumed-target;
       hint-bytes = Hints.ignored-bytes;

@@ -1,4 +1,4 @@
--- What the fix-up makes of a section (RULES 5.8 to 5.26, 6): of an entry that stands alone, what its word means then; which bytes change; one stub or thunk
+-- What the fix-up makes of a section (RULES 5.8 to 5.27, 6): of an entry that stands alone, what its word means then; which bytes change; one stub or thunk
 -- entry.
 use mathlib.Core.Path.{_≡_}
 use mathlib.Core.Bool.{true, false}
@@ -24,15 +24,16 @@ use Rattle.arm64_insn.specs.Branch.{branchReaches}
 use Rattle.arm64_insn.specs.Fix.{scaleOf}
 use Rattle.arm64_insn.specs.Stub.{stubWords, thunkWords}
 use Rattle.arm64_insn.specs.declared.stub.Words3.{Words3}
-use Rattle.arm64_fixup_entry.specs.Target.{isSymbol, importedSymbol, placeOf, targetOf, slotOf, gotTarget, widthOf}
+use Rattle.arm64_fixup_entry.specs.Target.{isSymbol, importedSymbol, addressOf, targetOf, slotOf, gotTarget, widthOf}
 use Rattle.arm64_fixup_entry.specs.Change.{branchTarget, thunkServes, dtraceSiteInsn, displacement, canRelax}
 use Rattle.arm64_fixup_entry.specs.Roles.{Page, GotOffset, Offset, Relaxed}
 use Rattle.arm64_fixup_entry.specs.declared.change.Traced.the-variants.{Untraced}
 use Rattle.arm64_fixup_entry.specs.declared.target.Bases.{Bases}
-use Rattle.arm64_fixup.specs.Walk.{entryAt, targetAt, entryCount, consumed, Fixed, stored, changeAt}
-use Rattle.arm64_fixup.specs.Answer.{basesOf, fixed, outcomeOf, sectionAfter}
+use Rattle.arm64_fixup.specs.Walk.{lentEntry, lentTarget, entryCount, consumed, Fixed, stored, changeAt}
+use Rattle.arm64_fixup.specs.Answer.{basesOf, fixed, outcomeOf, sectionAfter, sectionTo}
 use Rattle.arm64_fixup.specs.Footprint.{offsetAt, Touches, Writes, Alone, Lone, Unreported, wordAt, pointerAt}
-use Rattle.arm64_fixup.specs.Stub.{wordsIn, stubAnswer, stubNumber, thunkCheck}
+use Rattle.arm64_fixup.specs.Stub.{stubSize, wordsIn, stubAnswer, stubNumber, thunkCheck}
+use Rattle.hauklivo.specs.Fixup.{numberTo, countTo}
 use Rattle.claims.specs.Lent as Lent
 use Rattle.claims.specs.Lent.{has-address, resolved}
 
@@ -41,15 +42,15 @@ use Rattle.claims.specs.Lent.{has-address, resolved}
 module _ (section : List ℕ) (b : Bases) (entries targets : List ℕ) (f : Fixed) (k : ℕ) where
   -- the entry
   abbrev pub entry : Reloc
-  entry = entryAt entries k
+  entry = lentEntry entries k
 
   -- its target
   abbrev pub target : Resolved
-  target = targetAt targets k
+  target = lentTarget targets k
 
   -- P
   abbrev pub P : ℕ
-  P = placeOf b entry
+  P = addressOf b entry
 
   -- the 4-byte word at its place before
   abbrev pub old : ℕ
@@ -98,7 +99,7 @@ module _ (section : List ℕ) (b : Bases) (entries targets : List ℕ) (f : Fixe
         → Manual.branchTarget branchImm P ≡ T
     -- else, where a thunk serves and is in reach, to the thunk
     pub goes-by-thunk : entry .ty ≡ ARM64-RELOC-BRANCH26 → dtraceSiteInsn entry target ≡ Untraced → branchReaches T P ≡ false
-        → thunkServes entry target T ≡ true → branchReaches (target .thunk) P ≡ true → target .thunk < 2 ^ 64 → target .thunk % 4 ≡ 0 → P % 4 ≡ 0
+        → thunkServes entry target T ≡ true → branchReaches (target .thunk) P ≡ true → target .thunk % 4 ≡ 0 → P % 4 ≡ 0
         → Manual.branchTarget branchImm P ≡ target .thunk
     -- one that is not reported, and takes no thunk, goes to T
     pub b-goes : entry .ty ≡ ARM64-RELOC-BRANCH26 → dtraceSiteInsn entry target ≡ Untraced → Unreported f k
@@ -109,6 +110,15 @@ module _ (section : List ℕ) (b : Bases) (entries targets : List ℕ) (f : Fixe
         → (branchReaches T P ≡ true) ⊎ (thunkServes entry target T ≡ false) → T % 4 ≡ 0 → P % 4 ≡ 0
         → (imm26 : ℕ) → decode old ≡ instruction (BL imm26)
         → (decode new ≡ instruction (BL branchImm)) × (Manual.branchTarget branchImm P ≡ T)
+    -- RULES 5.27: one that is not reported and does not reach T is one that a thunk serves
+    pub must-serve : entry .ty ≡ ARM64-RELOC-BRANCH26 → dtraceSiteInsn entry target ≡ Untraced → Unreported f k → branchReaches T P ≡ false
+        → thunkServes entry target T ≡ true
+    -- so each that is not reported goes to T, which it reaches; or to a thunk that serves, where it reaches that: whether it does is not asked
+    pub unreported-goes : entry .ty ≡ ARM64-RELOC-BRANCH26 → dtraceSiteInsn entry target ≡ Untraced → Unreported f k → P % 4 ≡ 0
+        → ((branchReaches T P ≡ true) × (T % 4 ≡ 0 → Manual.branchTarget branchImm P ≡ T))
+        ⊎ ((branchReaches T P ≡ false)
+        × (thunkServes entry target T ≡ true)
+        × (branchReaches (target .thunk) P ≡ true → target .thunk % 4 ≡ 0 → Manual.branchTarget branchImm P ≡ target .thunk))
     -- RULES 5.12: tracing sites
     pub probe-site : entry .ty ≡ ARM64-RELOC-BRANCH26 → isSymbol entry ≡ true → isProbe target ≡ true → decode new ≡ instruction NOP
     pub is-enabled-site : entry .ty ≡ ARM64-RELOC-BRANCH26 → isSymbol entry ≡ true → isProbe target ≡ false → isEnabled target ≡ true
@@ -119,7 +129,7 @@ module _ (section : List ℕ) (b : Bases) (entries targets : List ℕ) (f : Fixe
     pub helper-shared : entry .ty ≡ ARM64-RELOC-GOT-LOAD-PAGE21 → hasHelper target ≡ true → helperIsOwn target ≡ false
         → decode new ≡ instruction (BL (field (diff (target .helper) P) 2 26))
     pub helper-goes : entry .ty ≡ ARM64-RELOC-GOT-LOAD-PAGE21 → hasHelper target ≡ true → branchReaches (target .helper) P ≡ true
-        → target .helper < 2 ^ 64 → target .helper % 4 ≡ 0 → P % 4 ≡ 0
+        → target .helper % 4 ≡ 0 → P % 4 ≡ 0
         → Manual.branchTarget (field (diff (target .helper) P) 2 26) P ≡ target .helper
     -- RULES 5.10: UNSIGNED of anything but an imported symbol: S + A; of a thread-local less the start of thread-local storage
     pub unsigned-plain : entry .ty ≡ ARM64-RELOC-UNSIGNED → importedSymbol entry target ≡ false → isTls target ≡ false
@@ -128,9 +138,9 @@ module _ (section : List ℕ) (b : Bases) (entries targets : List ℕ) (f : Fixe
         → pointerAt entries (f .section) k ≡ diff (sum (target .addr) (entry .addend)) (b .«tls_begin»)
     -- RULES 5.11: SUBTRACTOR: S + A of the next entry less the own S, its low 4 bytes or all 8
     pub subtractor-4 : entry .ty ≡ ARM64-RELOC-SUBTRACTOR → entry .size ≡ 4
-        → new ≡ diff (sum (targetAt targets (k + 1) .addr) (entryAt entries (k + 1) .addend)) (target .addr) % 2 ^ 32
+        → new ≡ diff (sum (lentTarget targets (k + 1) .addr) (lentEntry entries (k + 1) .addend)) (target .addr) % 2 ^ 32
     pub subtractor-8 : entry .ty ≡ ARM64-RELOC-SUBTRACTOR → (entry .size ≡ 4 → ⊥)
-        → pointerAt entries (f .section) k ≡ diff (sum (targetAt targets (k + 1) .addr) (entryAt entries (k + 1) .addend)) (target .addr)
+        → pointerAt entries (f .section) k ≡ diff (sum (lentTarget targets (k + 1) .addr) (lentEntry entries (k + 1) .addend)) (target .addr)
     -- RULES 5.21: POINTER_TO_GOT: the low 32 bits of G + A - P
     pub pointer-to-got : entry .ty ≡ ARM64-RELOC-POINTER-TO-GOT → new ≡ diff (sum (target .got) (entry .addend)) P % 2 ^ 32
     -- RULES 5.23, 7.26: whatever the word is, which bits change: of a page bits 30, 29 and 23 to 5
@@ -154,11 +164,11 @@ module _ (section : List ℕ) (b : Bases) (entries targets : List ℕ) (f : Fixe
 module _ (section : List ℕ) (b : Bases) (entries targets : List ℕ) (f : Fixed) (k m : ℕ) where
   -- the address that entry i refers to where it is not relaxed
   abbrev pub G+A : ℕ → ℕ
-  G+A i = slotOf (entryAt entries i) (targetAt targets i)
+  G+A i = slotOf (lentEntry entries i) (lentTarget targets i)
 
   -- where it is relaxed
   abbrev pub S+A : ℕ → ℕ
-  S+A i = targetOf (entryAt entries i) (targetAt targets i)
+  S+A i = targetOf (lentEntry entries i) (lentTarget targets i)
 
   -- the page of an address, as the ADRP at k makes it
   abbrev pub pageTo : ℕ → ℕ
@@ -182,23 +192,39 @@ module _ (section : List ℕ) (b : Bases) (entries targets : List ℕ) (f : Fixe
   -- the words at k, an ADRP into rd, and at m together, where no report names k
   pub record Pair (rd : ℕ) : Type 0 where
     -- PAGE21 and PAGEOFF12 make, or access, S + A; so do pairs whose page and page offset are of one address
-    pub pair-add : {a : ℕ} → Page (entryAt entries k) (targetAt targets k) a → Offset (entryAt entries m) (targetAt targets m) a
+    pub pair-add : {a : ℕ} → Page (lentEntry entries k) (lentTarget targets k) a → Offset (lentEntry entries m) (lentTarget targets m) a
         → (rd′ rn imm12 : ℕ) → decode (wordAt entries section m) ≡ instruction (ADD 1 0 rd′ rn imm12) → PageAt rd a × AddAt rd′ rn a
-    pub pair-access : {a : ℕ} → Page (entryAt entries k) (targetAt targets k) a → Offset (entryAt entries m) (targetAt targets m) a
+    pub pair-access : {a : ℕ} → Page (lentEntry entries k) (lentTarget targets k) a → Offset (lentEntry entries m) (lentTarget targets m) a
         → (size v opc rt rn imm12 : ℕ) → decode (wordAt entries section m) ≡ instruction (LDST size v opc rt rn imm12) → Unreported f m
         → PageAt rd a × AccessAt size v opc rt rn a
     -- a GOT or TLVP pair that is not relaxed G + A
-    pub got-add : Page (entryAt entries k) (targetAt targets k) (gotTarget (entryAt entries k) (targetAt targets k)) → GotOffset (entryAt entries m)
-        → canRelaxGot (targetAt targets k) ≡ false → canRelaxGot (targetAt targets m) ≡ false → G+A k ≡ G+A m
+    pub got-add : Page (lentEntry entries k) (lentTarget targets k) (gotTarget (lentEntry entries k) (lentTarget targets k)) → GotOffset (lentEntry entries m)
+        → canRelaxGot (lentTarget targets k) ≡ false → canRelaxGot (lentTarget targets m) ≡ false → G+A k ≡ G+A m
         → (rd′ rn imm12 : ℕ) → decode (wordAt entries section m) ≡ instruction (ADD 1 0 rd′ rn imm12) → PageAt rd (G+A m) × AddAt rd′ rn (G+A m)
-    pub got-access : Page (entryAt entries k) (targetAt targets k) (gotTarget (entryAt entries k) (targetAt targets k)) → GotOffset (entryAt entries m)
-        → canRelaxGot (targetAt targets k) ≡ false → canRelaxGot (targetAt targets m) ≡ false → G+A k ≡ G+A m
+    pub got-access : Page (lentEntry entries k) (lentTarget targets k) (gotTarget (lentEntry entries k) (lentTarget targets k)) → GotOffset (lentEntry entries m)
+        → canRelaxGot (lentTarget targets k) ≡ false → canRelaxGot (lentTarget targets m) ≡ false → G+A k ≡ G+A m
         → (size v opc rt rn imm12 : ℕ) → decode (wordAt entries section m) ≡ instruction (LDST size v opc rt rn imm12) → Unreported f m
         → PageAt rd (G+A m) × AccessAt size v opc rt rn (G+A m)
     -- one that is relaxed S + A, by the ADD in the load's place
-    pub got-relaxed : Page (entryAt entries k) (targetAt targets k) (gotTarget (entryAt entries k) (targetAt targets k))
-        → Relaxed (entryAt entries m) (targetAt targets m) → Unreported f m → canRelaxGot (targetAt targets k) ≡ true → S+A k ≡ S+A m
+    pub got-relaxed : Page (lentEntry entries k) (lentTarget targets k) (gotTarget (lentEntry entries k) (lentTarget targets k))
+        → Relaxed (lentEntry entries m) (lentTarget targets m) → Unreported f m → canRelaxGot (lentTarget targets k) ≡ true → S+A k ≡ S+A m
         → PageAt rd (S+A m) × AddAt (rdIn (wordAt entries section m)) (rnIn (wordAt entries section m)) (S+A m)
+
+-- ---- "adrp x0, 0" and "add x0, x0, #0" at 0x1000, under PAGE21 and PAGEOFF12 to 0x5678
+
+-- the words, and what the fix-up makes of them
+abbrev pub pairWords : List ℕ
+pairWords = bytes 4 0x90000000 ++ bytes 4 0x91000000
+
+abbrev pub pairFixed : Fixed
+pairFixed = record { section = bytes 4 0x90000020 ++ bytes 4 0x9119e000; reports = [] }
+
+-- the entries and their targets
+abbrev pub pairEntries : List ℕ
+pairEntries = Lent.entry ARM64-RELOC-PAGE21 0 0 ++ Lent.entry ARM64-RELOC-PAGEOFF12 4 0
+
+abbrev pub pairTargets : List ℕ
+pairTargets = resolved 0x5678 has-address ++ resolved 0x5678 has-address
 
 -- ---- the claims
 
@@ -218,6 +244,20 @@ pub record Fixup : Type 0 where
       (bytes 48 0)
       (record { section = bytes 4 0xf9411c00; reports = record { entry = 0; kind = 3; size = 8; place = 0; target = 0 } ∷ [] })
       1
+  -- nor are the premises of a pair: both entries stand alone, no report names them, and page and page offset are of one address
+  pub both-alone : Lone pairWords (basesOf 0x1000 0) pairEntries pairTargets (bytes 48 0) pairFixed 0
+      × Lone pairWords (basesOf 0x1000 0) pairEntries pairTargets (bytes 48 0) pairFixed 1
+      × ((k : ℕ) → Unreported pairFixed k)
+      × Page (lentEntry pairEntries 0) (lentTarget pairTargets 0) 0x5678
+      × Offset (lentEntry pairEntries 1) (lentTarget pairTargets 1) 0x5678
+      × (decode (wordAt pairEntries pairWords 0) ≡ instruction (ADRP 0 0))
+      × (decode (wordAt pairEntries pairWords 1) ≡ instruction (ADD 1 0 0 0 0))
+  -- RULES 5.27: a call that returns 0 and counts no report ends with the section that it leaves and names no entry
+  pub none-reported : (section : List ℕ) (base tls : ℕ) (entries targets slots : List ℕ) (count : ℕ)
+      → numberTo section base tls entries targets slots ≡ 0 → countTo section base tls entries targets slots count ≡ 0
+      → (outcomeOf section (basesOf base tls) entries targets slots
+      ≡ fixed (record { section = sectionTo section base tls entries targets slots; reports = [] }))
+      × ((k : ℕ) → Unreported (record { section = sectionTo section base tls entries targets slots; reports = [] }) k)
   -- RULES 5.24: a byte that no entry writes stays, whatever the call answers
   pub unwritten : (section : List ℕ) (b : Bases) (entries targets slots : List ℕ) (p : ℕ)
       → ((i : ℕ) → i < entryCount entries → Writes section b entries targets i p → ⊥)
@@ -246,21 +286,21 @@ pub record Fixup : Type 0 where
   pub unaddressed-width : (e : Reloc) (t : Resolved) → (e .ty ≡ ARM64-RELOC-PAGE21) ⊎ (e .ty ≡ ARM64-RELOC-PAGEOFF12) → hasAddress t ≡ false
       → widthOf e t ≡ 0
   -- RULES 6.2: the words of a stub entry; in reach it loads the pointer
-  pub stub-entry : (s : List ℕ) (addr ptr : ℕ) → 12 ≤ length s
+  pub stub-entry : (s : List ℕ) (addr ptr : ℕ) → stubSize ≤ length s
       → (decode (le 4 (wordsIn s (stubWords addr ptr)) 0) ≡ instruction (ADRP 16 (pageImm ptr addr)))
       × (decode (le 4 (wordsIn s (stubWords addr ptr)) 4) ≡ instruction (LDST 0b11 0 0b01 16 16 (field ptr 3 9)))
       × (decode (le 4 (wordsIn s (stubWords addr ptr)) 8) ≡ instruction (BR 16))
       × (addr < 2 ^ 64 → ptr < 2 ^ 64 → adrpReaches ptr addr ≡ true → ptr % 8 ≡ 0
       → Manual.accessAddress (rowOf 0b11 0 0b01) (adrpPage (pageImm ptr addr) addr) (field ptr 3 9) ≡ ptr)
   -- RULES 6.3: the words of a thunk entry; in reach it makes the target
-  pub thunk-entry : (s : List ℕ) (addr target : ℕ) → 12 ≤ length s
+  pub thunk-entry : (s : List ℕ) (addr target : ℕ) → stubSize ≤ length s
       → (decode (le 4 (wordsIn s (thunkWords addr target)) 0) ≡ instruction (ADRP 16 (pageImm target addr)))
       × (decode (le 4 (wordsIn s (thunkWords addr target)) 4) ≡ instruction (ADD 1 0 16 16 (field target 0 12)))
       × (decode (le 4 (wordsIn s (thunkWords addr target)) 8) ≡ instruction (BR 16))
       × (addr < 2 ^ 64 → target < 2 ^ 64 → adrpReaches target addr ≡ true
       → Manual.addValue 1 0 (adrpPage (pageImm target addr) addr) (field target 0 12) ≡ target)
-  -- RULES 6.4: the bytes past the 12 stay
-  pub past-entry : (s : List ℕ) (w : Words3) → 12 ≤ length s → (p : ℕ) → 12 ≤ p → getD (wordsIn s w) p 0 ≡ getD s p 0
+  -- RULES 6.4: the bytes past an entry's 12 stay
+  pub past-entry : (s : List ℕ) (w : Words3) → stubSize ≤ length s → (p : ℕ) → stubSize ≤ p → getD (wordsIn s w) p 0 ≡ getD s p 0
   -- RULES 3.7, 6.4: fewer than 12 bytes are number 3, and nothing is written
-  pub short-entry : (s : List ℕ) (addr ptr : ℕ) → length s < 12
+  pub short-entry : (s : List ℕ) (addr ptr : ℕ) → length s < stubSize
       → (stubNumber (stubAnswer s addr ptr) ≡ 3) × (checkNumber (thunkCheck s) ≡ 3) × ((w : Words3) → wordsIn s w ≡ s)

@@ -8,37 +8,24 @@ use lib.Dec.{eqb}
 use lib.ListN.{length, getD, set}
 use Rattle.util.specs.Word.{le}
 use Rattle.macho.specs.MachRel.{idxOf, externOf, typeOf}
-use Rattle.macho.specs.Types.{ARM64-RELOC-ADDEND}
-use Rattle.macho.specs.Reloc.{relocAt}
+use Rattle.macho.specs.Types.{ARM64-RELOC-SUBTRACTOR, ARM64-RELOC-ADDEND}
+use Rattle.macho.specs.Reloc.{relocAt, isSection}
+use Rattle.macho.specs.Resolved.{wellFormed}
 use Rattle.macho.specs.Hint.{hintOf}
 use Rattle.macho.specs.declared.rel.MachRel.{MachRel}
-use Rattle.macho.specs.declared.reloc.Reloc.{Reloc}
 use Rattle.macho.specs.declared.refusal.Answer.the-variants.{Filled}
 use Rattle.arch.specs.Table.{recordAt}
 use Rattle.arch.specs.Walk as Walk
 use Rattle.arch.specs.Walk.{Fills}
 use Rattle.arm64_reader.specs.Read.{readRecords, readRelocs}
 use Rattle.arm64_reader.specs.Fields.{ownOf, lookedAt}
+use Rattle.arm64_fixup_entry.specs.Seen.{seen, SameUse}
 use Rattle.arm64_fixup_entry.specs.declared.target.Bases.{Bases}
-use Rattle.arm64_fixup.specs.Walk.{entryAt, targetAt, entryCount, consumed}
+use Rattle.arm64_fixup.specs.Walk.{lentEntry, lentTarget, entryCount, consumed}
 use Rattle.arm64_fixup.specs.Answer.{outcomeOf, answerOf, sectionAfter, slotsAfter}
 use Rattle.arm64_hint_check.specs.Check.{isList}
 use Rattle.arm64_hint_run.specs.Run.{zeros, runOf, imageOf}
 use Rattle.arm64_hint_run.specs.declared.run.RunAnswer.the-variants.{Done}
-
--- an entry with zeros for its spare bytes, its pc-relative and its subtracted mark, which the fix-up does not look at
-abbrev pub seen : Reloc → Reloc
-seen e =
-    record {
-      offset = e .offset;
-      ty = e .ty;
-      size = e .size;
-      «is_pcrel» = 0;
-      «is_subtracted» = 0;
-      target = e .target;
-      spare = 0;
-      addend = e .addend;
-    }
 
 -- two runs give the same answer and leave the same image
 abbrev pub SameRuns : (image hints hints′ entries entries′ : List ℕ) → Type 0
@@ -74,17 +61,28 @@ pub record Ignored : Type 0 where
       → r .bits ≡ q .bits
       → (typeOf (recordAt xs (length xs - 1) .bits) ≡ ARM64-RELOC-ADDEND → ⊥) ⊎ Fills (readRecords contents sections first xs)
       → readRecords contents sections first (xs ++ (a ∷ (r ∷ ys))) ≡ readRecords contents sections first (xs ++ (b ∷ (q ∷ ys)))
-  -- RULES 3.16: lists that agree but for spare bytes and marks, and for all but addend and address of a taken entry, have the same outcome
+  -- RULES 3.16: lists that agree in what is seen of an entry and in what its type uses of a target, number 11 aside, and of a taken one in addend and
+  -- address, have the same outcome
   pub fix-up-alike : (b : Bases) (entries entries′ targets targets′ section slots : List ℕ)
       → length entries ≡ length entries′ → length targets ≡ length targets′
       → ((i : ℕ) → i < entryCount entries → consumed entries i ≡ false
-      → (seen (entryAt entries i) ≡ seen (entryAt entries′ i)) × (targetAt targets i ≡ targetAt targets′ i))
+      → (seen (lentEntry entries i) ≡ seen (lentEntry entries′ i))
+      × (wellFormed (lentTarget targets i) ≡ wellFormed (lentTarget targets′ i))
+      × SameUse (lentEntry entries i) (lentTarget targets i) (lentTarget targets′ i))
       → ((i : ℕ) → i < entryCount entries → consumed entries i ≡ true
-      → (entryAt entries i .addend ≡ entryAt entries′ i .addend) × (targetAt targets i .addr ≡ targetAt targets′ i .addr))
+      → (lentEntry entries i .addend ≡ lentEntry entries′ i .addend) × (lentTarget targets i .addr ≡ lentTarget targets′ i .addr))
       → outcomeOf section b entries targets slots ≡ outcomeOf section b entries′ targets′ slots
-  -- a spare byte of an entry may hold anything
-  pub fix-up-spare : (section : List ℕ) (b : Bases) (entries targets slots : List ℕ) (i j v : ℕ) → j < 4
-      → outcomeOf section b entries targets slots ≡ outcomeOf section b (set entries (24 * i + 12 + j) v) targets slots
+  -- so a pc-relative or subtracted byte of an entry, and a spare one, may hold anything
+  pub fix-up-spare : (section : List ℕ) (b : Bases) (entries targets slots : List ℕ) (i j v : ℕ) → ((6 ≤ j) × (j < 8)) ⊎ ((12 ≤ j) × (j < 16))
+      → outcomeOf section b entries targets slots ≡ outcomeOf section b (set entries (24 * i + j) v) targets slots
+  -- the size byte, but for SUBTRACTOR
+  pub fix-up-size : (section : List ℕ) (b : Bases) (entries targets slots : List ℕ) (i j v : ℕ) → j ≡ 5
+      → (lentEntry entries i .ty ≡ ARM64-RELOC-SUBTRACTOR → ⊥)
+      → outcomeOf section b entries targets slots ≡ outcomeOf section b (set entries (24 * i + j) v) targets slots
+  -- a byte of the target field that leaves its bit 31
+  pub fix-up-target-bits : (section : List ℕ) (b : Bases) (entries targets slots : List ℕ) (i j v : ℕ) → 8 ≤ j → j < 12
+      → isSection (lentEntry (set entries (24 * i + j) v) i .target) ≡ isSection (lentEntry entries i .target)
+      → outcomeOf section b entries targets slots ≡ outcomeOf section b (set entries (24 * i + j) v) targets slots
   -- and so may each byte of a taken entry but its addend's, and of its target but its address's
   pub fix-up-taken : (section : List ℕ) (b : Bases) (entries targets slots : List ℕ) (i j v : ℕ) → consumed entries i ≡ true → j < 16
       → outcomeOf section b entries targets slots ≡ outcomeOf section b (set entries (24 * i + j) v) targets slots

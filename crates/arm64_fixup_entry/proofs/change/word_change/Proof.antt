@@ -1,10 +1,23 @@
--- `word_change` meets its contract: the type decides the choices.
 use borrow.Author.Tests.{eq-eqb, ne-eqb}
 use Rattle.arm64_fixup_entry.specs.Change.{wordChange}
 use Rattle.util.specs.Choice.{choose}
 use borrow.Author.Needs.{needs}
 use Rattle.arm64_fixup_entry.proofs.change.word_change.Statement.{statement}
 use Rattle.arm64_fixup_entry.proofs.change.word_change.Tie as tie
+use Rattle.arm64_fixup_entry.proofs.change.word_change.Reads as reads
+use Rattle.arm64_fixup_entry.proofs.change.word_change.Lts as lts
+use Rattle.arm64_fixup_entry.proofs.change.branch26.Reads as branch26-reads
+use Rattle.arm64_fixup_entry.proofs.change.got_page21.Reads as got-page21-reads
+use Rattle.arm64_fixup_entry.proofs.change.got_pageoff12.Reads as got-pageoff12-reads
+use Rattle.arm64_fixup_entry.proofs.change.is_got_offset.Reads as is-got-offset-reads
+use Rattle.arm64_fixup_entry.proofs.change.page21.Reads as page21-reads
+use Rattle.arm64_fixup_entry.proofs.change.pageoff12.Reads as pageoff12-reads
+use Rattle.arm64_fixup_entry.proofs.change.pointer_to_got.Reads as pointer-to-got-reads
+use Rattle.arm64_fixup_entry.proofs.change.silent.Reads as silent-reads
+use Rattle.arm64_fixup_entry.proofs.target.got_target.Reads as got-target-reads
+use Rattle.arm64_fixup_entry.proofs.target.target_of.Reads as target-of-reads
+
+-- `word_change` meets its contract: the type decides the choices.
 
 branch26-requires : tie.Need-branch26-requires
 branch26-requires c κs = search needs
@@ -117,20 +130,50 @@ returns-6 c =
       ne-eqb _ _ (if1 .if1 .left),
     )
 
+is-got-offset-requires : tie.Need-is-got-offset-requires
+is-got-offset-requires c κs = search needs
+
 got-pageoff12-requires : tie.Need-got-pageoff12-requires
 got-pageoff12-requires c κs = search needs
 
 returns-7 : tie.Need-returns-7
 unfolding wordChange choose
 returns-7 c =
-    let if5 = c .before .before .before in
+    let if6 = c .before .before .before in
+    let if5 = if6 .before .before in
     let if4 = if5 .before .before in
     let if3 = if4 .before .before in
     let if2 = if3 .before .before in
     let if1 = if2 .before .before in
     simp (
       c .got-pageoff12 .ensures,
-      ne-eqb _ _ (c .before .if6 .left),
+      c .before .if7 .taken,
+      ← c .before .before .is-got-offset .ensures,
+      ne-eqb _ _ (if6 .if6 .left),
+      ne-eqb _ _ (if5 .if5 .left),
+      ne-eqb _ _ (if4 .if4 .left),
+      ne-eqb _ _ (if3 .if3 .left),
+      ne-eqb _ _ (if2 .if2 .left),
+      ne-eqb _ _ (if1 .if1 .left),
+    )
+
+silent-requires-2 : tie.Need-silent-requires-2
+silent-requires-2 c κs = search needs
+
+returns-8 : tie.Need-returns-8
+unfolding wordChange choose
+returns-8 c =
+    let if6 = c .before .before .before in
+    let if5 = if6 .before .before in
+    let if4 = if5 .before .before in
+    let if3 = if4 .before .before in
+    let if2 = if3 .before .before in
+    let if1 = if2 .before .before in
+    simp (
+      c .silent2 .ensures,
+      c .before .if7 .left,
+      ← c .before .before .is-got-offset .ensures,
+      ne-eqb _ _ (if6 .if6 .left),
       ne-eqb _ _ (if5 .if5 .left),
       ne-eqb _ _ (if4 .if4 .left),
       ne-eqb _ _ (if3 .if3 .left),
@@ -158,5 +201,8 @@ word-change-spec =
     pointer-to-got-requires
     silent-requires
     returns-6
+    is-got-offset-requires
     got-pageoff12-requires
-    returns-7)
+    returns-7
+    silent-requires-2
+    returns-8)
