@@ -3,8 +3,11 @@ pub mod Decisions
 pub mod Image
 pub mod Step
 pub mod HintsKept
+pub mod Picked
+pub mod PartCalls
 pub mod Tests
 pub mod Computing
 pub mod Examples
 pub mod ExampleRuns
+pub mod ExampleCalls
 pub mod Needed

@@ -38,6 +38,10 @@ beside =
     ∷ hintIn 5 0 16 12 (place 0 0 0x1010) (place 4 1 0x1014) (place 8 noEntry 0x1018)
     ∷ []
 
+-- the last of them in a call of its own, on the 12 bytes of its part
+abbrev pub besideLast : List HintRecord
+besideLast = hintIn 5 0 0 12 (place 0 0 0x1010) (place 4 1 0x1014) (place 8 noEntry 0x1018) ∷ []
+
 -- their words before the run
 abbrev pub besideWords : List ℕ
 besideWords = words (0x90000000 ∷ 0xf9408001 ∷ 0x90000000 ∷ 0x91000c00 ∷ 0x90001000 ∷ 0x91004000 ∷ 0xf9000001 ∷ [])
