@@ -1,6 +1,6 @@
 -- A set of bits has a record's form where the list has it that the bits were made of: a union's bit is set where one of its parts has it.
 use mathlib.Core.Path.{_≡_, refl, sym, ap, ap₂, _∙_}
-use mathlib.Core.Bool.{Bool, true, false, not, _||_, Bool·beq, true≢false, false≢true}
+use mathlib.Core.Bool.{Bool, true, false, not, _||_, true≢false, false≢true}
 use mathlib.Core.List.{List, [], _∷_}
 use Prim.Native.Nat.{ℕ, zero, suc, _+_, _-_, _*_, _/_, _%_, _^_, _<_}
 use native.Mathlib.Omega.{arith}
@@ -134,13 +134,7 @@ each-form f h r = at (typeOf (r .bits)) (pcrelOf (r .bits)) (p2sizeOf (r .bits))
         let ke : k / 8 % 2 ≡ e = rw eighth (omega arith) in
         rw (kt, kp, ks, ke) at (every-at (λ k. f (k / 16) (k % 2) (k / 2 % 4) (k / 8 % 2)) 256 h k (omega arith))
 
--- tests that are the same, and a test that follows from another
-pub same-test : (a b : Bool) → Bool·beq a b ≡ true → a ≡ b
-same-test true true e = refl
-same-test false false e = refl
-same-test true false e = sym e
-same-test false true e = e
-
+-- a test that follows from another
 pub implied : (a b : Bool) → (not a || b) ≡ true → a ≡ true → b ≡ true
 implied true b h e = h
 implied false b h e = absurd (false≢true e)

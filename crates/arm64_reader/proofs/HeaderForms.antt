@@ -1,7 +1,7 @@
 -- What the headers have against the forms that the linker applies: tests computed over all types and forms.
 use mathlib.Core.Path.{_≡_, refl, sym, _∙_}
 use mathlib.Core.Bool.{Bool, true, false, not, _&&_, _||_}
-use Prim.Native.Nat.{ℕ, _≤_}
+use Prim.Native.Nat.{_≤_}
 use borrow.Author.Tests.{ne-eqb, leb-true}
 use lib.Dec.{eqb, leb}
 use Rattle.util.specs.Choice.{choose}
@@ -10,7 +10,7 @@ use Rattle.macho.specs.MachRel.{p2sizeOf, externOf, typeOf}
 use Rattle.macho.specs.Types.{ARM64-RELOC-UNSIGNED, ARM64-RELOC-ADDEND, ARM64-RELOC-AUTHENTICATED-POINTER}
 use Rattle.macho.specs.declared.rel.MachRel.{MachRel}
 use Rattle.arch.specs.Form.{form, member}
-use Rattle.arch.proofs.Forms.{each-form, same-test, implied}
+use Rattle.arch.proofs.Forms.{each-form, implied}
 use Rattle.arm64_reader.specs.Support.{formsOf, supportedOf}
 use Rattle.arm64_reader.specs.Header.{isPageDistance, inHeader, isDefined}
 

@@ -1,24 +1,22 @@
 -- Two sections one after the other, with their records: a record that reads, reads alike where more contents follow, and moved where contents stand
 -- before. Only the steps that are taken need agree, since the offset of a record after ADDEND is not looked at and may wrap.
 use mathlib.Core.Path.{_≡_, refl, sym, ap, subst, _∙_}
-use mathlib.Core.Logic.{_⊎_, inl, inr}
+use mathlib.Core.Logic.{inr}
 use mathlib.Core.Bool.{Bool, true, false}
 use mathlib.Core.List.{List, [], _∷_, _++_, map}
 use Prim.Native.Nat.{ℕ, zero, suc, _+_, _-_, _%_, _^_, _<_, _≤_}
 use native.Mathlib.Omega.{arith}
-use borrow.Author.Tests.{eq-eqb, ne-eqb, lt-ltb, le-ltb, ltb-true, ltb-false, eqb-true, eqb-false}
+use borrow.Author.Tests.{le-ltb, ltb-true, ltb-false, eqb-true, eqb-false}
 use lib.ListN.{length, drop, replicate, length-append, length-map}
 use lib.Dec.{eqb, ltb}
-use Rattle.util.specs.Bits.{extend}
 use Rattle.util.specs.Choice.{choose}
 use Rattle.util.specs.Word.{le}
 use Rattle.util.proofs.Bytes.{le-append-left}
-use Rattle.macho.specs.MachRel.{idxOf, typeOf, p2sizeOf}
+use Rattle.macho.specs.MachRel.{typeOf, p2sizeOf}
 use Rattle.macho.specs.Types.{ARM64-RELOC-UNSIGNED, ARM64-RELOC-SUBTRACTOR, ARM64-RELOC-ADDEND, ARM64-RELOC-GOT-LOAD-PAGEOFF12, ARM64-RELOC-TLVP-LOAD-PAGEOFF12}
 use Rattle.macho.specs.declared.rel.MachRel.{MachRel}
 use Rattle.macho.specs.declared.reloc.Reloc.{Reloc}
-use Rattle.macho.specs.declared.refusal.Refusal.{Refusal}
-use Rattle.macho.specs.declared.refusal.Refusal.the-variants.{Bounds, LoneAddend}
+use Rattle.macho.specs.declared.refusal.Refusal.the-variants.{Bounds}
 use Rattle.arch.specs.Entry.{entryOf}
 use Rattle.arch.specs.Join.{joined, mapped, moved, recordLater, entryLater}
 use Rattle.arch.specs.Table.{recordAt, subtractedAt}
@@ -35,7 +33,7 @@ use Rattle.arm64_reader.specs.Check.{checkReloc, wordCheck, pointer32}
 use Rattle.arch.specs.Entry.{targeted}
 use Rattle.arch.specs.Target.{targetOf}
 use Rattle.arm64_reader.specs.Support.{supportedOf, formsOf}
-use Rattle.arm64_reader.specs.Record.{addendOf, passing, adding, recordOf, ownAt, stepAt, Reads}
+use Rattle.arm64_reader.specs.Record.{addendOf, passing, adding, recordOf, stepAt, Reads}
 use Rattle.arm64_reader.specs.Read.{readRecords, endsIn}
 use Rattle.arm64_reader.proofs.Steps.{past-is, lone-is, pair-is, other-is, step-onward, step-within}
 use Rattle.arm64_reader.proofs.Moves.{step-moved}

@@ -1,15 +1,17 @@
 -- A plain record reads whatever stands at its place: its form is one that its type takes, it names a symbol, and its type is none of those whose bytes
 -- are looked at. Each by one test of every type and form.
-use mathlib.Core.Path.{_≡_, refl}
+use mathlib.Core.Path.{_≡_, refl, sym, ap, _∙_}
 use mathlib.Core.Bool.{Bool, true, false, not, _&&_, _||_}
 use mathlib.Core.List.{List}
-use Prim.Native.Nat.{ℕ}
-use borrow.Author.Tests.{eqb-false, not-true}
+use Prim.Native.Nat.{ℕ, _/_, _%_, _^_, _<_}
+use native.Mathlib.Omega.{arith}
+use borrow.Author.Tests.{ne-eqb, eqb-false, not-true}
 use lib.Dec.{eqb}
+use lib.Pow.{shr-shr}
 use Rattle.util.specs.Choice.{choose}
-use Rattle.util.proofs.Below.{every}
+use Rattle.util.proofs.Below.{every, every-at}
 use Rattle.util.proofs.Choice.{both}
-use Rattle.macho.specs.MachRel.{idxOf, externOf, typeOf}
+use Rattle.macho.specs.MachRel.{idxOf, p2sizeOf, externOf, typeOf}
 use Rattle.macho.specs.Types.{ARM64-RELOC-UNSIGNED, ARM64-RELOC-GOT-LOAD-PAGEOFF12, ARM64-RELOC-TLVP-LOAD-PAGEOFF12, ARM64-RELOC-ADDEND}
 use Rattle.macho.specs.declared.rel.MachRel.{MachRel}
 use Rattle.arch.specs.Entry.{entryOf, targeted}
@@ -63,3 +65,45 @@ plain-reads r h =
     (not-true (eqb (typeOf (r .bits)) ARM64-RELOC-GOT-LOAD-PAGEOFF12) (g .0))
     (not-true (eqb (typeOf (r .bits)) ARM64-RELOC-TLVP-LOAD-PAGEOFF12) (t .0))
     (not-true (eqb (typeOf (r .bits)) ARM64-RELOC-ADDEND) (t .1))
+
+-- ---- type and form as one number, bits 24 to 31 of a record
+
+-- whether they are a plain record's
+abbrev pub plainByte : ℕ → Bool
+plainByte k = member (form (k % 2) (k / 2 % 4) (k / 8 % 2)) (plainForms (k / 16))
+
+by-byte : (r : MachRel) → r .bits < 2 ^ 32 → plainOf r ≡ plainByte (r .bits / 2 ^ 24)
+unfolding plainOf
+by-byte r h =
+    let k = r .bits / 2 ^ 24 in
+    let t : typeOf (r .bits) ≡ k / 16 = omega arith in
+    let s : p2sizeOf (r .bits) ≡ k / 2 % 4 = ap (λ (x : ℕ). x % 4) (sym (shr-shr (r .bits) 24 1)) in
+    let e : externOf (r .bits) ≡ k / 8 % 2 = ap (λ (x : ℕ). x % 2) (sym (shr-shr (r .bits) 24 3)) in
+    rw (t, s, e)
+
+-- a number that is one
+pub plain-byte : (r : MachRel) (n : ℕ) → r .bits < 2 ^ 32 → r .bits / 2 ^ 24 ≡ n → plainByte n ≡ true → true ≡ plainOf r
+plain-byte r n h e p = sym (by-byte r h ∙ ap plainByte e ∙ p)
+
+-- one that is none of the eight
+pub other-byte : (r : MachRel) (k : ℕ) → r .bits < 2 ^ 32 → r .bits / 2 ^ 24 ≡ k → (k ≡ 0x1c → ⊥) → (k ≡ 0x1e → ⊥) → (k ≡ 0x2d → ⊥) → (k ≡ 0x3d → ⊥)
+    → (k ≡ 0x4c → ⊥) → (k ≡ 0x5d → ⊥) → (k ≡ 0x7d → ⊥) → (k ≡ 0x8d → ⊥) → false ≡ plainOf r
+unfolding plainForms every choose
+other-byte r k h e n1c n1e n2d n3d n4c n5d n7d n8d =
+    let f = every-at
+    (λ j. eqb j 0x1c || (eqb j 0x1e || (eqb j 0x2d || (eqb j 0x3d || (eqb j 0x4c || (eqb j 0x5d || (eqb j 0x7d || (eqb j 0x8d || not (plainByte j)))))))))
+    256 refl k (omega arith) in
+    sym
+    (by-byte r h
+    ∙ ap plainByte e
+    ∙ not-true (plainByte k)
+    (rw (
+      ne-eqb k 0x1c n1c,
+      ne-eqb k 0x1e n1e,
+      ne-eqb k 0x2d n2d,
+      ne-eqb k 0x3d n3d,
+      ne-eqb k 0x4c n4c,
+      ne-eqb k 0x5d n5d,
+      ne-eqb k 0x7d n7d,
+      ne-eqb k 0x8d n8d,
+    ) at f))

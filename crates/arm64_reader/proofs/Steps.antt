@@ -4,22 +4,20 @@ use mathlib.Core.Bool.{Bool, true, false}
 use mathlib.Core.List.{List}
 use Prim.Native.Nat.{ℕ, _+_, _-_, _/_, _<_, _≤_}
 use native.Mathlib.Omega.{arith}
-use borrow.Author.Tests.{eq-eqb, ne-eqb, lt-ltb, le-ltb, ltb-true, eqb-false}
+use borrow.Author.Tests.{eq-eqb, ne-eqb, lt-ltb, le-ltb, ltb-true}
 use lib.ListN.{length, drop}
 use lib.Dec.{eqb, ltb}
 use Rattle.util.specs.Bits.{extend}
 use Rattle.util.specs.Choice.{choose}
 use Rattle.util.proofs.Choice.{split, chosen, choose-true}
-use Rattle.macho.specs.MachRel.{idxOf, pcrelOf, p2sizeOf, externOf, typeOf}
-use Rattle.macho.specs.Types.{ARM64-RELOC-UNSIGNED, ARM64-RELOC-SUBTRACTOR, ARM64-RELOC-GOT-LOAD-PAGEOFF12, ARM64-RELOC-TLVP-LOAD-PAGEOFF12}
+use Rattle.macho.specs.MachRel.{idxOf, typeOf}
+use Rattle.macho.specs.Types.{ARM64-RELOC-SUBTRACTOR}
 use Rattle.macho.specs.Types.{ARM64-RELOC-ADDEND}
 use Rattle.macho.specs.declared.rel.MachRel.{MachRel}
 use Rattle.macho.specs.declared.reloc.Reloc.{Reloc}
 use Rattle.macho.specs.declared.refusal.Refusal.{Refusal}
 use Rattle.macho.specs.declared.refusal.Refusal.the-variants.{Bounds, LoneAddend}
 use Rattle.arch.specs.Entry.{entryOf, targeted}
-use Rattle.arch.specs.Form.{form, member}
-use Rattle.arch.specs.Target.{targetOf}
 use Rattle.arch.specs.Table.{recordsOf, recordAt, subtractedAt, lengthsOf}
 use Rattle.arch.specs.Walk.{refused, readAll, Fills}
 use Rattle.macho.specs.declared.refusal.Check.{Check}
@@ -30,8 +28,7 @@ use Rattle.arch.proofs.Records.{length-records}
 use Rattle.arch.proofs.Walk.{Later, Within, Ends, Onward, refused-later, refused-within, ends-later, ends-within, targeted-ends, onward, Rest, fill-refused}
 use Rattle.arm64_reader.specs.declared.record.Addend.{Addend}
 use Rattle.arm64_reader.specs.declared.record.Addend.the-variants.{Held, Refused}
-use Rattle.arm64_reader.specs.Support.{formsOf, supportedOf}
-use Rattle.arm64_reader.specs.Check.{pointer32, checkReloc}
+use Rattle.arm64_reader.specs.Check.{checkReloc}
 use Rattle.arm64_reader.specs.Record.{addendOf, passing, adding, recordOf, ownAt, stepAt, Reads}
 use Rattle.arm64_reader.specs.Plain.{plainOf}
 use Rattle.arm64_reader.proofs.PlainRecords.{plain-reads}

@@ -1,6 +1,4 @@
 // The records that read whatever stands at their place.
-use arch::form::has_reloc_form;
-use arch::form::reloc_form;
 use macho::consts::ARM64_RELOC_BRANCH26;
 use macho::consts::ARM64_RELOC_GOT_LOAD_PAGE21;
 use macho::consts::ARM64_RELOC_PAGE21;
@@ -10,28 +8,45 @@ use macho::consts::ARM64_RELOC_SUBTRACTOR;
 use macho::consts::ARM64_RELOC_TLVP_LOAD_PAGE21;
 use macho::rel::MachRel;
 ghost use mathlib.Core.Path.{_≡_};
-ghost use Rattle.arch.specs.Form.{bitsOf};
-ghost use Rattle.arm64_reader.specs.Plain.{plainForms, plainOf};
+ghost use Rattle.arm64_reader.specs.Plain.{plainOf};
 
-// The forms in which a type reads so, as a set.
-fn plain_forms(ty: u8) -> u16
-    ensures { λ r. ⌜ r ≡ bitsOf (plainForms ty) ⌝ }
-{
-    match ty {
-        ARM64_RELOC_SUBTRACTOR => reloc_form(false, 2, true) | reloc_form(false, 3, true),
-        ARM64_RELOC_BRANCH26 => reloc_form(true, 2, true),
-        ARM64_RELOC_PAGE21 => reloc_form(true, 2, true),
-        ARM64_RELOC_PAGEOFF12 => reloc_form(false, 2, true),
-        ARM64_RELOC_GOT_LOAD_PAGE21 => reloc_form(true, 2, true),
-        ARM64_RELOC_POINTER_TO_GOT => reloc_form(true, 2, true),
-        ARM64_RELOC_TLVP_LOAD_PAGE21 => reloc_form(true, 2, true),
-        _ => 0,
-    }
-}
+// Forms of a symbol's record as numbers: pcrel, plus 2 times p2size, plus 8 for extern.
+const WORD: u8 = 2 * 2 + 8;
+
+const QUAD: u8 = 2 * 3 + 8;
+
+const PCREL_WORD: u8 = 1 + 2 * 2 + 8;
+
+// A type, bits 28 to 31 of a record, with a form, bits 24 to 27.
+const SUBTRACTOR_4: u8 = 16 * ARM64_RELOC_SUBTRACTOR + WORD;
+
+const SUBTRACTOR_8: u8 = 16 * ARM64_RELOC_SUBTRACTOR + QUAD;
+
+const BRANCH26: u8 = 16 * ARM64_RELOC_BRANCH26 + PCREL_WORD;
+
+const PAGE21: u8 = 16 * ARM64_RELOC_PAGE21 + PCREL_WORD;
+
+const PAGEOFF12: u8 = 16 * ARM64_RELOC_PAGEOFF12 + WORD;
+
+const GOT_LOAD_PAGE21: u8 = 16 * ARM64_RELOC_GOT_LOAD_PAGE21 + PCREL_WORD;
+
+const POINTER_TO_GOT: u8 = 16 * ARM64_RELOC_POINTER_TO_GOT + PCREL_WORD;
+
+const TLVP_LOAD_PAGE21: u8 = 16 * ARM64_RELOC_TLVP_LOAD_PAGE21 + PCREL_WORD;
 
 // Whether a record is one of them: of a symbol, with no addend in its place and no word to be checked.
 pub fn is_plain(r: MachRel) -> bool
     ensures { λ b. ⌜ b ≡ plainOf r ⌝ }
 {
-    has_reloc_form(r, plain_forms(r.ty()))
+    match (r.bits / 0x100_0000) as u8 {
+        SUBTRACTOR_4
+        | SUBTRACTOR_8
+        | BRANCH26
+        | PAGE21
+        | PAGEOFF12
+        | GOT_LOAD_PAGE21
+        | POINTER_TO_GOT
+        | TLVP_LOAD_PAGE21 => true,
+        _ => false,
+    }
 }

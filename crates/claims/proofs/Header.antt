@@ -1,12 +1,15 @@
--- Apple's header: the round trips of macho, and the tables of the reader.
-use mathlib.Core.Path.{refl}
+-- Relocation records: the round trips of macho, and the tables of the reader.
+use mathlib.Core.Path.{_≡_, refl}
 use mathlib.Core.List.{List}
 use Prim.Native.Nat.{ℕ}
 use Rattle.macho.specs.Record.{Field}
 use Rattle.macho.proofs.RoundTrip as Records
 use Rattle.macho.proofs.RoundTrip.{Layout, value-of-bytes, bytes-of-value}
 use Rattle.macho.proofs.Packed as Packed
-use Rattle.arm64_reader.proofs.HeaderTables as Tables
+use Rattle.arm64_reader.proofs.HeaderForms as Forms
+use Rattle.arm64_reader.proofs.HeaderTables as Meaning
+use Rattle.arm64_reader.proofs.Tables as Tables
+use Rattle.arm64_reader.proofs.Joins as Joins
 use Rattle.arm64_reader.proofs.Fields as Fields
 use Rattle.arm64_reader.proofs.Examples as Examples
 use Rattle.claims.specs.Header.{RoundTrip, Header}
@@ -30,12 +33,19 @@ header =
       report-ignores = Records.report-ignores;
       hint-ignores = Records.hint-ignores;
       entry-spare = Records.reloc-spare;
-      same-meaning = Tables.same-meaning;
-      refused-only = Tables.refused-only;
-      call-refused-only = Tables.call-refused-only;
-      tolerated-only = Tables.tolerated-only;
-      tolerated = Examples.not-defined;
+      applied-in-header = Forms.applied-in-header;
+      applied-is-defined = Forms.supported-is;
+      same-meaning = Meaning.same-meaning;
+      refused-only = Meaning.refused-only;
+      call-refused-only = Meaning.call-refused-only;
+      tolerated-only = Meaning.tolerated-only;
+      tolerated = Examples.undefined-read;
+      not-tolerated = Examples.undefined-refused;
       defined-refused = Examples.defined-refused;
       fields = Fields.fields;
       count = Fields.count;
+      append = Tables.read-append;
+      append-bytes = Tables.table-append;
+      join = Joins.join-reads;
+      moved-twice = Joins.later-twice;
     }

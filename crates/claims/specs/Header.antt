@@ -1,4 +1,5 @@
--- Apple's header (RULES 1.5, 1.6, 2, 4): records and their bytes, and what a table of relocation records means against what the reader reads.
+-- Relocation records (RULES 1.5, 1.6, 2, 4): records and their bytes; what a table means, by Apple's headers where they speak and else by the forms that the
+-- linker applies, against what the reader reads; tables one after the other.
 use mathlib.Core.Path.{_≡_}
 use mathlib.Core.Bool.{Bool, true, false}
 use mathlib.Core.Logic.{_⊎_}
@@ -19,11 +20,15 @@ use Rattle.macho.specs.declared.refusal.Refusal.{Refusal}
 use Rattle.macho.specs.declared.refusal.Refusal.the-variants.{Unsupported, Unfit}
 use Rattle.macho.specs.Refusal.{filledOf}
 use Rattle.arch.specs.Table.{recordsOf}
-use Rattle.arch.specs.Walk.{refused, entries, answerOf}
-use Rattle.arm64_reader.specs.Read.{readRecords, readRelocs}
-use Rattle.arm64_reader.specs.Fields.{starts, pairs, entryAt}
-use Rattle.arm64_reader.specs.Header.{Relocation, symbol, nothing, Meaning, undefined, relocations, meaningOf, Inside, hasLonePointer32, Reason, isTolerated}
-use Rattle.arm64_reader.specs.Header.{subtractor-last, subtractor-type, subtractor-place, subtractor-size, addend-form, addend-type, addend-place}
+use Rattle.arch.specs.Join.{joined, mapped, recordLater, entryLater}
+use Rattle.arch.specs.Walk.{refused, entries, answerOf, Fills}
+use Rattle.arm64_reader.specs.Read.{readRecords, readTable, readRelocs, endsIn, NoLastAddend}
+use Rattle.arm64_reader.specs.Support.{supportedOf}
+use Rattle.arm64_reader.specs.Fields.{starts, pairs, entryFrom}
+use Rattle.arm64_reader.specs.Header.{Relocation, symbol, nothing, Meaning, undefined, relocations, meaningOf, Present, hasLonePointer32}
+use Rattle.arm64_reader.specs.Header.{inHeader, isDefined, Reason, isTolerated, not-in-header, not-applied}
+use Rattle.arm64_reader.specs.Header.{subtractor-last, subtractor-type, subtractor-place, subtractor-size}
+use Rattle.arm64_reader.specs.Header.{addend-form, addend-last, addend-type, addend-place}
 use Rattle.arm64_reader.specs.Said.{said}
 use Rattle.hauklivo.specs.Reader as Reader
 use Rattle.claims.specs.Lent.{nop, machRel}
@@ -49,15 +54,15 @@ withSpare r x =
       addend = r .addend;
     }
 
--- what the header says of records, and how many entries the reader fills
+-- what records mean, and how many entries the reader fills
 abbrev pub reads : (contents records : List ℕ) → Meaning × ℕ
 reads contents records = (meaningOf contents [] (recordsOf records), filledOf (answerOf (readRelocs contents records [] (replicate 48 0))))
 
--- what the header says of records, and the number that the reader answers
+-- what records mean, and the number that the reader answers
 abbrev pub refuses : (contents records : List ℕ) → Meaning × ℕ
 refuses contents records = (meaningOf contents [] (recordsOf records), Reader.numberTo contents records [] (replicate 24 0))
 
--- what Apple's header says, and what is read
+-- records, what a table of them means, and what is read
 pub record Header : Type 0 where
   -- RULES 2.10, 2.15, 2.17, 2.20, 2.22: the five records
   pub relocation-record : RoundTrip machRelSize machRelAt machRelFields machRelBytes
@@ -75,19 +80,22 @@ pub record Header : Type 0 where
   pub report-ignores : (s : List ℕ) (at u v : ℕ) → reportAt (set (set s (at + 6) u) (at + 7) v) at ≡ reportAt s at
   pub hint-ignores : (s : List ℕ) (at u v : ℕ) → hintAt (set (set s (at + 2) u) (at + 3) v) at ≡ hintAt s at
   pub entry-spare : (s : List ℕ) (at v : ℕ) → at + 16 ≤ length s → relocAt (put 4 s (at + 12) v) at ≡ withSpare (relocAt s at) (v % 2 ^ 32)
-  -- RULES 4.21: where the header defines a table and it is read, the entries say what the header says
+  -- RULES 4.16: the headers have every record that the linker applies, so those are the defined ones
+  pub applied-in-header : (r : MachRel) → supportedOf r ≡ true → inHeader r ≡ true
+  pub applied-is-defined : (r : MachRel) → supportedOf r ≡ isDefined r
+  -- RULES 4.21: where a table is defined and read, the entries say what it means
   pub same-meaning : (contents sections : List ℕ) (rs : List MachRel) (ms : List Relocation) (es : List Reloc)
       → meaningOf contents sections rs ≡ relocations ms → readRecords contents sections false rs ≡ entries es → said es ≡ ms
-  -- RULES 4.22: where it defines a table whose places and sections are there, the table is refused only by an unfit word or a lone 4-byte pointer
+  -- RULES 4.22: where a table is defined whose places and sections are there, it is refused only by an unfit word or a lone 4-byte pointer
   pub refused-only : (contents sections : List ℕ) (rs : List MachRel) (ms : List Relocation) (x : Refusal)
-      → meaningOf contents sections rs ≡ relocations ms → Inside (length contents) (length sections) ms
+      → meaningOf contents sections rs ≡ relocations ms → Present (length contents) (length sections) ms
       → readRecords contents sections false rs ≡ refused x → (x ≡ Unfit) ⊎ ((x ≡ Unsupported) × (hasLonePointer32 ms ≡ true))
   -- the same of a call that is lent whole records and slots enough
   pub call-refused-only : (contents records sections slots : List ℕ) (ms : List Relocation) (x : Refusal)
       → length records % 8 ≡ 0 → length records / 8 < 2 ^ 32 → length sections < 2 ^ 32 → 24 * (length records / 8) ≤ length slots
-      → meaningOf contents sections (recordsOf records) ≡ relocations ms → Inside (length contents) (length sections) ms
+      → meaningOf contents sections (recordsOf records) ≡ relocations ms → Present (length contents) (length sections) ms
       → readRelocs contents records sections slots ≡ refused x → (x ≡ Unfit) ⊎ ((x ≡ Unsupported) × (hasLonePointer32 ms ≡ true))
-  -- RULES 4.20: where a table is read that the header does not define, the reason is one of the seven
+  -- RULES 4.20: where a table is read that is not defined, the reason is one of the seven
   pub tolerated-only : (contents sections : List ℕ) (rs : List MachRel) (y : Reason) (es : List Reloc)
       → meaningOf contents sections rs ≡ undefined y → readRecords contents sections false rs ≡ entries es → isTolerated y ≡ true
   -- each of the seven occurs: SUBTRACTOR alone; before BRANCH26; before UNSIGNED at another place; of another size; ADDEND with another type's fields;
@@ -108,16 +116,48 @@ pub record Header : Type 0 where
       ∷ (undefined addend-type, 1)
       ∷ (undefined addend-place, 1)
       ∷ []
-  -- and so do both refusals: a TLVP page offset on NOP, a pointer of 4 bytes alone
+  -- RULES 4.19: and so do the other three, refused by 5 and by 4: PAGE21 that is not pc-relative, type 12; POINTER_TO_GOT of 8 bytes (`.quad _g@GOT`), UNSIGNED
+  -- of 2, PAGEOFF12 scaled by 8, type 11; ADDEND the last record
+  pub not-tolerated : refuses (replicate 8 0) (machRel 0 0x3c000000)
+      ∷ refuses (replicate 8 0) (machRel 0 0xcc000000)
+      ∷ refuses (replicate 8 0) (machRel 0 0x7e000000)
+      ∷ refuses (replicate 8 0) (machRel 0 0x0a000000)
+      ∷ refuses (replicate 8 0) (machRel 0 0x4e000000)
+      ∷ refuses (replicate 8 0) (machRel 0 0xbe000000)
+      ∷ refuses (replicate 8 0) (machRel 0 0xa4000000)
+      ∷ []
+      ≡ (undefined not-in-header, 5)
+      ∷ (undefined not-in-header, 5)
+      ∷ (undefined not-applied, 5)
+      ∷ (undefined not-applied, 5)
+      ∷ (undefined not-applied, 5)
+      ∷ (undefined not-applied, 5)
+      ∷ (undefined addend-last, 4)
+      ∷ []
+  -- RULES 4.22: both refusals of defined tables occur: a TLVP page offset on NOP, a pointer of 4 bytes alone
   pub defined-refused : refuses nop (machRel 0 0x9c000000)
       ∷ refuses nop (machRel 0 0x0c000000)
       ∷ []
-      ≡ (relocations (record { kind = 9; place = 0; size = 4; target = symbol 0; addend = 0; minus = nothing } ∷ []), 6)
-      ∷ (relocations (record { kind = 0; place = 0; size = 4; target = symbol 0; addend = 0xffffffff_d503201f; minus = nothing } ∷ []), 5)
+      ≡ (relocations (record { ty = 9; place = 0; size = 4; target = symbol 0; addend = 0; minus = nothing } ∷ []), 6)
+      ∷ (relocations (record { ty = 0; place = 0; size = 4; target = symbol 0; addend = 0xffffffff_d503201f; minus = nothing } ∷ []), 5)
       ∷ []
   -- RULES 4.2 to 4.12: each entry of a table that is read is the function of its records that Fields has
   pub fields : (contents sections : List ℕ) (first : Bool) (rs : List MachRel) (es : List Reloc)
-      → readRecords contents sections first rs ≡ entries es → es ≡ map (entryAt contents sections first rs) (starts 0 false rs)
+      → readRecords contents sections first rs ≡ entries es → es ≡ map (entryFrom contents sections first rs) (starts 0 false rs)
   -- RULES 4.14: as many entries as records, less the ADDEND records that head a pair
   pub count : (contents sections : List ℕ) (first : Bool) (rs : List MachRel) (es : List Reloc)
       → readRecords contents sections first rs ≡ entries es → length es + pairs false rs ≡ length rs
+  -- RULES 4.15: records after others are read as a table of their own, after the first one's last record; of lists and of bytes
+  pub append : (contents sections : List ℕ) (first : Bool) (xs ys : List MachRel) → NoLastAddend xs ⊎ Fills (readRecords contents sections first xs)
+      → readRecords contents sections first (xs ++ ys) ≡ joined (readRecords contents sections first xs) (readRecords contents sections (endsIn first xs) ys)
+  pub append-bytes : (contents sections records more : List ℕ) → length records % 8 ≡ 0
+      → NoLastAddend (recordsOf records) ⊎ Fills (readTable contents records sections)
+      → readTable contents (records ++ more) sections
+      ≡ joined (readTable contents records sections) (readRecords contents sections (endsIn false (recordsOf records)) (recordsOf more))
+  -- RULES 4.23: a section after another, and bytes between them, with its records moved: the entries of the first, then those of the second, moved
+  pub join : (c pad e sections : List ℕ) (first : Bool) (xs ys : List MachRel) → length c + length pad + length e < 2 ^ 32
+      → Fills (readRecords c sections first xs) → Fills (readRecords e sections (endsIn first xs) ys)
+      → readRecords (c ++ (pad ++ e)) sections first (xs ++ map (recordLater (length c + length pad)) ys)
+      ≡ joined (readRecords c sections first xs) (mapped (entryLater (length c + length pad)) (readRecords e sections (endsIn first xs) ys))
+  -- records that are moved twice are moved by the sum
+  pub moved-twice : (d e : ℕ) (rs : List MachRel) → map (recordLater d) (map (recordLater e) rs) ≡ map (recordLater (d + e)) rs

@@ -83,13 +83,17 @@ pub record Numbers : Type 0 where
       × (fixUp (bytes 8 0) 0 (entry ARM64-RELOC-UNSIGNED 0 0) (bytes 47 0 ++ bytes 1 1) (bytes 24 0) ≡ 11)
   -- entry 1 of a list of 1
   pub number-12 : hintRun 8 entryOne (half ARM64-RELOC-PAGE21) ≡ 12
-  -- RULES 3.4: 9 bytes and no slot; past the contents and 23 bytes; past the contents, ADDEND the last; ADDEND the last, of a form of no type;
-  -- a form of no type, and no word there; no pointer there, and ordinal 0; ordinal 0, and after it a record past the contents
+  -- RULES 3.4: 9 bytes and no slot; past the contents and 23 bytes; past the contents, ADDEND the last; past the contents, a form of no type; ADDEND the last,
+  -- of a form of no type; a form of no type, and no word there; the same, and no pointer there; the same, and ordinal 0; no pointer there, and ordinal 0;
+  -- ordinal 0, and after it a record past the contents
   pub reader-first : (reader [] (zeros 9) [] ≡ 1)
       × (reader [] (machRel 1 0x3d000000) (zeros 23) ≡ 2)
       × (reader [] (machRel 1 0xa4000000) (zeros 24) ≡ 3)
+      × (reader [] (machRel 1 0x3c000000) (zeros 24) ≡ 3)
       × (reader [] (machRel 0 0xaf000000) (zeros 24) ≡ 4)
       × (reader [] (machRel 0 0x94000000) (zeros 24) ≡ 5)
+      × (reader (zeros 7) (machRel 0 0x0f000000) (zeros 24) ≡ 5)
+      × (reader (zeros 8) (machRel 0 0x07000000) (zeros 24) ≡ 5)
       × (reader (zeros 7) (machRel 0 0x06000000) (zeros 24) ≡ 3)
       × (reader (zeros 8) (machRel 0 0x06000000 ++ machRel 9 0x3d000000) (zeros 24 ++ zeros 24) ≡ 7)
   -- RULES 3.5: 1 before 2 before 3; an offset's 3 before 11 before 9 before 5, 8 and 10, and these before the last 3; the first entry's before the second's

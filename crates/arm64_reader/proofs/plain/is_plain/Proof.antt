@@ -1,41 +1,36 @@
--- `is_plain` meets its contract: a bit of the set is a member of the list (`has-member` of Forms), since each type's forms have fields that fit.
-use mathlib.Core.Path.{_≡_, refl, ap, _∙_}
-use mathlib.Core.Bool.{true}
-use Prim.Native.Nat.{ℕ, _<_}
+-- `is_plain` meets its contract: the eight numbers are those of plain records, and no other is (`plain-byte` and `other-byte` of PlainRecords).
+use mathlib.Core.Path.{refl}
+use mathlib.Core.Logic.{inl, inr, ⊎-elim}
 use native.Mathlib.Omega.{arith}
-use Rattle.macho.specs.MachRel.{formOf, typeOf}
 use Rattle.util.specs.Choice.{choose}
-use Rattle.util.proofs.Below.{every, every-at}
-use Rattle.arch.specs.Form.{hasBit, bitsOf, fieldsFit}
-use Rattle.arch.proofs.Forms.{has-member}
-use Rattle.arm64_reader.specs.Plain.{plainForms, plainOf}
+use Rattle.arm64_reader.specs.Plain.{plainForms}
+use Rattle.arm64_reader.proofs.PlainRecords.{plain-byte, other-byte}
 use borrow.Author.Needs.{needs}
 use Rattle.arm64_reader.proofs.plain.is_plain.Statement.{statement}
 use Rattle.arm64_reader.proofs.plain.is_plain.Tie as tie
 
--- the forms of each type are such as a record can have
-fit : (ty : ℕ) → ty < 16 → fieldsFit (plainForms ty) ≡ true
-unfolding plainForms every choose
-fit ty h = every-at (λ k. fieldsFit (plainForms k)) 16 refl ty h
-
-ty-requires : tie.Need-ty-requires
-ty-requires c κs = search needs
-
-plain-forms-requires : tie.Need-plain-forms-requires
-plain-forms-requires c κs = search needs
-
-has-reloc-form-requires : tie.Need-has-reloc-form-requires
-has-reloc-form-requires c κs = search needs
+cast-match : tie.Need-cast-match
+cast-match c = search needs
 
 returns : tie.Need-returns
-unfolding plainOf
+unfolding plainForms choose
 returns c =
-    let r = c .before .before .before .args .r in
-    let ty = typeOf (r .bits) in
-    c .has-reloc-form .ensures
-    ∙ ap (λ (s : ℕ). hasBit s (formOf (r .bits))) (c .before .plain-forms .ensures ∙ ap (λ (t : ℕ). bitsOf (plainForms t)) (c .before .before .ty .ensures))
-    ∙ has-member (plainForms ty) r (fit ty (omega arith))
+    let r = c .before .before .args .r in
+    ⊎-elim (λ e. plain-byte r _ (omega arith) e refl)
+    (⊎-elim (λ e. plain-byte r _ (omega arith) e refl)
+    (⊎-elim (λ e. plain-byte r _ (omega arith) e refl)
+    (⊎-elim (λ e. plain-byte r _ (omega arith) e refl)
+    (⊎-elim (λ e. plain-byte r _ (omega arith) e refl)
+    (⊎-elim (λ e. plain-byte r _ (omega arith) e refl)
+    (⊎-elim (λ e. plain-byte r _ (omega arith) e refl) (λ e. plain-byte r _ (omega arith) e refl)))))))
+    (c .match .keys1)
+
+returns-2 : tie.Need-returns-2
+returns-2 c =
+    let n = c .match .rest .1 in
+    other-byte (c .before .before .args .r) _ (omega arith) refl (λ e. n (inl e)) (λ e. n (inr (inl e))) (λ e. n (inr (inr (inl e))))
+    (λ e. n (inr (inr (inr (inl e))))) (λ e. n (inr (inr (inr (inr (inl e)))))) (λ e. n (inr (inr (inr (inr (inr (inl e)))))))
+    (λ e. n (inr (inr (inr (inr (inr (inr (inl e)))))))) (λ e. n (inr (inr (inr (inr (inr (inr (inr e))))))))
 
 pub is-plain-spec : {M : Type 1} → statement M
-is-plain-spec =
-    tie.close (tie.spec ty-requires plain-forms-requires has-reloc-form-requires returns)
+is-plain-spec = tie.close (tie.spec cast-match returns returns-2)
