@@ -33,8 +33,13 @@
 
 #![warn(missing_docs)]
 
-#[cfg(not(all(target_arch = "x86_64", target_os = "linux")))]
-compile_error!("libhauklivo.a is an ELF archive for x86-64: it links on Linux");
+#[cfg(not(all(
+    any(target_arch = "x86_64", target_arch = "aarch64"),
+    any(target_os = "linux", target_os = "macos"),
+    target_endian = "little",
+    target_pointer_width = "64"
+)))]
+compile_error!("libhauklivo.a is made for Linux and macOS, on x86-64 and Arm with 64 bits");
 
 /// The example in the README.
 #[cfg(doctest)]

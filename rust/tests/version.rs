@@ -24,8 +24,30 @@ fn archive(width: usize, symbols: &[&str]) -> Vec<u8> {
     [head.as_bytes(), &table].concat()
 }
 
+/// An archive as a Mac has it: a table of symbols and an object.
+fn mac_archive(symbols: &[&str], object: &[u8]) -> Vec<u8> {
+    let mut names = Vec::new();
+    let mut pairs = Vec::new();
+    for symbol in symbols {
+        pairs.extend([names.len() as u32, 0].map(u32::to_le_bytes).concat());
+        names.extend([b"_", symbol.as_bytes(), b"\0"].concat());
+    }
+    let sizes = [pairs.len(), names.len()].map(|n| (n as u32).to_le_bytes());
+    let table = [&b"__.SYMDEF\0\0\0"[..], &sizes[0], &pairs, &sizes[1], &names].concat();
+    let member = |bytes: &[u8]| {
+        let end = &b"\n"[..bytes.len() % 2];
+        [format!("{:<16}{:<32}{:<10}`\n", "#1/12", "0", bytes.len()).as_bytes(), bytes, end].concat()
+    };
+    [&b"!<arch>\n"[..], &member(&table), &member(&[b"hauklivo.o\0\0", object].concat())].concat()
+}
+
 /// What cargo says of the crate with an archive of these bytes, and whether it goes on.
 fn checked(name: &str, bytes: Option<&[u8]>) -> (bool, String) {
+    checked_for(&[], name, bytes)
+}
+
+/// The same, by more words of the command.
+fn checked_for(words: &[&str], name: &str, bytes: Option<&[u8]>) -> (bool, String) {
     let folder = PathBuf::from(env!("CARGO_TARGET_TMPDIR")).join(name);
     fs::create_dir_all(&folder).unwrap();
     if let Some(bytes) = bytes {
@@ -35,6 +57,7 @@ fn checked(name: &str, bytes: Option<&[u8]>) -> (bool, String) {
         .args(["check", "--offline", "--manifest-path", concat!(env!("CARGO_MANIFEST_DIR"), "/Cargo.toml")])
         .arg("--target-dir")
         .arg(concat!(env!("CARGO_TARGET_TMPDIR"), "/checked"))
+        .args(words)
         .env("HAUKLIVO_LIB_DIR", &folder)
         .output()
         .unwrap();
@@ -62,7 +85,7 @@ fn the_build_script() {
     ] {
         let (goes_on, text) = checked(name, Some(&bytes));
         assert!(!goes_on && text.contains("error: hauklivo@") && text.contains(expected), "{name}: {text}");
-        assert!(text.contains("`rt staticlib hauklivo`") && text.contains("HAUKLIVO_LIB_DIR"), "{name}: {text}");
+        assert!(text.contains("`tools/library ") && text.contains("HAUKLIVO_LIB_DIR"), "{name}: {text}");
     }
     // What does not link goes on without an archive.
     let (goes_on, text) = checked("none", None);
@@ -70,5 +93,58 @@ fn the_build_script() {
     for (name, bytes) in [("good", with(&[&this])), ("good wide", archive(8, &[&this]))] {
         let (goes_on, text) = checked(name, Some(&bytes));
         assert!(goes_on && !text.contains("libhauklivo.a"), "{name}: {text}");
+    }
+}
+
+/// The first bytes of an object for each target, beside cargo's name for that and the repository's.
+const OBJECTS: [(&str, &str, &[u8; 20]); 4] = [
+    ("x86_64-unknown-linux-gnu", "x86_64-linux", b"\x7fELF\x02\x01\x01\0\0\0\0\0\0\0\0\0\x01\0\x3e\0"),
+    ("aarch64-unknown-linux-gnu", "aarch64-linux", b"\x7fELF\x02\x01\x01\0\0\0\0\0\0\0\0\0\x01\0\xb7\0"),
+    ("aarch64-apple-darwin", "arm64-macos", b"\xcf\xfa\xed\xfe\x0c\0\0\x01\0\0\0\0\x01\0\0\0\0\0\0\0"),
+    ("x86_64-apple-darwin", "x86_64-macos", b"\xcf\xfa\xed\xfe\x07\0\0\x01\x03\0\0\0\x01\0\0\0\0\0\0\0"),
+];
+
+/// Whether Rust's library for a target is installed, without which nothing compiles for it.
+fn has_std(target: &str) -> bool {
+    let done = Command::new("rustc").args(["--print", "target-libdir", "--target", target]).output().unwrap();
+    fs::exists(str::from_utf8(&done.stdout).unwrap().trim()).unwrap()
+}
+
+#[test]
+fn the_targets() {
+    let this = format!("hauklivo_version_{VERSION}");
+    for (k, (target, own, object)) in OBJECTS.iter().enumerate() {
+        let words = ["--target", target];
+        let (_, other, foreign) = OBJECTS[(k + 1) % 4];
+        let command = format!("make it by `tools/library {own}`");
+        let (_, text) = checked_for(&words, &format!("no {own}"), None);
+        assert!(text.contains("libhauklivo.a is not there;") && text.contains(&command), "{target}: {text}");
+        let (goes_on, text) = checked_for(&words, &format!("foreign {own}"), Some(&mac_archive(&[&this], foreign)));
+        assert!(!goes_on && text.contains(&format!("libhauklivo.a is for {other};")), "{target}: {text}");
+        assert!(text.contains(&command), "{target}: {text}");
+        let (goes_on, text) = checked_for(&words, &format!("own {own}"), Some(&mac_archive(&[&this], *object)));
+        assert!(!text.contains("libhauklivo.a"), "{target}: {text}");
+        match has_std(target) {
+            true => assert!(goes_on, "{target}: {text}"),
+            false => println!("{target}: Rust's library for it is not installed, only the build script was tried"),
+        }
+    }
+    let universal = [&[0xca, 0xfe, 0xba, 0xbe][..], &mac_archive(&[&this], OBJECTS[2].2)].concat();
+    let (goes_on, text) = checked("universal", Some(&universal));
+    assert!(!goes_on && text.contains("libhauklivo.a is universal, where cargo needs"), "{text}");
+    let after = format!("hauklivo_version_{}", VERSION + 1);
+    let (goes_on, text) = checked("later", Some(&mac_archive(&[&after], OBJECTS[0].2)));
+    assert!(!goes_on && text.contains(&format!("is of version {};", VERSION + 1)), "{text}");
+}
+
+/// No count or place in an archive ends the build script by a panic.
+#[test]
+fn damaged_archives() {
+    let whole = mac_archive(&[&format!("hauklivo_version_{VERSION}")], OBJECTS[0].2);
+    for (at, bytes) in [(80, [0xff; 4]), (84, [0xff; 4]), (80, [0xf8, 0xff, 0xff, 0x7f]), (8, *b"#1/9")] {
+        let mut damaged = whole.clone();
+        damaged[at..at + 4].copy_from_slice(&bytes);
+        let (goes_on, text) = checked(&format!("damaged {at} {}", bytes[0]), Some(&damaged));
+        assert!(!goes_on && text.contains("error: hauklivo@") && !text.contains("panicked"), "{at}: {text}");
     }
 }

@@ -1,5 +1,5 @@
 //! The lists of answers that the gate replays (crates/replay_reader, replay_fixup, replay_hints): cases chosen so that each row of the table is
-//! covered, and each row of docs/DIFFERENCES.md, each with what is expected of it.
+//! covered, and each row of docs/DIFFERENCES.md, each with what is expected of it. And a list of every case, for tests/arm.
 //!
 //! A list is a chain of records of 16 bytes and a body. A record is: what it is (u8), the answer's number (u8), the
 //! body's length (u16), and six values (u16). Numbers are little-endian.
@@ -18,6 +18,7 @@
 //! keep the pattern of `lent.rs`, and so do the bytes of a stub or thunk that is refused.
 
 use std::fs;
+use std::io::{self, Write};
 use std::path::Path;
 
 use crate::rows::blocks;
@@ -42,13 +43,16 @@ const OF_LINE: usize = 96;
 const OF_GROUP: u64 = 48;
 const LONGEST: usize = 1000;
 
-/// A record and its body.
+/// A record and its body, or nothing where a length has more than 16 bits.
 pub fn record(what: u8, number: u8, values: &[usize], parts: &[&[u8]]) -> Vec<u8> {
     let body = parts.concat();
     let mut bytes = vec![what, number];
     let mut all = [0; 7];
     all[0] = body.len();
     all[1..=values.len()].copy_from_slice(values);
+    if all.iter().any(|&n| n >= 1 << 16) {
+        return Vec::new();
+    }
     bytes.extend(all.iter().flat_map(|&n| (n as u16).to_le_bytes()));
     bytes.extend(body);
     bytes
@@ -133,4 +137,33 @@ pub fn write(groups: &[Group], world: &World, folder: &Path) -> Result<(), Diffe
         fs::write(own.join("stdout"), written).expect("the folder can be written");
     }
     Ok(())
+}
+
+/// Writes the answers of every case of a run as one list without titles, in the run's order, and says how many there are
+/// and how many did not fit.
+pub fn write_every(groups: &[Group], short: bool, world: &World, out: &mut impl Write) -> Result<(), Difference> {
+    let mut table = Table::noting(blocks());
+    let (mut written, mut left_out) = (0_u64, 0_u64);
+    for group in groups {
+        for i in 0..group.count(short) {
+            group.verdict(group.index(i, short), world, &mut table)?;
+            let answer = table.take_note().answer;
+            match answer.is_empty() {
+                true => left_out += 1,
+                false => written += 1,
+            }
+            out.write_all(&answer).map_err(unwritten)?;
+        }
+    }
+    out.flush().map_err(unwritten)?;
+    eprintln!("{written} answers written, {left_out} left out");
+    Ok(())
+}
+
+fn unwritten(error: io::Error) -> Difference {
+    Difference {
+        input: "the list of answers".into(),
+        port: error.to_string(),
+        expected: "that it can be written".into(),
+    }
 }

@@ -2,7 +2,7 @@
 
 use std::env;
 use std::fs;
-use std::io::{IsTerminal, Write, stderr};
+use std::io::{BufWriter, IsTerminal, Write, stderr, stdout};
 use std::panic::{self, AssertUnwindSafe};
 use std::path::Path;
 use std::process::ExitCode;
@@ -70,15 +70,18 @@ struct Options {
     case: Option<(String, u64)>,
     /// The folder of the crates that replay answers, if their lists are to be made.
     answers: Option<String>,
+    /// Whether the answers of all cases go to the standard output, instead of the table.
+    every: bool,
     differences: String,
 }
 
-const USAGE: &str =
-    "usage: differential [--short] [--first] [--threads N] [--case GROUP:NUMBER] [--answers FOLDER] DIFFERENCES.md";
+const USAGE: &str = "usage: differential [--short] [--first] [--threads N] [--case GROUP:NUMBER] [--answers FOLDER] [--every] \
+                     DIFFERENCES.md";
 
 fn options() -> Option<Options> {
+    let differences = String::new();
     let mut o =
-        Options { short: false, first: false, threads: 2, case: None, answers: None, differences: String::new() };
+        Options { short: false, first: false, threads: 2, case: None, answers: None, every: false, differences };
     let mut args = env::args().skip(1);
     while let Some(arg) = args.next() {
         match arg.as_str() {
@@ -86,6 +89,7 @@ fn options() -> Option<Options> {
             "--first" => o.first = true,
             "--threads" => o.threads = args.next()?.parse().ok()?,
             "--answers" => o.answers = Some(args.next()?),
+            "--every" => o.every = true,
             "--case" => {
                 let (group, number) = args.next()?.split_once(':').map(|(g, n)| (g.to_string(), n.parse()))?;
                 o.case = Some((group, number.ok()?));
@@ -237,6 +241,9 @@ pub fn main(oracle: &Oracle) -> ExitCode {
     let groups = [reader_groups::groups(), fixup_groups::groups(), stub::groups(), hint_groups::groups()].concat();
     if let Some(folder) = &options.answers {
         return made(answers::write(&groups, &world, Path::new(folder)));
+    }
+    if options.every {
+        return made(answers::write_every(&groups, options.short, &world, &mut BufWriter::new(stdout().lock())));
     }
     match &options.case {
         Some((name, number)) => one_case(&groups, name, *number, &world),
