@@ -11,6 +11,10 @@
 //! A [`Refusal`] is an error with a number. A refused call has changed nothing that it was lent.
 //! [`position`] finds the record that it was refused for.
 //!
+//! The crate builds for Linux and macOS, on x86-64 and on Arm. `tools/library TARGET` of the repository
+//! makes the archive, for `x86_64-linux`, `aarch64-linux`, `arm64-macos` or `x86_64-macos`; the build
+//! script takes that of the target that cargo builds for, or the one in the folder `HAUKLIVO_LIB_DIR`.
+//!
 //! ```
 //! use hauklivo::{MachRel, Reloc, Report, Resolved, Target, flag, ty, typed};
 //!

@@ -2,7 +2,7 @@
 
 use std::path::PathBuf;
 use std::process::Command;
-use std::{fs, str};
+use std::{env, fs, str};
 
 use hauklivo::{VERSION, raw};
 
@@ -106,7 +106,8 @@ const OBJECTS: [(&str, &str, &[u8; 20]); 4] = [
 
 /// Whether Rust's library for a target is installed, without which nothing compiles for it.
 fn has_std(target: &str) -> bool {
-    let done = Command::new("rustc").args(["--print", "target-libdir", "--target", target]).output().unwrap();
+    let rustc = env::var_os("RUSTC").unwrap_or("rustc".into());
+    let done = Command::new(rustc).args(["--print", "target-libdir", "--target", target]).output().unwrap();
     fs::exists(str::from_utf8(&done.stdout).unwrap().trim()).unwrap()
 }
 
