@@ -31,6 +31,7 @@ use Rattle.arm64_hint_run.proofs.Answers.{refused-leaves}
 use Rattle.lister_text.specs.Listing.{lines, listOf, outBy}
 use Rattle.hauklivo.specs.Lent.{lentNumber, lentCount}
 use Rattle.hauklivo.specs.Stub as Stub
+use Rattle.hauklivo.specs.Hints as Hints
 use Rattle.hauklivo.proofs.Lent.{count-kept}
 use Rattle.hauklivo.proofs.reader.hauklivo_read_relocs.Met as ReadRelocs
 use Rattle.hauklivo.proofs.fixup.hauklivo_apply_reloc_alloc.Met as ApplyRelocAlloc
@@ -38,6 +39,8 @@ use Rattle.hauklivo.proofs.stub.hauklivo_write_stub.Met as WriteStub
 use Rattle.hauklivo.proofs.stub.hauklivo_write_thunk.Met as WriteThunk
 use Rattle.hauklivo.proofs.hints.hauklivo_apply_hints.Met as ApplyHints
 use Rattle.hauklivo.proofs.lister.hauklivo_list.Met as List′
+use Rattle.hauklivo.proofs.version.hauklivo_version.Met as Version
+use Rattle.hauklivo.proofs.version.hauklivo_version_1.Met as Version1
 use Rattle.claims.specs.Calls.{Calls}
 
 numbered : (x : Refusal) → (1 ≤ Refusal.numberOf x) × (Refusal.numberOf x ≤ 12)
@@ -85,8 +88,8 @@ thunk buf addr target ne = go (ltb (length buf) 12) refl
     go true e = rw e
     go false e = absurd (ne (rw e))
 
-hint-run : (image hints entries : List ℕ) (tally : Tally) → (runNumber (runOf image hints entries) ≡ 0 → ⊥)
-    → (imageOf image hints entries ≡ image) × (tallyAfter tally (runOf image hints entries) ≡ tally)
+hint-run : (image hints entries : List ℕ) (tally : Tally) → (Hints.numberTo image hints entries ≡ 0 → ⊥)
+    → (Hints.imageTo image hints entries ≡ image) × (Hints.tallyTo image hints entries tally ≡ tally)
 hint-run image hints entries tally = go (runOf image hints entries) refl
   where
     go : (a : RunAnswer) → runOf image hints entries ≡ a → (runNumber a ≡ 0 → ⊥) → (imageOf image hints entries ≡ image) × (tallyAfter tally a ≡ tally)
@@ -102,6 +105,8 @@ calls =
       write-thunk = λ M. WriteThunk.met;
       apply-hints = λ M. ApplyHints.met;
       list = λ M. List′.met;
+      version = λ M. Version.met;
+      version-1 = λ M. Version1.met;
       numbered = numbered;
       read-relocs-refused = λ contents records sections slots count. reader (readRelocs contents records sections slots) slots count;
       apply-reloc-alloc-refused = λ section base tls entries targets slots count.

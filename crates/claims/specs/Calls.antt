@@ -7,11 +7,11 @@ use Rattle.macho.specs.declared.refusal.Refusal.{Refusal}
 use Rattle.arm64_reader.specs.Read as Read
 use Rattle.arm64_fixup.specs.Answer as Answer
 use Rattle.arm64_hint_work.specs.declared.tally.Tally.{Tally}
-use Rattle.arm64_hint_run.specs.Run.{runOf, imageOf, runNumber, tallyAfter}
 use Rattle.lister_text.specs.Listing.{outAfter}
 use Rattle.hauklivo.specs.Reader as Reader
 use Rattle.hauklivo.specs.Fixup as Fixup
 use Rattle.hauklivo.specs.Stub as Stub
+use Rattle.hauklivo.specs.Hints as Hints
 use Rattle.hauklivo.specs.Lister as Lister
 use Rattle.hauklivo.proofs.reader.hauklivo_read_relocs.Statement as ReadRelocs
 use Rattle.hauklivo.proofs.fixup.hauklivo_apply_reloc_alloc.Statement as ApplyRelocAlloc
@@ -19,6 +19,8 @@ use Rattle.hauklivo.proofs.stub.hauklivo_write_stub.Statement as WriteStub
 use Rattle.hauklivo.proofs.stub.hauklivo_write_thunk.Statement as WriteThunk
 use Rattle.hauklivo.proofs.hints.hauklivo_apply_hints.Statement as ApplyHints
 use Rattle.hauklivo.proofs.lister.hauklivo_list.Statement as List′
+use Rattle.hauklivo.proofs.version.hauklivo_version.Statement as Version
+use Rattle.hauklivo.proofs.version.hauklivo_version_1.Statement as Version1
 
 -- `statement M` is made by the toolchain from the code and its contract. It says of the compiled function, in every memory that can be lent as its
 -- parameters say: it touches no other memory, it returns, and its answer and every lent byte are what its `ensures` say. No call here has a `requires`
@@ -35,6 +37,9 @@ pub record Calls : Type 2 where
   pub apply-hints : (M : Type 1) → ApplyHints.statement M
   -- the lister (hauklivo/src/lister.rt)
   pub list : (M : Type 1) → List′.statement M
+  -- the version of the calls, by either name (hauklivo/src/version.rt)
+  pub version : (M : Type 1) → Version.statement M
+  pub version-1 : (M : Type 1) → Version1.statement M
   -- RULES 3.1: a refusal's number is one of 1 to 12
   pub numbered : (x : Refusal) → (1 ≤ Refusal.numberOf x) × (Refusal.numberOf x ≤ 12)
   -- RULES 1.3, 3.2: a refused reader leaves slots and count
@@ -52,8 +57,8 @@ pub record Calls : Type 2 where
   -- a refused thunk entry leaves its bytes
   pub write-thunk-refused : (buf : List ℕ) (addr target : ℕ) → (Stub.thunkNumberTo buf ≡ 0 → ⊥) → Stub.thunkTo buf addr target ≡ buf
   -- a refused hint run leaves image and tally
-  pub apply-hints-refused : (image hints entries : List ℕ) (tally : Tally) → (runNumber (runOf image hints entries) ≡ 0 → ⊥)
-      → (imageOf image hints entries ≡ image) × (tallyAfter tally (runOf image hints entries) ≡ tally)
+  pub apply-hints-refused : (image hints entries : List ℕ) (tally : Tally) → (Hints.numberTo image hints entries ≡ 0 → ⊥)
+      → (Hints.imageTo image hints entries ≡ image) × (Hints.tallyTo image hints entries tally ≡ tally)
   -- a refused lister leaves the bytes for the text and the count
   pub list-refused : (words out : List ℕ) (count : ℕ) → (Lister.numberTo words out ≡ 0 → ⊥)
       → (outAfter words out ≡ out) × (Lister.countTo words out count ≡ count)

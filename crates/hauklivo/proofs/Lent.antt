@@ -45,3 +45,7 @@ count-kept x a old e = lent-kept x 0 old ∙ ap (λ (b : Answer). lentNumber (an
 pub count-new : (n : ℕ) (a : Answer) (old : ℕ) → Filled n ≡ a → n ≡ lentCount a old
 unfolding lentCount
 count-new n a old e = lent-new n old ∙ ap (λ (b : Answer). lentNumber (answerNumber b) (filledOf b) old) e
+
+-- equal answers leave equal counts
+pub count-same : {a b : Answer} (old : ℕ) → a ≡ b → lentCount a old ≡ lentCount b old
+count-same old e = ap (λ (a : Answer). lentCount a old) e

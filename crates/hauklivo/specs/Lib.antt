@@ -3,5 +3,6 @@ pub mod Lent
 pub mod Reader
 pub mod Fixup
 pub mod Stub
+pub mod Hints
 pub mod Lister
 pub mod Version

@@ -1,6 +1,6 @@
 // Fix-up of a section.
+use crate::counted::counted;
 use arm64_fixup::walk::apply_reloc_alloc;
-use macho::refusal::Answer;
 ghost use mathlib.Core.Path.{_≡_};
 ghost use Rattle.arm64_fixup.specs.Answer.{sectionTo, slotsTo};
 ghost use Rattle.hauklivo.specs.Fixup.{numberTo, countTo};
@@ -22,11 +22,6 @@ pub extern "C" fn hauklivo_apply_reloc_alloc(
     ensures buf { λ _. ⌜ now (buf .exit) ≡ sectionTo (now (buf .entry)) base «tls_begin» (now (entries .entry)) (now (targets .entry)) (now (slots .entry)) ⌝ }
     ensures told { λ _. ⌜ now (slots .exit) ≡ slotsTo (now (buf .entry)) base «tls_begin» (now (entries .entry)) (now (targets .entry)) (now (slots .entry)) ⌝ }
 {
-    match apply_reloc_alloc(buf, base, tls_begin, entries, targets, slots) {
-        Answer::Refused(refusal) => refusal.number(),
-        Answer::Filled(n) => {
-            *count = n;
-            0
-        }
-    }
+    let answer = apply_reloc_alloc(buf, base, tls_begin, entries, targets, slots);
+    counted(answer, count)
 }

@@ -2,7 +2,7 @@
 use arm64_hint_run::tally::apply_hints;
 use arm64_hint_work::tally::Tally;
 ghost use mathlib.Core.Path.{_≡_};
-ghost use Rattle.arm64_hint_run.specs.Run.{runOf, imageOf, runNumber, tallyAfter};
+ghost use Rattle.hauklivo.specs.Hints.{numberTo, tallyTo, imageTo};
 
 // Works the hints on the image by the entries; `tally` gets the counts.
 #[no_mangle]
@@ -12,9 +12,9 @@ pub extern "C" fn hauklivo_apply_hints(
     entries: &[u8],
     tally: &mut Tally,
 ) -> u8
-    ensures { λ r. ⌜ (r ≡ runNumber (runOf (now (image .entry)) (now (hints .entry)) (now (entries .entry))))
-        × (now (tally .exit) ≡ tallyAfter (now (tally .entry)) (runOf (now (image .entry)) (now (hints .entry)) (now (entries .entry))))
-        × (now (image .exit) ≡ imageOf (now (image .entry)) (now (hints .entry)) (now (entries .entry))) ⌝ }
+    ensures { λ r. ⌜ (r ≡ numberTo (now (image .entry)) (now (hints .entry)) (now (entries .entry)))
+        × (now (tally .exit) ≡ tallyTo (now (image .entry)) (now (hints .entry)) (now (entries .entry)) (now (tally .entry)))
+        × (now (image .exit) ≡ imageTo (now (image .entry)) (now (hints .entry)) (now (entries .entry))) ⌝ }
 {
     apply_hints(image, hints, entries, tally)
 }

@@ -1,6 +1,6 @@
 // The word lister.
+use crate::counted::counted;
 use lister_text::list;
-use macho::refusal::Answer;
 ghost use mathlib.Core.Path.{_≡_};
 ghost use Rattle.lister_text.specs.Listing.{outAfter};
 ghost use Rattle.hauklivo.specs.Lister.{numberTo, countTo};
@@ -12,11 +12,6 @@ pub extern "C" fn hauklivo_list(words: &[u8], out: &mut [u8], count: &mut usize)
     ensures count { λ _. ⌜ now (count .exit) ≡ countTo (now (words .entry)) (now (out .entry)) (now (count .entry)) ⌝ }
     ensures out { λ _. ⌜ now (out .exit) ≡ outAfter (now (words .entry)) (now (out .entry)) ⌝ }
 {
-    match list(words, out) {
-        Answer::Refused(refusal) => refusal.number(),
-        Answer::Filled(n) => {
-            *count = n;
-            0
-        }
-    }
+    let answer = list(words, out);
+    counted(answer, count)
 }

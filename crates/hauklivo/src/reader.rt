@@ -1,6 +1,6 @@
 // The reader of relocation records.
+use crate::counted::counted;
 use arm64_reader::read::read_relocs;
-use macho::refusal::Answer;
 ghost use mathlib.Core.Path.{_≡_};
 ghost use Rattle.arm64_reader.specs.Read.{slotsTo};
 ghost use Rattle.hauklivo.specs.Reader.{numberTo, countTo};
@@ -19,11 +19,6 @@ pub extern "C" fn hauklivo_read_relocs(
         ≡ countTo (now (contents .entry)) (now (records .entry)) (now (sections .entry)) (now (slots .entry)) (now (count .entry)) ⌝ }
     ensures slots { λ _. ⌜ now (slots .exit) ≡ slotsTo (now (contents .entry)) (now (records .entry)) (now (sections .entry)) (now (slots .entry)) ⌝ }
 {
-    match read_relocs(contents, records, sections, slots) {
-        Answer::Refused(refusal) => refusal.number(),
-        Answer::Filled(n) => {
-            *count = n;
-            0
-        }
-    }
+    let answer = read_relocs(contents, records, sections, slots);
+    counted(answer, count)
 }

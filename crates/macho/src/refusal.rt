@@ -1,6 +1,6 @@
 // Why a call turns its input down, and what it answers (RULES 3.1).
 ghost use mathlib.Core.Path.{_≡_};
-ghost use Rattle.macho.specs.Refusal.{numberOf, checkNumber};
+ghost use Rattle.macho.specs.Refusal.{numberOf, checkNumber, answerNumber};
 
 // The table's rows, 1 to 12.
 pub enum Refusal {
@@ -60,6 +60,18 @@ impl Check {
         match self {
             Check::Fit => 0,
             Check::Refused(refusal) => refusal.number(),
+        }
+    }
+}
+
+impl Answer {
+    // Its number, 0 where slots were filled.
+    pub fn number(self) -> u8
+        ensures { λ r. ⌜ r ≡ answerNumber self ⌝ }
+    {
+        match self {
+            Answer::Filled(_) => 0,
+            Answer::Refused(refusal) => refusal.number(),
         }
     }
 }

@@ -1,8 +1,8 @@
--- The answer of apply_reloc_alloc by its two cases.
-use mathlib.Core.Path.{ap, sym, _∙_}
-use Rattle.macho.specs.declared.refusal.Answer.{Answer}
+-- The answer of apply_reloc_alloc, handed on.
+use mathlib.Core.Path.{ap, _∙_}
 use Rattle.macho.specs.Refusal.{answerNumber}
-use Rattle.hauklivo.proofs.Lent.{count-kept, count-new}
+use Rattle.macho.specs.declared.refusal.Answer.{Answer}
+use Rattle.hauklivo.proofs.Lent.{count-same}
 use borrow.Author.Needs.{needs}
 use Rattle.hauklivo.proofs.fixup.hauklivo_apply_reloc_alloc.Statement.{statement}
 use Rattle.hauklivo.proofs.fixup.hauklivo_apply_reloc_alloc.Tie as tie
@@ -10,14 +10,8 @@ use Rattle.hauklivo.proofs.fixup.hauklivo_apply_reloc_alloc.Tie as tie
 apply-reloc-alloc-requires : tie.Need-apply-reloc-alloc-requires
 apply-reloc-alloc-requires c κs = search needs
 
-enum-known-refusal : tie.Need-enum-known-refusal
-enum-known-refusal c = search needs
-
-number-requires : tie.Need-number-requires
-number-requires c κs = search needs
-
-enum-known-n : tie.Need-enum-known-n
-enum-known-n c = search needs
+counted-requires : tie.Need-counted-requires
+counted-requires c κs = search needs
 
 same-length : tie.Need-same-length
 same-length c = search needs
@@ -27,39 +21,11 @@ same-length-2 c = search needs
 
 returns : tie.Need-returns
 returns c =
-    let refusal = c .before .before in
-    let by-match = refusal .before in
-    let apply-reloc-alloc = by-match .before .before .before .before .before in
-    let k = apply-reloc-alloc .apply-reloc-alloc .ensures in
-    let e = sym (refusal .refusal .given .1) ∙ k .0 in
-    let x = refusal .refusal .given .0 .0 in
-    (c .number .ensures ∙ ap (λ (a : Answer). answerNumber a) e, (count-kept x _ _ e, k .1))
-
-same-length-3 : tie.Need-same-length-3
-same-length-3 c = search needs
-
-same-length-4 : tie.Need-same-length-4
-same-length-4 c = search needs
-
-returns-2 : tie.Need-returns-2
-returns-2 c =
-    let by-match = c .before .before in
-    let apply-reloc-alloc = by-match .before .before .before .before .before in
-    let k = apply-reloc-alloc .apply-reloc-alloc .ensures in
-    let e = sym (c .before .n .given .1) ∙ k .0 in
-    (ap (λ (a : Answer). answerNumber a) e, (count-new _ _ _ e, k .1))
+    let k = c .before .before .before .before .before .before .apply-reloc-alloc .ensures in
+    let u = c .counted .ensures in
+    (u .0 ∙ ap (λ (a : Answer). answerNumber a) (k .0), (u .1 ∙ count-same _ (k .0), (k .1 .0, k .1 .1)))
 
 pub hauklivo-apply-reloc-alloc-spec : {M : Type 1} → statement M
 hauklivo-apply-reloc-alloc-spec =
     tie.close
-    (tie.spec
-    apply-reloc-alloc-requires
-    enum-known-refusal
-    number-requires
-    enum-known-n
-    same-length
-    same-length-2
-    returns
-    same-length-3
-    same-length-4
-    returns-2)
+    (tie.spec apply-reloc-alloc-requires counted-requires same-length same-length-2 returns)
