@@ -60,6 +60,12 @@ past-is len i h =
     less-or (len - 4) (i .off) (λ l. lt-ltb (len - 4) (i .off) l ∙ sym (lt-ltb len (i .off + 4) (omega arith)))
     (λ l. le-ltb (len - 4) (i .off) l ∙ sym (le-ltb len (i .off + 4) (omega arith)))
 
+-- a count of 32 bits
+pub few-is : (n : ℕ) → leb n 0xffff_ffff ≡ ltb n (2 ^ 32)
+few-is n =
+    less-or n (2 ^ 32) (λ l. le-leb n 0xffff_ffff (omega arith) ∙ sym (lt-ltb n (2 ^ 32) l))
+    (λ l. lt-leb n 0xffff_ffff (omega arith) ∙ sym (le-ltb n (2 ^ 32) l))
+
 -- the number of an entry and one more, from 2^32 - 1 back to 0, against the count
 pub absent-is : (count : ℕ) (i : HintInsn) → i .rel < 2 ^ 32 → ltb count ((i .rel + 1) % 0x1_0000_0000) ≡ namesAbsent count i
 absent-is count i h =

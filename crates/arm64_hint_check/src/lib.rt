@@ -8,7 +8,6 @@ use macho::reloc::Reloc;
 ghost use mathlib.Core.Path.{_≡_};
 ghost use mathlib.Core.Bool.{false};
 ghost use Prim.Native.Nat.{_<_};
-ghost use lib.ListN.{length};
 ghost use Rattle.macho.specs.Hint.{hintCount};
 ghost use Rattle.arm64_hint_order.specs.Cursor.{objectAt};
 ghost use Rattle.arm64_hint_order.specs.Walk.{grouped};
@@ -26,7 +25,7 @@ fn is_list(len: usize, size: usize) -> bool
     requires { ⌜ 0 < size ⌝ }
     ensures { λ r. ⌜ r ≡ isList len size ⌝ }
 {
-    len % size == 0 && len / size < 0x1_0000_0000
+    len % size == 0 && len / size <= u32::MAX as usize
 }
 
 // The lengths of hints and entries.
@@ -76,8 +75,8 @@ fn word_past(h: HintRecord) -> bool
 fn names_absent(count: usize, i: HintInsn) -> bool
     ensures { λ r. ⌜ r ≡ namesAbsent count i ⌝ }
 {
-    // 0xffffffff, which names no entry, becomes 0
-    count < (i.rel as usize + 1) % 0x1_0000_0000
+    // NO_ENTRY and one more becomes 0
+    count < (i.rel as usize + 1) % (HintInsn::NO_ENTRY as usize + 1)
 }
 
 // Whether one of a hint's places does.

@@ -17,8 +17,8 @@ use Rattle.arm64_machine.specs.Examples.{start, idle}
 use Rattle.arm64_machine.specs.Premises.{linksVector}
 use Rattle.arm64_hint_places.specs.Hint.{isSkipped}
 use Rattle.arm64_hint_rules.specs.Rule.{outcomeOf}
-use Rattle.arm64_hint_rules.specs.declared.outcome.Outcome.{Outcome}
-use Rattle.arm64_hint_rules.specs.declared.outcome.Outcome.the-variants.{Skipped}
+use Rattle.arm64_hint_rules.specs.declared.outcome.HintOutcome.{HintOutcome}
+use Rattle.arm64_hint_rules.specs.declared.outcome.HintOutcome.the-variants.{Skipped}
 use Rattle.arm64_hint_work.specs.declared.tally.Tally.{Tally}
 use Rattle.arm64_hint_run.specs.Run.{worked, runOf, imageOf}
 use Rattle.arm64_hint_run.specs.declared.run.RunAnswer.the-variants.{Done}
@@ -33,7 +33,7 @@ use Rattle.arm64_hint_kept.proofs.Tests.{meetsAll, premises-when}
 not-skipped : (entries : List ℕ) (h : HintRecord) (ws : List ℕ) (r : Rewrite) → rewriteIn (outcomeOf entries h ws) ≡ some r → isSkipped h ≡ false
 unfolding outcomeOf
 not-skipped entries h ws r =
-    split (λ (o : Outcome). rewriteIn o ≡ some r → isSkipped h ≡ false) (isSkipped h) Skipped _
+    split (λ (o : HintOutcome). rewriteIn o ≡ some r → isSkipped h ≡ false) (isSkipped h) Skipped _
     (λ t e. let z : _≡_ {A = ℕ} 0 1 = cc in absurd (omega arith))
     (λ t e. t)
 

@@ -36,8 +36,8 @@ use Rattle.arm64_hint_places.specs.Hint.{isSkipped, insnsOf, offsOf, relsOf}
 use Rattle.arm64_hint_places.proofs.Places.{insns-none}
 use Rattle.arm64_hint_check.proofs.Checks.{ready, each-fit}
 use Rattle.arm64_hint_rules.specs.Rule.{outcomeOf, newsOf}
-use Rattle.arm64_hint_rules.specs.declared.outcome.Outcome.{Outcome}
-use Rattle.arm64_hint_rules.specs.declared.outcome.Outcome.the-variants.{Skipped, Worked}
+use Rattle.arm64_hint_rules.specs.declared.outcome.HintOutcome.{HintOutcome}
+use Rattle.arm64_hint_rules.specs.declared.outcome.HintOutcome.the-variants.{Skipped, Worked}
 use Rattle.arm64_hint_work.specs.Step.{placesOf, stepsOf}
 use Rattle.arm64_hint_work.specs.declared.tally.Tally.{Tally}
 use Rattle.arm64_hint_work.proofs.Sections.{words-part, puts-part}
@@ -91,7 +91,7 @@ module _ {a : ℕ} {entries : List ℕ} {h : HintRecord} {entries′ : List ℕ}
   outcomes : (ws : List ℕ) → outcomeOf entries h ws ≡ outcomeOf entries′ g ws
   unfolding outcomeOf
   outcomes ws =
-      ap₂ (λ (b : Bool) (o : Outcome). choose b Skipped o) skipped
+      ap₂ (λ (b : Bool) (o : HintOutcome). choose b Skipped o) skipped
       (ap₂ (λ (k : ℕ) (i : Insns). Worked (decide k i (relsOf entries h)) i) (same .kind) (insns ws)
       ∙ ap (λ (r : Rels). Worked (decide (g .kind) (insnsOf g ws) r) (insnsOf g ws)) (same .names))
 
@@ -110,7 +110,7 @@ module _ (hints entries : List ℕ) (a len : ℕ) (hints′ entries′ : List �
   own-part : (j : ℕ) → j < hintCount hints′ → (x : List ℕ) → a + len ≤ length x
       → part (written (stepsOf hints entries) (at j) x) a len ≡ written (stepsOf hints′ entries′) j (part x a len)
   own-part j h x l =
-      ap₂ (λ (ps : List ℕ) (o : Outcome). part (putWords ps (newsOf o) x) a len) (places (call .same j h)) (answers j h x)
+      ap₂ (λ (ps : List ℕ) (o : HintOutcome). part (putWords ps (newsOf o) x) a len) (places (call .same j h)) (answers j h x)
       ∙ ap (λ (y : List ℕ). part y a len) (sym (puts-part x a len l (fits j h) (newsOf (answered (stepsOf hints′ entries′) j (part x a len)))))
       ∙ part-splice x a len (written (stepsOf hints′ entries′) j (part x a len)) (omega arith)
       (local-step (stepsOf hints′ entries′) j .writes .size (part x a len) ∙ length-part x a len l)

@@ -16,8 +16,8 @@ use Rattle.arm64_hint_terms.specs.declared.answer.Rewrite.the-variants.{Drop, L
 use Rattle.arm64_hint_terms.specs.declared.answer.Decision.the-variants.{Declined, Nine, Rewritten}
 use Rattle.arm64_machine.specs.Examples.{start, idle}
 use Rattle.arm64_hint_rules.specs.Rule.{outcomeOf}
-use Rattle.arm64_hint_rules.specs.declared.outcome.Outcome.{Outcome}
-use Rattle.arm64_hint_rules.specs.declared.outcome.Outcome.the-variants.{Skipped, Worked}
+use Rattle.arm64_hint_rules.specs.declared.outcome.HintOutcome.{HintOutcome}
+use Rattle.arm64_hint_rules.specs.declared.outcome.HintOutcome.the-variants.{Skipped, Worked}
 use Rattle.arm64_hint_work.specs.declared.tally.Tally.{Tally}
 use Rattle.arm64_hint_run.specs.Run.{runOf, imageOf}
 use Rattle.arm64_hint_run.specs.declared.run.RunAnswer.the-variants.{Done}
@@ -70,7 +70,7 @@ abbrev pub counts : (rewritten skipped declined down : ℕ) → Tally
 counts rewritten skipped declined down = record { rewritten = rewritten; skipped = skipped; declined = declined; «turned_down» = down }
 
 -- which rewrite an outcome is
-abbrev pub rewriteIn : Outcome → Option Rewrite
+abbrev pub rewriteIn : HintOutcome → Option Rewrite
 rewriteIn Skipped = none
 rewriteIn (Worked Declined s) = none
 rewriteIn (Worked Nine s) = none

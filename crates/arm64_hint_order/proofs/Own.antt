@@ -15,7 +15,8 @@ use Rattle.arm64_hint_order.specs.Lists.{range, those, count, ofObj, Onc
 use Rattle.arm64_hint_order.specs.Rising.{Before, by-object, by-pass, by-position, Rising, last, first}
 use Rattle.arm64_hint_order.specs.Runs.{Kept}
 use Rattle.arm64_hint_order.proofs.Lists.{all-those, all-range, those-append, those-all, those-none}
-use Rattle.arm64_hint_order.proofs.Lists.{count-append, count-here, count-there, all-count, count-none, count-range, count-those-in, once-inside, once-count}
+use Rattle.arm64_hint_order.proofs.Lists.{count-append, count-here, count-there, all-count, count-none, count-range, count-those-in}
+use Rattle.arm64_hint_order.proofs.Lists.{once-inside, once-count}
 
 -- ---- what the members have in common
 

@@ -10,7 +10,7 @@ use Rattle.macho.specs.declared.hint.HintRecord.{HintRecord}
 use Rattle.image.specs.Words.{wordsAt, putWords}
 use Rattle.arm64_hint_terms.specs.declared.answer.Insns.{Insns}
 use Rattle.arm64_hint_terms.specs.declared.rels.Rels.{Rels}
-use Rattle.arm64_hint_words.specs.Place.{offsets, wordsIn, InBytes}
+use Rattle.arm64_hint_words.specs.Place.{offsets, insnsRead, InBytes}
 use Rattle.arm64_hint_words.specs.Entry.{relsIn, InEntries}
 use Rattle.arm64_hint_places.specs.Hint.{isSkipped, insnsAll, insnsIn, offsOf, insnsOf, relsOf, Inside, Named}
 use Rattle.arm64_hint_places.proofs.Places.{insns-first}
@@ -31,9 +31,9 @@ module _ (h : HintRecord) {insns : List HintInsn} (all : insns ≡ insnsAll h) w
   -- ---- what is answered
 
   module _ (e : isSkipped h ≡ false) where
-    pub held-words : (xs : List ℕ) {s : Insns} → s ≡ wordsIn xs (take (h .n) insns) → s ≡ insnsOf h (wordsAt (offsOf h) xs)
+    pub held-words : (xs : List ℕ) {s : Insns} → s ≡ insnsRead xs (take (h .n) insns) → s ≡ insnsOf h (wordsAt (offsOf h) xs)
     unfolding insnsOf
-    held-words xs told = told ∙ ap (wordsIn xs) (sym (firsts e))
+    held-words xs told = told ∙ ap (insnsRead xs) (sym (firsts e))
 
     pub held-stored : (xs : List ℕ) (news : List (Option ℕ)) {ys : List ℕ} → ys ≡ putWords (offsets (take (h .n) insns)) news xs
         → ys ≡ putWords (offsOf h) news xs

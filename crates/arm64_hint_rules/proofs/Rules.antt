@@ -12,7 +12,7 @@ use Rattle.arm64_hint_terms.specs.declared.answer.Decision.{Decision}
 use Rattle.arm64_hint_terms.specs.declared.rels.Rels.{Rels}
 use Rattle.arm64_hint_places.specs.Hint.{offsOf, insnsOf, Inside}
 use Rattle.arm64_hint_rules.specs.Rule.{newsIn, ruledIn, sectionAfter}
-use Rattle.arm64_hint_rules.specs.declared.outcome.Outcome.the-variants.{Worked}
+use Rattle.arm64_hint_rules.specs.declared.outcome.HintOutcome.the-variants.{Worked}
 
 -- the places stand in as many bytes
 pub still-inside : (h : HintRecord) {xs ys : List ℕ} → ys ≡ xs → Inside h (length xs) → Inside h (length ys)

@@ -12,19 +12,19 @@ use Rattle.arm64_hint_terms.specs.declared.rels.Rels.{Rels}
 use Rattle.arm64_hint_laws.specs.Decide.{decide}
 use Rattle.arm64_hint_words.specs.Place.{newOf}
 use Rattle.arm64_hint_places.specs.Hint.{isSkipped, offsOf, insnsOf, relsOf}
-use Rattle.arm64_hint_rules.specs.declared.outcome.Outcome.{Outcome}
-use Rattle.arm64_hint_rules.specs.declared.outcome.Outcome.the-variants.{Skipped, Worked}
+use Rattle.arm64_hint_rules.specs.declared.outcome.HintOutcome.{HintOutcome}
+use Rattle.arm64_hint_rules.specs.declared.outcome.HintOutcome.the-variants.{Skipped, Worked}
 
 -- what the rule of a kind answers to a hint's words
-abbrev pub ruled : ℕ → HintRecord → Rels → List ℕ → Outcome
+abbrev pub ruled : ℕ → HintRecord → Rels → List ℕ → HintOutcome
 ruled kind h r words = Worked (decide kind (insnsOf h words) r) (insnsOf h words)
 
 -- a hint's outcome, by its own kind and the entries that it names
-unfoldable pub outcomeOf : List ℕ → HintRecord → List ℕ → Outcome
+unfoldable pub outcomeOf : List ℕ → HintRecord → List ℕ → HintOutcome
 outcomeOf entries h words = choose (isSkipped h) Skipped (ruled (h .kind) h (relsOf entries h) words)
 
 -- the number of an outcome: its decision's, and 0 where the hint is skipped
-abbrev pub outcomeNumber : Outcome → ℕ
+abbrev pub outcomeNumber : HintOutcome → ℕ
 outcomeNumber Skipped = 0
 outcomeNumber (Worked d s) = decisionNumber d
 
@@ -35,12 +35,12 @@ newsIn Nine = []
 newsIn (Rewritten p) = newOf (p .w0) ∷ newOf (p .w1) ∷ newOf (p .w2) ∷ []
 
 -- and of an outcome
-abbrev pub newsOf : Outcome → List (Option ℕ)
+abbrev pub newsOf : HintOutcome → List (Option ℕ)
 newsOf Skipped = []
 newsOf (Worked d s) = newsIn d
 
 -- what the rule of a kind answers in a hint's section
-abbrev pub ruledIn : ℕ → HintRecord → Rels → List ℕ → Outcome
+abbrev pub ruledIn : ℕ → HintRecord → Rels → List ℕ → HintOutcome
 ruledIn kind h r section = ruled kind h r (wordsAt (offsOf h) section)
 
 -- and the section that it leaves

@@ -1,6 +1,6 @@
 // The eight hint rules at work: each gets its section as the part of what is lent, reads its words there, and stores what is decided through it.
 // The run lends the hint's part itself, so that the part taken here starts at 0 and is all of it.
-use crate::outcome::Outcome;
+use crate::outcome::HintOutcome;
 use crate::part::part;
 use crate::store::store;
 use arm64_hint_adrp::three::adrp_add_ldr;
@@ -24,7 +24,7 @@ ghost use Rattle.arm64_hint_places.specs.Hint.{Inside};
 ghost use Rattle.arm64_hint_rules.specs.Rule.{ruledIn, sectionAfter};
 
 // Two ADRPs of one page into one register: the second is dropped.
-pub fn loh_adrp_adrp(section: &mut [u8], h: HintRecord, r: Rels) -> Outcome
+pub fn loh_adrp_adrp(section: &mut [u8], h: HintRecord, r: Rels) -> HintOutcome
     requires { ⌜ Inside h (length (now section)) ⌝ }
     ensures outcome { λ o. ⌜ o ≡ ruledIn MCLOH-AdrpAdrp h r (now (section .entry)) ⌝ }
     ensures section { λ _. ⌜ now (section .exit) ≡ sectionAfter MCLOH-AdrpAdrp h r (now (section .entry)) ⌝ }
@@ -34,11 +34,11 @@ pub fn loh_adrp_adrp(section: &mut [u8], h: HintRecord, r: Rels) -> Outcome
     let s = insns_of(buf, h);
     let d = adrp_adrp(s, both_pages(r));
     store(buf, h, d);
-    Outcome::Worked(d, s)
+    HintOutcome::Worked(d, s)
 }
 
 // A load from within 1 MiB of itself becomes a literal load.
-pub fn loh_adrp_ldr(section: &mut [u8], h: HintRecord, r: Rels) -> Outcome
+pub fn loh_adrp_ldr(section: &mut [u8], h: HintRecord, r: Rels) -> HintOutcome
     requires { ⌜ Inside h (length (now section)) ⌝ }
     ensures outcome { λ o. ⌜ o ≡ ruledIn MCLOH-AdrpLdr h r (now (section .entry)) ⌝ }
     ensures section { λ _. ⌜ now (section .exit) ≡ sectionAfter MCLOH-AdrpLdr h r (now (section .entry)) ⌝ }
@@ -48,11 +48,11 @@ pub fn loh_adrp_ldr(section: &mut [u8], h: HintRecord, r: Rels) -> Outcome
     let s = insns_of(buf, h);
     let d = adrp_ldr(s, has_page_pair(r, 2, false));
     store(buf, h, d);
-    Outcome::Worked(d, s)
+    HintOutcome::Worked(d, s)
 }
 
 // An address within 1 MiB of the ADRP becomes an ADR.
-pub fn loh_adrp_add(section: &mut [u8], h: HintRecord, r: Rels) -> Outcome
+pub fn loh_adrp_add(section: &mut [u8], h: HintRecord, r: Rels) -> HintOutcome
     requires { ⌜ Inside h (length (now section)) ⌝ }
     ensures outcome { λ o. ⌜ o ≡ ruledIn MCLOH-AdrpAdd h r (now (section .entry)) ⌝ }
     ensures section { λ _. ⌜ now (section .exit) ≡ sectionAfter MCLOH-AdrpAdd h r (now (section .entry)) ⌝ }
@@ -62,11 +62,11 @@ pub fn loh_adrp_add(section: &mut [u8], h: HintRecord, r: Rels) -> Outcome
     let s = insns_of(buf, h);
     let d = adrp_add(s, has_page_pair(r, 2, false));
     store(buf, h, d);
-    Outcome::Worked(d, s)
+    HintOutcome::Worked(d, s)
 }
 
 // A load through ADRP and ADD: a literal load, an ADR, or the fold.
-pub fn loh_adrp_add_ldr(section: &mut [u8], h: HintRecord, r: Rels) -> Outcome
+pub fn loh_adrp_add_ldr(section: &mut [u8], h: HintRecord, r: Rels) -> HintOutcome
     requires { ⌜ Inside h (length (now section)) ⌝ }
     ensures outcome { λ o. ⌜ o ≡ ruledIn MCLOH-AdrpAddLdr h r (now (section .entry)) ⌝ }
     ensures section { λ _. ⌜ now (section .exit) ≡ sectionAfter MCLOH-AdrpAddLdr h r (now (section .entry)) ⌝ }
@@ -76,11 +76,11 @@ pub fn loh_adrp_add_ldr(section: &mut [u8], h: HintRecord, r: Rels) -> Outcome
     let s = insns_of(buf, h);
     let d = adrp_add_ldr(s, has_page_pair(r, 3, false));
     store(buf, h, d);
-    Outcome::Worked(d, s)
+    HintOutcome::Worked(d, s)
 }
 
 // A store through ADRP and ADD: an ADR, or the fold.
-pub fn loh_adrp_add_str(section: &mut [u8], h: HintRecord, r: Rels) -> Outcome
+pub fn loh_adrp_add_str(section: &mut [u8], h: HintRecord, r: Rels) -> HintOutcome
     requires { ⌜ Inside h (length (now section)) ⌝ }
     ensures outcome { λ o. ⌜ o ≡ ruledIn MCLOH-AdrpAddStr h r (now (section .entry)) ⌝ }
     ensures section { λ _. ⌜ now (section .exit) ≡ sectionAfter MCLOH-AdrpAddStr h r (now (section .entry)) ⌝ }
@@ -90,11 +90,11 @@ pub fn loh_adrp_add_str(section: &mut [u8], h: HintRecord, r: Rels) -> Outcome
     let s = insns_of(buf, h);
     let d = adrp_add_str(s, has_page_pair(r, 3, false));
     store(buf, h, d);
-    Outcome::Worked(d, s)
+    HintOutcome::Worked(d, s)
 }
 
 // A GOT load: a literal load of the slot, or an ADR where it was relaxed.
-pub fn loh_adrp_ldr_got(section: &mut [u8], h: HintRecord, r: Rels) -> Outcome
+pub fn loh_adrp_ldr_got(section: &mut [u8], h: HintRecord, r: Rels) -> HintOutcome
     requires { ⌜ Inside h (length (now section)) ⌝ }
     ensures outcome { λ o. ⌜ o ≡ ruledIn MCLOH-AdrpLdrGot h r (now (section .entry)) ⌝ }
     ensures section { λ _. ⌜ now (section .exit) ≡ sectionAfter MCLOH-AdrpLdrGot h r (now (section .entry)) ⌝ }
@@ -104,11 +104,11 @@ pub fn loh_adrp_ldr_got(section: &mut [u8], h: HintRecord, r: Rels) -> Outcome
     let s = insns_of(buf, h);
     let d = adrp_ldr_got(s, has_page_pair(r, 2, true));
     store(buf, h, d);
-    Outcome::Worked(d, s)
+    HintOutcome::Worked(d, s)
 }
 
 // A load through a GOT load.
-pub fn loh_adrp_ldr_got_ldr(section: &mut [u8], h: HintRecord, r: Rels) -> Outcome
+pub fn loh_adrp_ldr_got_ldr(section: &mut [u8], h: HintRecord, r: Rels) -> HintOutcome
     requires { ⌜ Inside h (length (now section)) ⌝ }
     ensures outcome { λ o. ⌜ o ≡ ruledIn MCLOH-AdrpLdrGotLdr h r (now (section .entry)) ⌝ }
     ensures section { λ _. ⌜ now (section .exit) ≡ sectionAfter MCLOH-AdrpLdrGotLdr h r (now (section .entry)) ⌝ }
@@ -118,11 +118,11 @@ pub fn loh_adrp_ldr_got_ldr(section: &mut [u8], h: HintRecord, r: Rels) -> Outco
     let s = insns_of(buf, h);
     let d = adrp_ldr_got_ldr(s, has_page_pair(r, 3, true));
     store(buf, h, d);
-    Outcome::Worked(d, s)
+    HintOutcome::Worked(d, s)
 }
 
 // A store through a GOT load.
-pub fn loh_adrp_ldr_got_str(section: &mut [u8], h: HintRecord, r: Rels) -> Outcome
+pub fn loh_adrp_ldr_got_str(section: &mut [u8], h: HintRecord, r: Rels) -> HintOutcome
     requires { ⌜ Inside h (length (now section)) ⌝ }
     ensures outcome { λ o. ⌜ o ≡ ruledIn MCLOH-AdrpLdrGotStr h r (now (section .entry)) ⌝ }
     ensures section { λ _. ⌜ now (section .exit) ≡ sectionAfter MCLOH-AdrpLdrGotStr h r (now (section .entry)) ⌝ }
@@ -132,5 +132,5 @@ pub fn loh_adrp_ldr_got_str(section: &mut [u8], h: HintRecord, r: Rels) -> Outco
     let s = insns_of(buf, h);
     let d = adrp_ldr_got_str(s, has_page_pair(r, 3, true));
     store(buf, h, d);
-    Outcome::Worked(d, s)
+    HintOutcome::Worked(d, s)
 }

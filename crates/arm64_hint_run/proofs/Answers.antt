@@ -46,8 +46,8 @@ use Rattle.arm64_hint_places.specs.Hint.{isSkipped, insnsIn, insnsOf, relsOf}
 use Rattle.arm64_hint_places.proofs.Places.{insns-two, rels-two}
 use Rattle.arm64_hint_check.specs.Check.{isList, checkLists, first, checkTo, checkAll}
 use Rattle.arm64_hint_rules.specs.Rule.{outcomeOf, outcomeNumber, newsIn, newsOf}
-use Rattle.arm64_hint_rules.specs.declared.outcome.Outcome.{Outcome}
-use Rattle.arm64_hint_rules.specs.declared.outcome.Outcome.the-variants.{Skipped, Worked}
+use Rattle.arm64_hint_rules.specs.declared.outcome.HintOutcome.{HintOutcome}
+use Rattle.arm64_hint_rules.specs.declared.outcome.HintOutcome.the-variants.{Skipped, Worked}
 use Rattle.arm64_hint_work.specs.Step.{placesOf, addDecision, addOutcome, total, stepsOf}
 use Rattle.arm64_hint_work.specs.declared.tally.Tally.{Tally}
 use Rattle.arm64_hint_work.proofs.Steps.{total-add}
@@ -138,7 +138,7 @@ module _ (image hints entries : List ℕ) where
 -- ---- a hint answered nine
 
 -- writes no word, and is counted as turned down
-is-nine : (o : Outcome) → outcomeNumber o ≡ numberOf Overflow → (newsOf o ≡ []) × ((t : Tally) → addOutcome o t ≡ addDecision Nine t)
+is-nine : (o : HintOutcome) → outcomeNumber o ≡ numberOf Overflow → (newsOf o ≡ []) × ((t : Tally) → addOutcome o t ≡ addDecision Nine t)
 is-nine Skipped e = absurd (omega arith)
 is-nine (Worked Declined s) e = absurd (omega arith)
 is-nine (Worked Nine s) e = (refl, λ t. refl)
@@ -208,7 +208,7 @@ module _ (h : HintRecord) (entries image : List ℕ) (kind : h .kind ≡ MCLOH-A
   pub twice-image : putWords (placesOf h) (newsOf (outcomeOf entries h (wordsAt (placesOf h) image))) image
       ≡ put 4 image (h .start + h .insn0 .off) nopWord
   twice-image =
-      ap (λ (o : Outcome). putWords (placesOf h) (newsOf o) image) twice-answer
+      ap (λ (o : HintOutcome). putWords (placesOf h) (newsOf o) image) twice-answer
       ∙ ap (λ (l : List HintInsn). putWords (map (λ at. h .start + at) (map (λ i. i .off) l)) (newsIn dropped) image) two
       ∙ ap (λ (o : ℕ). put 4 image (h .start + o) nopWord) off
 
@@ -223,5 +223,5 @@ pub one-word-twice : (hints entries image : List ℕ) (k : ℕ) (t : Tally) → 
     }
 one-word-twice hints entries image k t kind n off addr page₀ page₁ a word =
     let p = twice-image (hintOf hints k) entries image kind n off addr page₀ page₁ a word in
-    let q = ap (λ (o : Outcome). addOutcome o t) (twice-answer (hintOf hints k) entries image kind n off addr page₀ page₁ a word) in
+    let q = ap (λ (o : HintOutcome). addOutcome o t) (twice-answer (hintOf hints k) entries image kind n off addr page₀ page₁ a word) in
     λ i. record { image = p i; tally = q i }

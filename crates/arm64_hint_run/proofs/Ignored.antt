@@ -21,7 +21,7 @@ use Rattle.arm64_hint_order.proofs.Same.{run-same, own-same}
 use Rattle.arm64_hint_places.proofs.Alike.{Alike, same-skip, same-insns, same-rels, changed, elsewhere, ignored-byte, past-place}
 use Rattle.arm64_hint_check.proofs.Ignored.{same-check}
 use Rattle.arm64_hint_rules.specs.Rule.{outcomeOf, newsOf}
-use Rattle.arm64_hint_rules.specs.declared.outcome.Outcome.{Outcome}
+use Rattle.arm64_hint_rules.specs.declared.outcome.HintOutcome.{HintOutcome}
 use Rattle.arm64_hint_work.specs.Step.{placesOf, addOutcome, stepsOf}
 use Rattle.arm64_hint_work.specs.declared.tally.Tally.{Tally}
 use Rattle.arm64_hint_run.specs.Run.{start, worked, answerBy, imageBy, runOf, imageOf}
@@ -52,8 +52,8 @@ module _ (hints hints′ : List ℕ) (sized : length hints ≡ length hints′)
     same-step : (k : ℕ) → k < hintCount hints → (w : Work Tally) → stepOf (stepsOf hints entries) k w ≡ stepOf (stepsOf hints′ entries) k w
     same-step k h w =
         let a = same-answer _ _ (alike k h) entries (w .image) in
-        let p = ap₂ (λ (l : List ℕ) (o : Outcome). putWords l (newsOf o) (w .image)) (same-places _ _ (alike k h)) a in
-        let q = ap (λ (o : Outcome). addOutcome o (w .tally)) a in
+        let p = ap₂ (λ (l : List ℕ) (o : HintOutcome). putWords l (newsOf o) (w .image)) (same-places _ _ (alike k h)) a in
+        let q = ap (λ (o : HintOutcome). addOutcome o (w .tally)) a in
         λ i. record { image = p i; tally = q i }
 
     same-work : worked image hints entries (orderOf hints) ≡ worked image hints′ entries (orderOf hints′)

@@ -35,8 +35,8 @@ use Rattle.arm64_hint_places.specs.Hint.{isSkipped, insnsOf, relsOf, Named}
 use Rattle.arm64_hint_check.specs.Check.{checkAll}
 use Rattle.arm64_hint_check.proofs.Checks.{ready, each-fit}
 use Rattle.arm64_hint_rules.specs.Rule.{outcomeOf, newsOf}
-use Rattle.arm64_hint_rules.specs.declared.outcome.Outcome.{Outcome}
-use Rattle.arm64_hint_rules.specs.declared.outcome.Outcome.the-variants.{Skipped, Worked}
+use Rattle.arm64_hint_rules.specs.declared.outcome.HintOutcome.{HintOutcome}
+use Rattle.arm64_hint_rules.specs.declared.outcome.HintOutcome.the-variants.{Skipped, Worked}
 use Rattle.arm64_hint_work.specs.Step.{placesOf, addOutcome, stepsOf}
 use Rattle.arm64_hint_work.specs.declared.tally.Tally.{Tally}
 use Rattle.arm64_hint_run.specs.Run.{start, worked, answerBy, imageBy, runOf, imageOf}
@@ -82,8 +82,8 @@ module _ (entries entries′ : List ℕ) (sized : length entries ≡ length entr
         let h = hintOf hints k in
         let a = same-outcome h (wordsAt (placesOf h) (w .image))
         (λ e. ready (length image) (length entries) h h refl (each-fit (length image) hints (length entries) fit k l) e .entries) in
-        let p = ap (λ (o : Outcome). putWords (placesOf h) (newsOf o) (w .image)) a in
-        let q = ap (λ (o : Outcome). addOutcome o (w .tally)) a in
+        let p = ap (λ (o : HintOutcome). putWords (placesOf h) (newsOf o) (w .image)) a in
+        let q = ap (λ (o : HintOutcome). addOutcome o (w .tally)) a in
         λ i. record { image = p i; tally = q i }
 
     same-work : worked image hints entries (orderOf hints) ≡ worked image hints entries′ (orderOf hints)

@@ -17,7 +17,7 @@ use Rattle.arm64_hint_order.specs.Lists.{runList}
 use Rattle.arm64_hint_order.specs.Cursor.{orderOf, rest, following, Sound, SoundNext}
 use Rattle.arm64_hint_order.proofs.Walk.{turn-at, turn-done, turn-count, turn-sound, order-length}
 use Rattle.arm64_hint_check.specs.Check.{checkAll}
-use Rattle.arm64_hint_rules.specs.declared.outcome.Outcome.{Outcome}
+use Rattle.arm64_hint_rules.specs.declared.outcome.HintOutcome.{HintOutcome}
 use Rattle.arm64_hint_work.specs.Step.{addOutcome, total, stepsOf}
 use Rattle.arm64_hint_work.specs.declared.tally.Tally.{Tally}
 use Rattle.arm64_hint_work.proofs.Steps.{total-add}
@@ -54,7 +54,7 @@ module _ (first hints entries : List ℕ) where
       pub room : total t < hintCount hints
       room = omega (arith, turn-count hints r k d e c told, g .counted)
 
-      pub going-next : SoundNext hints r → {o : Outcome} {y : List ℕ} {u : Tally} → o ≡ answered (stepsOf hints entries) k image
+      pub going-next : SoundNext hints r → {o : HintOutcome} {y : List ℕ} {u : Tally} → o ≡ answered (stepsOf hints entries) k image
           → y ≡ written (stepsOf hints entries) k image → u ≡ addOutcome o t → Going first hints entries y d u
       going-next s {o} {y} {u} answers writes adds = record {
         sound = turn-sound hints r k d e s .1;
@@ -67,7 +67,7 @@ module _ (first hints entries : List ℕ) where
       }
         where
           tallies : u ≡ addOutcome (answered (stepsOf hints entries) k image) t
-          tallies = adds ∙ ap (λ (x : Outcome). addOutcome x t) answers
+          tallies = adds ∙ ap (λ (x : HintOutcome). addOutcome x t) answers
 
 -- ---- the run
 

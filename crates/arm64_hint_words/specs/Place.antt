@@ -37,8 +37,8 @@ insnsWith insns words =
     }
 
 -- the words that stand at the places
-abbrev pub wordsIn : List ℕ → List HintInsn → Insns
-wordsIn bytes insns = insnsWith insns (wordsAt (offsets insns) bytes)
+abbrev pub insnsRead : List ℕ → List HintInsn → Insns
+insnsRead bytes insns = insnsWith insns (wordsAt (offsets insns) bytes)
 
 -- a place's new word
 abbrev pub newOf : NewWord → Option ℕ

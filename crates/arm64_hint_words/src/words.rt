@@ -7,12 +7,12 @@ ghost use mathlib.Core.Path.{_≡_};
 ghost use mathlib.Core.List.{[], _∷_};
 ghost use lib.ListN.{length, take};
 ghost use Rattle.image.specs.Words.{putWords};
-ghost use Rattle.arm64_hint_words.specs.Place.{offsets, newOf, wordsIn, InBytes};
+ghost use Rattle.arm64_hint_words.specs.Place.{offsets, newOf, insnsRead, InBytes};
 
 // The words of the places up to the word count, with their addresses. The section stays as it is.
 pub fn words_of(section: &mut [u8], insns: [HintInsn; 3], n: usize) -> Insns
     requires { ⌜ InBytes (length (now section)) (take n insns) ⌝ }
-    ensures { λ r. ⌜ (r ≡ wordsIn (now (section .entry)) (take n insns)) × (now (section .exit) ≡ now (section .entry)) ⌝ }
+    ensures { λ r. ⌜ (r ≡ insnsRead (now (section .entry)) (take n insns)) × (now (section .exit) ≡ now (section .entry)) ⌝ }
 {
     let mut h = Hint {
         buf: section,

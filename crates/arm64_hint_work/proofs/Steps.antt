@@ -21,8 +21,8 @@ use Rattle.arm64_hint_terms.specs.declared.rels.Rels.{Rels}
 use Rattle.arm64_hint_places.specs.Hint.{isSkipped, relsOf, Inside}
 use Rattle.arm64_hint_places.proofs.Places.{insns-none}
 use Rattle.arm64_hint_rules.specs.Rule.{outcomeOf, outcomeNumber, newsOf, ruled, ruledIn, sectionAfter}
-use Rattle.arm64_hint_rules.specs.declared.outcome.Outcome.{Outcome}
-use Rattle.arm64_hint_rules.specs.declared.outcome.Outcome.the-variants.{Skipped, Worked}
+use Rattle.arm64_hint_rules.specs.declared.outcome.HintOutcome.{HintOutcome}
+use Rattle.arm64_hint_rules.specs.declared.outcome.HintOutcome.the-variants.{Skipped, Worked}
 use Rattle.arm64_hint_work.specs.Step.{placesOf, addOutcome, total, stepsOf}
 use Rattle.arm64_hint_work.specs.declared.tally.Tally.{Tally}
 use Rattle.arm64_hint_work.proofs.Sections.{words-part, puts-part}
@@ -30,14 +30,14 @@ use Rattle.arm64_hint_work.proofs.Sections.{words-part, puts-part}
 -- ---- one hint
 
 -- a hint's answer on an image, and the image that it makes
-abbrev answerOf : List ℕ → HintRecord → List ℕ → Outcome
+abbrev answerOf : List ℕ → HintRecord → List ℕ → HintOutcome
 answerOf entries h image = outcomeOf entries h (wordsAt (placesOf h) image)
 
 abbrev imageAfter : List ℕ → HintRecord → List ℕ → List ℕ
 imageAfter entries h image = putWords (placesOf h) (newsOf (answerOf entries h image)) image
 
 -- the rule of the hint's own kind
-pub by-kind : (h : HintRecord) (r : Rels) (xs : List ℕ) {kind : ℕ} {zs : List ℕ} {o : Outcome} → h .kind ≡ kind
+pub by-kind : (h : HintRecord) (r : Rels) (xs : List ℕ) {kind : ℕ} {zs : List ℕ} {o : HintOutcome} → h .kind ≡ kind
     → (o ≡ ruledIn kind h r xs) × (zs ≡ sectionAfter kind h r xs)
     → (o ≡ ruledIn (h .kind) h r xs) × (zs ≡ sectionAfter (h .kind) h r xs)
 by-kind h r xs {zs = zs} {o = o} e t =
@@ -67,7 +67,7 @@ module _ (hints entries image : List ℕ) (k : ℕ) (h : HintRecord) (told : h �
         ∙ ap (ruled (h .kind) h (relsOf entries h)) (words-part image (h .start) j (inside .words))
         ∙ sym (choose-false (isSkipped h) Skipped _ (inside .worked))
 
-    pub worked-step : {o : Outcome} {zs : List ℕ} → o ≡ ruledIn (h .kind) h r (part image (h .start) j)
+    pub worked-step : {o : HintOutcome} {zs : List ℕ} → o ≡ ruledIn (h .kind) h r (part image (h .start) j)
         → zs ≡ sectionAfter (h .kind) h r (part image (h .start) j)
         → (o ≡ answered (stepsOf hints entries) k image) × (splice image (h .start) j zs ≡ written (stepsOf hints entries) k image)
     worked-step {o} {zs} answers stores =
@@ -75,20 +75,20 @@ module _ (hints entries image : List ℕ) (k : ℕ) (h : HintRecord) (told : h �
           answers ∙ same-answer,
           ap (splice image (h .start) j) stores
               ∙ puts-part image (h .start) j fits (inside .words) (newsOf (ruledIn (h .kind) h r (part image (h .start) j)))
-              ∙ ap (λ (x : Outcome). putWords (placesOf h) (newsOf x) image) same-answer,
+              ∙ ap (λ (x : HintOutcome). putWords (placesOf h) (newsOf x) image) same-answer,
         )
 
 -- ---- the tally
 
 -- an outcome is one hint more
-pub total-add : (o : Outcome) (t : Tally) → total (addOutcome o t) ≡ total t + 1
+pub total-add : (o : HintOutcome) (t : Tally) → total (addOutcome o t) ≡ total t + 1
 total-add Skipped t = omega arith
 total-add (Worked Declined s) t = omega arith
 total-add (Worked Nine s) t = omega arith
 total-add (Worked (Rewritten p) s) t = omega arith
 
 -- those of number 9 are turned down, and only they
-pub turned-down : (o : Outcome) (t : Tally)
+pub turned-down : (o : HintOutcome) (t : Tally)
     → addOutcome o t .«turned_down» ≡ choose (eqb (outcomeNumber o) (numberOf Overflow)) (t .«turned_down» + 1) (t .«turned_down»)
 unfolding choose
 turned-down Skipped t = refl
@@ -97,7 +97,7 @@ turned-down (Worked Nine s) t = refl
 turned-down (Worked (Rewritten p) s) t = refl
 
 -- the order of two outcomes does not count
-pub add-swap : (a b : Outcome) (t : Tally) → addOutcome a (addOutcome b t) ≡ addOutcome b (addOutcome a t)
+pub add-swap : (a b : HintOutcome) (t : Tally) → addOutcome a (addOutcome b t) ≡ addOutcome b (addOutcome a t)
 add-swap Skipped Skipped t = refl
 add-swap Skipped (Worked Declined s) t = refl
 add-swap Skipped (Worked Nine s) t = refl

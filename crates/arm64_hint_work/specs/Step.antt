@@ -9,8 +9,8 @@ use Rattle.arm64_hint_terms.specs.declared.answer.Decision.{Decision}
 use Rattle.arm64_hint_terms.specs.declared.answer.Decision.the-variants.{Declined, Nine, Rewritten}
 use Rattle.arm64_hint_places.specs.Hint.{offsOf}
 use Rattle.arm64_hint_rules.specs.Rule.{outcomeOf, newsOf}
-use Rattle.arm64_hint_rules.specs.declared.outcome.Outcome.{Outcome}
-use Rattle.arm64_hint_rules.specs.declared.outcome.Outcome.the-variants.{Skipped, Worked}
+use Rattle.arm64_hint_rules.specs.declared.outcome.HintOutcome.{HintOutcome}
+use Rattle.arm64_hint_rules.specs.declared.outcome.HintOutcome.the-variants.{Skipped, Worked}
 use Rattle.arm64_hint_work.specs.declared.tally.Tally.{Tally}
 
 -- where a hint's words stand in the image
@@ -24,7 +24,7 @@ addDecision Nine t = record { rewritten = t .rewritten; skipped = t .skipped; de
 addDecision (Rewritten p) t = record { rewritten = t .rewritten + 1; skipped = t .skipped; declined = t .declined; «turned_down» = t .«turned_down» }
 
 -- and with one outcome more
-abbrev pub addOutcome : Outcome → Tally → Tally
+abbrev pub addOutcome : HintOutcome → Tally → Tally
 addOutcome Skipped t = record { rewritten = t .rewritten; skipped = t .skipped + 1; declined = t .declined; «turned_down» = t .«turned_down» }
 addOutcome (Worked d s) t = addDecision d t
 
@@ -33,7 +33,7 @@ abbrev pub total : Tally → ℕ
 total t = t .rewritten + t .skipped + t .declined + t .«turned_down»
 
 -- the steps of a run's hints: hint k reads the words at its places, and its outcome says which of them get new words
-abbrev pub stepsOf : List ℕ → List ℕ → Steps Outcome Tally
+abbrev pub stepsOf : List ℕ → List ℕ → Steps HintOutcome Tally
 stepsOf hints entries = record {
   places = λ k. placesOf (hintOf hints k);
   answer = λ k words. outcomeOf entries (hintOf hints k) words;

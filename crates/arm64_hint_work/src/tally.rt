@@ -1,5 +1,5 @@
 // The tally of a run: what came of its hints, counted.
-use arm64_hint_rules::outcome::Outcome;
+use arm64_hint_rules::outcome::HintOutcome;
 use arm64_hint_terms::answer::Decision;
 ghost use mathlib.Core.Path.{_≡_};
 ghost use Prim.Native.Nat.{_-_, _^_, _<_};
@@ -37,16 +37,16 @@ impl Tally {
     }
 
     // The tally with one hint more.
-    pub fn add(mut self, o: Outcome) -> Tally
+    pub fn add(mut self, o: HintOutcome) -> Tally
         requires { ⌜ total self < 2 ^ 32 - 1 ⌝ }
         ensures { λ r. ⌜ r ≡ addOutcome o self ⌝ }
     {
         match o {
-            Outcome::Skipped => {
+            HintOutcome::Skipped => {
                 self.skipped += 1;
                 return self;
             }
-            Outcome::Worked(d, _) => {
+            HintOutcome::Worked(d, _) => {
                 return self.add_decision(d);
             }
         }

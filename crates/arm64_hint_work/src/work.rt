@@ -9,7 +9,7 @@ use arm64_hint_rules::loh::loh_adrp_ldr;
 use arm64_hint_rules::loh::loh_adrp_ldr_got;
 use arm64_hint_rules::loh::loh_adrp_ldr_got_ldr;
 use arm64_hint_rules::loh::loh_adrp_ldr_got_str;
-use arm64_hint_rules::outcome::Outcome;
+use arm64_hint_rules::outcome::HintOutcome;
 use arm64_hint_terms::rels::Rels;
 use macho::consts;
 use macho::hint::HintRecord;
@@ -25,8 +25,8 @@ ghost use Rattle.arm64_hint_check.specs.Check.{checkHint};
 ghost use Rattle.arm64_hint_rules.specs.Rule.{ruledIn, sectionAfter};
 ghost use Rattle.arm64_hint_work.specs.Step.{stepsOf};
 
-// The rule of a hint's kind on its section: a choice over the kind in place of the Rust's function pointers.
-fn apply(section: &mut [u8], h: HintRecord, r: Rels) -> Outcome
+// The rule of a hint's kind on its section: a choice over the kind where the Rust has function pointers.
+fn apply(section: &mut [u8], h: HintRecord, r: Rels) -> HintOutcome
     requires { ⌜ Inside h (length (now section)) ⌝ }
     ensures outcome { λ o. ⌜ o ≡ ruledIn (h .kind) h r (now (section .entry)) ⌝ }
     ensures section { λ _. ⌜ now (section .exit) ≡ sectionAfter (h .kind) h r (now (section .entry)) ⌝ }
@@ -41,19 +41,19 @@ fn apply(section: &mut [u8], h: HintRecord, r: Rels) -> Outcome
         consts::LOH_ARM64_ADRP_LDR_GOT_STR => loh_adrp_ldr_got_str(section, h, r),
         consts::LOH_ARM64_ADRP_ADD => loh_adrp_add(section, h, r),
         consts::LOH_ARM64_ADRP_LDR_GOT => loh_adrp_ldr_got(section, h, r),
-        _ => Outcome::Skipped,
+        _ => HintOutcome::Skipped,
     }
 }
 
 // Works hint k on the image: lends its part to the rule of its kind.
-pub fn work(image: &mut [u8], hints: &[u8], entries: &[u8], k: usize) -> Outcome
+pub fn work(image: &mut [u8], hints: &[u8], entries: &[u8], k: usize) -> HintOutcome
     requires { ⌜ (k < hintCount (now hints)) × (checkHint (length (now image)) (length (now entries) / relocSize) (hintOf (now hints) k) ≡ Fit) ⌝ }
     ensures outcome { λ o. ⌜ o ≡ answered (stepsOf (now (hints .entry)) (now (entries .entry))) k (now (image .entry)) ⌝ }
     ensures image { λ _. ⌜ now (image .exit) ≡ written (stepsOf (now (hints .entry)) (now (entries .entry))) k (now (image .entry)) ⌝ }
 {
     let h = HintRecord::read(hints, HintRecord::SIZE * k);
     if is_skipped(h) {
-        return Outcome::Skipped;
+        return HintOutcome::Skipped;
     }
     let r = rels_of(entries, h);
     let start = h.start as usize;

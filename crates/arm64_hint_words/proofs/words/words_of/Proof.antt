@@ -44,7 +44,7 @@ use Rattle.macho.proofs.hint.HintInsn as P
 use Rattle.macho.proofs.hint.HintInsn.Laws as P′
 use Rattle.arm64_hint_terms.proofs.answer.Insns as I
 use Rattle.arm64_hint_terms.proofs.answer.Insns.Laws as I′
-use Rattle.arm64_hint_words.specs.Place.{wordIn, addrIn, wordsIn, InBytes, Fits}
+use Rattle.arm64_hint_words.specs.Place.{wordIn, addrIn, insnsRead, InBytes, Fits}
 use Rattle.arm64_hint_words.specs.declared.hint.Hint.{Hint}
 use Rattle.arm64_hint_words.proofs.hint.Hint as T
 use Rattle.arm64_hint_words.proofs.hint.Hint.Laws as T′
@@ -101,8 +101,8 @@ module _ {M : Type 1} (𝓤 : URA M) (H : Heap 𝓤) (A : Atoms 𝓤) (W : Given
       (place 1)) (vcons (vint w64 (place 2)) vnil))))))
 
   is-out : word 0 < 2 ^ 32 → word 1 < 2 ^ 32 → word 2 < 2 ^ 32 → place 0 < 2 ^ 64 → place 1 < 2 ^ 64 → place 2 < 2 ^ 64
-      → Is I.the-row (wordsIn (x .now) (take n ps)) (out ∷ [])
-  is-out w₀ w₁ w₂ p₀ p₁ p₂ = LL.owes I.the-type I′.the-laws (wordsIn (x .now) (take n ps)) (
+      → Is I.the-row (insnsRead (x .now) (take n ps)) (out ∷ [])
+  is-out w₀ w₁ w₂ p₀ p₁ p₂ = LL.owes I.the-type I′.the-laws (insnsRead (x .now) (take n ps)) (
     (refl, w₀),
     (
       (refl, w₁),
@@ -116,16 +116,16 @@ module _ {M : Type 1} (𝓤 : URA M) (H : Heap 𝓤) (A : Atoms 𝓤) (W : Given
     ),
   )
 
-  exits : Is I.the-row (wordsIn (x .now) (take n ps)) (out ∷ []) → ent 𝓤 (⋆ 𝓤 H A (‵ (Row κ .own d (spelled κ d ∷ [])) ∷ ‵ (flft κ q) ∷ [])) (Post out)
+  exits : Is I.the-row (insnsRead (x .now) (take n ps)) (out ∷ []) → ent 𝓤 (⋆ 𝓤 H A (‵ (Row κ .own d (spelled κ d ∷ [])) ∷ ‵ (flft κ q) ∷ [])) (Post out)
   exits is =
       qed W (‵ (Row κ .own d (spelled κ d ∷ [])) ∷ ‵ (flft κ q) ∷ []) ∵ use1 W (‵ (MutSlice (named 0) κ u8 .own x (s ∷ []))) (bytes-back κ d 𝓤 H A W
       (length (x .now)) refl) $
-      suffices ! _ (ends-at 𝓤 H A f.ended stayed (f.clauses 𝓤 H A at-mem run) W (((κ, tt), (q, tt), tt, a, vals), tt) out (wordsIn (x .now)
+      suffices ! _ (ends-at 𝓤 H A f.ended stayed (f.clauses 𝓤 H A at-mem run) W (((κ, tt), (q, tt), tt, a, vals), tt) out (insnsRead (x .now)
       (take n ps)) (x .now, (tt, (tt, tt))) (refl, (tt, (tt, tt)))) $ says ! (refl, refl) $
       nothing ! $ move ! (2 ∷ 0 ∷ []) $ join ! $ frame ! $ nothing ! $ owned ! usize (Is usize) (uint-makes 𝓤 H A W w64) n _ (refl, n-fits) $ fjoin ! $
       owned ! (Array P.the-row 3) (Is (Array P.the-row 3)) (array-makes 𝓤 H A W P.the-row ((LL.makes P.the-type P′.the-plain) 𝓤 H A) 3) ps _ placed $
       fjoin ! $ move ! (1 ∷ 0 ∷ []) $ fjoin ! $
-      owned ! I.the-row (Is I.the-row) ((LL.makes I.the-type I′.the-plain) 𝓤 H A) (wordsIn (x .now) (take n ps)) _ is $ move ! (1 ∷ 0 ∷ []) $ done !
+      owned ! I.the-row (Is I.the-row) ((LL.makes I.the-type I′.the-plain) 𝓤 H A) (insnsRead (x .now) (take n ps)) _ is $ move ! (1 ∷ 0 ∷ []) $ done !
 
   module _ (C : Calls 𝓤 H) (Λ : Loops 𝓤 H) (fm : FmC 𝓤 H (W .laws) C) (known-get : Triple 𝓤 (C #get) (Get 𝓤 H A at-mem run)) (known-addr : Triple 𝓤
       (C #addr) (Addr 𝓤 H A at-mem run)) where
@@ -198,7 +198,7 @@ module _ {M : Type 1} (𝓤 : URA M) (H : Heap 𝓤) (A : Atoms 𝓤) (W : Given
         assigns ! (agg ! (and-then ! (load ! (from ! (stop !)) (look ! 29 refl)) (and-then ! (load ! (from ! (stop !)) (look ! 27 refl)) (and-then !
         (load ! (from ! (stop !)) (look ! 25 refl)) (and-then ! (load ! (from ! (stop !)) (look ! 23 refl))
         (and-then ! (load ! (from ! (stop !)) (look ! 21 refl)) (and-then ! (load ! (from ! (stop !)) (look ! 19 refl)) (no-more !)))))))) (from !
-        (stop !)) (init ! 38 refl (LL.lawful I.the-type I′.the-laws 𝓤 H A W .typed (wordsIn (x .now) (take n ps)) _ (is-out (is₀ .1) (is₁ .1)
+        (stop !)) (init ! 38 refl (LL.lawful I.the-type I′.the-laws 𝓤 H A W .typed (insnsRead (x .now) (take n ps)) _ (is-out (is₀ .1) (is₁ .1)
         (is₂ .1) (is₃ .1) (is₄ .1) (is₅ .1)) .0)) $
         local-out ! κ d l₄ $
         -- [_4; the Hint's; the token; true; the other parameters'; _18 at 5; …; _5 at 31; …; _4's at 33; _3 at 34; …; _0 at 40; …]
