@@ -3,17 +3,18 @@
 -- the words decode to, and on the entries' test; the decoders' answers are the manual's forms by arm64_insn's `Decodes`.
 use mathlib.Core.Path.{_≡_, refl, sym, ap, subst, _∙_}
 use mathlib.Core.Logic.{_⊎_, inl, inr, ⊎-elim}
-use mathlib.Core.Bool.{Bool, true, false, _&&_, _||_, not, true≢false}
+use mathlib.Core.Bool.{Bool, true, false, not, true≢false}
 use mathlib.Core.List.{List, [], _∷_}
 use Prim.Native.Nat.{ℕ}
 use native.Mathlib.Omega.{arith}
 use borrow.Author.Tests.{not-true}
-use lib.Dec.{eqb, ltb, leb}
+use lib.Dec.{eqb, leb}
 use lib.ListN.{length}
 use Rattle.util.specs.Choice.{choose}
 use Rattle.util.specs.Diagram.{matches}
 use Rattle.util.proofs.Choice.{split, chosen, choose-ap, both}
 use Rattle.macho.specs.Hint.{wordCount}
+use Rattle.macho.specs.declared.reloc.Reloc.{Reloc}
 use Rattle.macho.specs.Types.{MCLOH-AdrpAdrp, MCLOH-AdrpLdr, MCLOH-AdrpAddLdr, MCLOH-AdrpLdrGotLdr}
 use Rattle.macho.specs.Types.{MCLOH-AdrpAddStr, MCLOH-AdrpLdrGotStr, MCLOH-AdrpAdd, MCLOH-AdrpLdrGot}
 use Rattle.arm64_insn.specs.Adrp.{adrpOf}
@@ -30,24 +31,27 @@ use Rattle.arm64_insn.specs.declared.add.AddWord.the-variants as D
 use Rattle.arm64_insn.specs.declared.ldst.LoadStore.{LoadStore}
 use Rattle.arm64_insn.specs.declared.ldst.LoadStoreWord.{LoadStoreWord}
 use Rattle.arm64_insn.specs.declared.ldst.LoadStoreWord.the-variants as L
-use Rattle.arm64_hint_terms.specs.Rels.{isPageRel, isPageoffRel, isAbsent, sameReference, hasPagePair, bothPages}
 use Rattle.arm64_hint_terms.specs.Answer.{sumOf, summed}
 use Rattle.arm64_hint_adrp.specs.Two.{adrpAdrp, adrpLdr, adrpAdd}
 use Rattle.arm64_hint_adrp.specs.Three.{through, adrOrFold, adrpAddLdrWith, adrpAddLdr, adrpAddStrWith, adrpAddStr}
 use Rattle.arm64_hint_got.specs.Got.{gotLoad, adrpLdrGotWith, adrpLdrGot, gotLdrBy, gotLdrWith, adrpLdrGotLdr, gotStrBy, gotStrWith, adrpLdrGotStr}
 use Rattle.arm64_hint_laws.specs.Decide.{decide}
 use Rattle.arm64_hint_terms.specs.Kinds.{Word, Adrp-Page, Adrp-GotPage, Add-PageOff, Ldr-PageOff, Ldr-GotPageOff, Ldr, Str}
-use Rattle.arm64_hint_terms.specs.Kinds.{Kind, kinds, wordsIn, wordsOf, IsAdrp, IsAdd, IsAccess, IsTaken, IsWord, IsInstead, AreWords, areCarried}
+use Rattle.arm64_hint_terms.specs.Kinds.{HintKind, kinds, wordsAmong, wordsOf, IsAdrp, IsAdd, IsAccess, IsTaken, IsWord, IsInstead, AreWords, OneV, Refers}
 use Rattle.arm64_hint_terms.specs.declared.answer.Insns.{Insns}
+use Rattle.arm64_hint_terms.specs.declared.answer.Plan.{Plan}
 use Rattle.arm64_hint_terms.specs.declared.answer.NewWord.the-variants.{Keep}
 use Rattle.arm64_hint_terms.specs.declared.answer.Decision.{Decision}
 use Rattle.arm64_hint_terms.specs.declared.answer.Decision.the-variants.{Declined, Nine, Rewritten}
 use Rattle.arm64_hint_terms.specs.declared.rels.Rel.{Rel}
+use Rattle.arm64_hint_terms.specs.declared.rels.Rel.the-variants.{Entry}
 use Rattle.arm64_hint_terms.specs.declared.rels.Rels.{Rels}
 use Rattle.arm64_hint_adrp.specs.declared.three.Through.{Through}
 use Rattle.arm64_hint_adrp.specs.declared.three.Through.the-variants as T
 use Rattle.arm64_hint_got.specs.declared.GotLoad.{GotLoad}
 use Rattle.arm64_hint_got.specs.declared.GotLoad.the-variants as G
+use Rattle.arm64_hint_terms.proofs.References.{refers-adrp-adrp, refers-adrp-ldr, refers-adrp-add-ldr, refers-adrp-ldr-got-ldr, refers-adrp-add-str}
+use Rattle.arm64_hint_terms.proofs.References.{refers-adrp-ldr-got-str, refers-adrp-add, refers-adrp-ldr-got}
 use Rattle.arm64_hint_adrp.proofs.Adds.{Adds, adds}
 use Rattle.arm64_hint_got.proofs.Loads.{Loads, Makes, Got, got, eight-bytes}
 use Rattle.arm64_hint_laws.proofs.Cases as Cases
@@ -57,13 +61,13 @@ never : {P : Type 0} → _≡_ {A = ℕ} 0 1 → P
 never z = absurd (omega arith)
 
 -- how many words the kind of a number among some has
-abbrev countIn : List Kind → ℕ → ℕ
+abbrev countIn : List HintKind → ℕ → ℕ
 countIn [] n = 0
 countIn (k ∷ ks) n = choose (eqb n (k .number)) (length (k .words)) (countIn ks n)
 
-count-in : (ks : List Kind) (n : ℕ) → countIn ks n ≡ length (wordsIn ks n)
+count-in : (ks : List HintKind) (n : ℕ) → countIn ks n ≡ length (wordsAmong ks n)
 count-in [] n = refl
-count-in (k ∷ ks) n = rw (count-in ks n) (sym (choose-ap length (eqb n (k .number)) (k .words) (wordsIn ks n)))
+count-in (k ∷ ks) n = rw (count-in ks n) (sym (choose-ap length (eqb n (k .number)) (k .words) (wordsAmong ks n)))
 
 -- macho's word count is the number of LLVM's words
 pub counts : (n : ℕ) → wordCount n ≡ length (wordsOf n)
@@ -112,38 +116,25 @@ two-words n s r =
     })
     n
 
--- a hint's words, and its entries
-abbrev pub wordsAt : Insns → List ℕ
-wordsAt s = s .w0 ∷ s .w1 ∷ s .w2 ∷ []
+-- a hint's words
+abbrev pub wordList : Insns → List ℕ
+wordList s = s .w0 ∷ s .w1 ∷ s .w2 ∷ []
 
-abbrev pub relsAt : Rels → List Rel
-relsAt r = r .r0 ∷ r .r1 ∷ r .r2 ∷ []
-
--- the halves of a pair, and of two pages
-halves : (r : Rels) (n : ℕ) (got : Bool) → hasPagePair r n got ≡ true
-    → (isPageRel (r .r0) got ≡ true) × (isPageoffRel (r .r1) got ≡ true) × ((ltb n 3 || isAbsent (r .r2)) ≡ true)
-unfolding hasPagePair
-halves r n got e =
-    let f = both _ (ltb n 3 || isAbsent (r .r2)) e in
-    let g = both _ (sameReference (r .r0) (r .r1)) (f .0) in
-    let h = both (isPageRel (r .r0) got) (isPageoffRel (r .r1) got) (g .0) in
-    (h .0, h .1, f .1)
-
-two-halves : (r : Rels) (got : Bool) → hasPagePair r 2 got ≡ true → (isPageRel (r .r0) got && (isPageoffRel (r .r1) got && true)) ≡ false → ⊥
-two-halves r got e f = let h = halves r 2 got e in true≢false (rw (h .0, h .1) at f)
-
-three-halves : (r : Rels) (got : Bool) → hasPagePair r 3 got ≡ true
-    → (isPageRel (r .r0) got && (isPageoffRel (r .r1) got && (isAbsent (r .r2) && true))) ≡ false → ⊥
-three-halves r got e f = let h = halves r 3 got e in true≢false (rw (h .0, h .1, h .2) at f)
-
-two-pages : (r : Rels) → bothPages r ≡ true → (isPageRel (r .r0) false && (isPageRel (r .r1) false && true)) ≡ false → ⊥
-unfolding bothPages
-two-pages r e f = let h = both (isPageRel (r .r0) false) (isPageRel (r .r1) false) e in true≢false (rw (h .0, h .1) at f)
+-- what is not declined has entries that refer to what the kind says
+abbrev Referred : Rels → ℕ → Decision → Type 0
+Referred r k Declined = Unit {0}
+Referred r k Nine = Refers k r
+Referred r k (Rewritten p) = Refers k r
 
 -- a rule that declines where the entries' test is false
-unpaired : (f : Bool → Decision) → f false ≡ Declined → (pair : Bool) → (pair ≡ true → ⊥) → f pair ≡ Declined
-unpaired f e true h = absurd (h refl)
-unpaired f e false h = e
+paired : (r : Rels) (k : ℕ) (f : Bool → Decision) → f false ≡ Declined → (pair : Bool) → (pair ≡ true → Refers k r) → Referred r k (f pair)
+paired r k f e true h = any (f true)
+  where
+    any : (d : Decision) → Referred r k d
+    any Declined = tt
+    any Nine = h refl
+    any (Rewritten p) = h refl
+paired r k f e false h = rw e tt
 
 got-ldr-unpaired : (s : Insns) (z : LoadStoreWord) → gotLdrWith s false z ≡ Declined
 unfolding gotLoad choose
@@ -156,31 +147,56 @@ got-str-unpaired s L.Other = refl
 got-str-unpaired s (L.LoadStore st) =
     chosen (λ (d : Decision). d ≡ Declined) (st .«is_store») (gotStrBy s st (gotLoad s false)) Declined (unfold choose in refl) refl
 
--- entries that are not what the kind says: the hint declines
-pub entries : (n : ℕ) (s : Insns) (r : Rels) → areCarried (wordsOf n) (relsAt r) ≡ false → decide n s r ≡ Declined
-unfolding wordsOf choose adrpAdrp adrpLdr adrpAddLdr adrpAddStr through adrpLdrGotLdr adrpLdrGotStr adrpAdd adrpLdrGot gotLoad
-entries n s r =
-    by-kind s r (λ (k : ℕ) (d : Decision). areCarried (wordsOf k) (relsAt r) ≡ false → d ≡ Declined)
+referred : (n : ℕ) (s : Insns) (r : Rels) → Referred r n (decide n s r)
+unfolding choose adrpAdrp adrpLdr adrpAddLdr adrpAddStr through adrpLdrGotLdr adrpLdrGotStr adrpAdd adrpLdrGot gotLoad
+referred n s r =
+    by-kind s r (Referred r)
     (record {
-      declined = λ k f. refl;
-      adrp-adrp = λ p e f. unpaired (adrpAdrp s) refl p (λ t. two-pages r (e ∙ t) f);
-      adrp-ldr = λ p e f. unpaired (adrpLdr s) refl p (λ t. two-halves r false (e ∙ t) f);
-      adrp-add-ldr = λ p e f. unpaired (adrpAddLdr s) refl p (λ t. three-halves r false (e ∙ t) f);
-      adrp-ldr-got-ldr = λ p e f. unpaired (adrpLdrGotLdr s) (got-ldr-unpaired s (loadStoreOf (s .w2))) p (λ t. three-halves r true (e ∙ t) f);
-      adrp-add-str = λ p e f. unpaired (adrpAddStr s) refl p (λ t. three-halves r false (e ∙ t) f);
-      adrp-ldr-got-str = λ p e f. unpaired (adrpLdrGotStr s) (got-str-unpaired s (loadStoreOf (s .w2))) p (λ t. three-halves r true (e ∙ t) f);
-      adrp-add = λ p e f. unpaired (adrpAdd s) refl p (λ t. two-halves r false (e ∙ t) f);
-      adrp-ldr-got = λ p e f. unpaired (adrpLdrGot s) refl p (λ t. two-halves r true (e ∙ t) f);
+      declined = λ k. tt;
+      adrp-adrp = λ p e. paired r MCLOH-AdrpAdrp (adrpAdrp s) refl p (λ t. refers-adrp-adrp r (e ∙ t));
+      adrp-ldr = λ p e. paired r MCLOH-AdrpLdr (adrpLdr s) refl p (λ t. refers-adrp-ldr r (e ∙ t));
+      adrp-add-ldr = λ p e. paired r MCLOH-AdrpAddLdr (adrpAddLdr s) refl p (λ t. refers-adrp-add-ldr r (e ∙ t));
+      adrp-ldr-got-ldr = λ p e.
+          paired r MCLOH-AdrpLdrGotLdr (adrpLdrGotLdr s) (got-ldr-unpaired s (loadStoreOf (s .w2))) p (λ t. refers-adrp-ldr-got-ldr r (e ∙ t));
+      adrp-add-str = λ p e. paired r MCLOH-AdrpAddStr (adrpAddStr s) refl p (λ t. refers-adrp-add-str r (e ∙ t));
+      adrp-ldr-got-str = λ p e.
+          paired r MCLOH-AdrpLdrGotStr (adrpLdrGotStr s) (got-str-unpaired s (loadStoreOf (s .w2))) p (λ t. refers-adrp-ldr-got-str r (e ∙ t));
+      adrp-add = λ p e. paired r MCLOH-AdrpAdd (adrpAdd s) refl p (λ t. refers-adrp-add r (e ∙ t));
+      adrp-ldr-got = λ p e. paired r MCLOH-AdrpLdrGot (adrpLdrGot s) refl p (λ t. refers-adrp-ldr-got r (e ∙ t));
     })
     n
+
+-- entries that do not refer to what the kind says: the hint declines
+pub entries : (n : ℕ) (s : Insns) (r : Rels) → (Refers n r → ⊥) → decide n s r ≡ Declined
+entries n s r f = go (decide n s r) (referred n s r)
+  where
+    go : (d : Decision) → Referred r n d → d ≡ Declined
+    go Declined h = refl
+    go Nine h = absurd (f h)
+    go (Rewritten p) h = absurd (f h)
+
+-- a hint that is rewritten has entries that do
+pub references : (n : ℕ) (s : Insns) (r : Rels) (p : Plan) → decide n s r ≡ Rewritten p → Refers n r
+references n s r p e = subst (Referred r n) e (referred n s r)
+
+-- two targets, or two addends: the hint declines, but for ADRP_ADRP
+module _ (n : ℕ) (s : Insns) (r : Rels) (a b : Reloc) (ne : n ≡ MCLOH-AdrpAdrp → ⊥) (first : r .r0 ≡ Entry a) (second : r .r1 ≡ Entry b) where
+  one : Refers n r → (a .target ≡ b .target) × (a .addend ≡ b .addend)
+  one f = subst (λ (x : Rel). OneV (Entry a) x) second (subst (λ (x : Rel). OneV x (r .r1)) first (f .one ne))
+
+  pub two-targets : (a .target ≡ b .target → ⊥) → decide n s r ≡ Declined
+  two-targets h = entries n s r (λ f. h (one f .0))
+
+  pub two-addends : (a .addend ≡ b .addend → ⊥) → decide n s r ≡ Declined
+  two-addends h = entries n s r (λ f. h (one f .1))
 
 -- where it is rewritten, a hint's words are what the kind says, or what may stand there instead
 abbrev pub Worded : Insns → ℕ → Decision → Type 0
 Worded s k Declined = Unit {0}
 Worded s k Nine = Unit {0}
-Worded s k (Rewritten p) = AreWords (wordsOf k) (wordsAt s)
+Worded s k (Rewritten p) = AreWords (wordsOf k) (wordList s)
 
-anyway : (s : Insns) (k : ℕ) (d : Decision) → AreWords (wordsOf k) (wordsAt s) → Worded s k d
+anyway : (s : Insns) (k : ℕ) (d : Decision) → AreWords (wordsOf k) (wordList s) → Worded s k d
 anyway s k Declined h = tt
 anyway s k Nine h = tt
 anyway s k (Rewritten p) h = h
@@ -234,7 +250,7 @@ module _ (w : ℕ) (l : LoadStore) (e : loadStoreOf w ≡ L.LoadStore l) where
 
 -- what the decoded words are, with the words that follow them
 module _ (s : Insns) where
-  literal-words : (ld : LoadStore) (target : ℕ) → Literal s ld target → AreWords (Adrp-Page ∷ Ldr-PageOff ∷ []) (wordsAt s)
+  literal-words : (ld : LoadStore) (target : ℕ) → Literal s ld target → AreWords (Adrp-Page ∷ Ldr-PageOff ∷ []) (wordList s)
   unfolding hasLiteralForm
   literal-words ld target l = (
     inl (adrp-word (s .w0) (l .adrp) (l .first)),
@@ -242,17 +258,17 @@ module _ (s : Insns) where
   )
 
   made-words : (d : Add) (target : ℕ) → Makes s target d → (ws : List Word) → AreWords ws (s .w2 ∷ [])
-      → AreWords (Adrp-Page ∷ Add-PageOff ∷ ws) (wordsAt s)
+      → AreWords (Adrp-Page ∷ Add-PageOff ∷ ws) (wordList s)
   made-words d target m ws h = (inl (adrp-word (s .w0) (m .adrp) (m .first)), (inl (add-word (s .w1) d (m .second)), h))
 
   slot-words : (ld : LoadStore) (slot : ℕ) → Loads s slot ld → (ws : List Word) → AreWords ws (s .w2 ∷ [])
-      → AreWords (Adrp-GotPage ∷ Ldr-GotPageOff ∷ ws) (wordsAt s)
+      → AreWords (Adrp-GotPage ∷ Ldr-GotPageOff ∷ ws) (wordList s)
   slot-words ld slot l ws h =
       let q = eight-bytes ld (l .adrp .rd) (l .loads) in
       (inl (adrp-word (s .w0) (l .adrp) (l .first)), (inl (general-word (s .w1) ld (l .second) (q .loading) (q .general)), h))
 
   relaxed-words : (d : Add) (target : ℕ) → Makes s target d → (ws : List Word) → AreWords ws (s .w2 ∷ [])
-      → AreWords (Adrp-GotPage ∷ Ldr-GotPageOff ∷ ws) (wordsAt s)
+      → AreWords (Adrp-GotPage ∷ Ldr-GotPageOff ∷ ws) (wordList s)
   relaxed-words d target m ws h = (inl (adrp-word (s .w0) (m .adrp) (m .first)), (inr (add-word (s .w1) d (m .second)), h))
 
   -- whatever is decided after a GOT load

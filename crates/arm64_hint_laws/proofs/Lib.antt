@@ -5,3 +5,4 @@ pub mod Hinted
 pub mod Entries
 pub mod Twice
 pub mod Examples
+pub mod Occurs

@@ -1,6 +1,6 @@
--- What a decision writes. The rewrites of each kind, with the places that they write and keep; that each new word has 32 bits. By cases on the rules.
-use mathlib.Core.Path.{_≡_, refl}
-use Prim.Native.Nat.{ℕ, _^_, _<_}
+-- What a decision writes is in the table of each kind's rewrites, and each new word has 32 bits. By cases on the rules.
+use mathlib.Core.Path.{_≡_, refl, sym, subst}
+use Prim.Native.Nat.{ℕ, _+_, _^_, _<_}
 use native.Mathlib.Nat.{div-le-self}
 use native.Mathlib.Omega.{arith}
 use lib.Dec.{lit<}
@@ -12,81 +12,90 @@ use Rattle.arm64_insn.specs.Adrp.{adrWord}
 use Rattle.arm64_insn.specs.Fix.{nopWord}
 use Rattle.arm64_insn.specs.Literal.{literalWord, baseWord}
 use Rattle.arm64_insn.specs.Manual.{ADR}
+use Rattle.arm64_insn.specs.declared.add.Add.{Add}
 use Rattle.arm64_insn.specs.declared.ldst.LoadStore.{LoadStore}
 use Rattle.arm64_insn.proofs.Decoded.{decoded-add, decoded-load-store, literal-opc-lt, literal-v-lt}
 use Rattle.arm64_insn.proofs.Manual.{encode-lt}
 use Rattle.arm64_hint_terms.specs.Answer.{decisionNumber}
-use Rattle.arm64_hint_terms.specs.Plans.{rewritten}
+use Rattle.arm64_hint_terms.specs.Plans.{folded}
 use Rattle.arm64_hint_laws.specs.Decide.{decide}
+use Rattle.arm64_hint_laws.specs.Written.{SecondAccess, SecondAdd, ThirdAccess, Written, declines, nine-2, nine-3, nine-4, nine-5, nine-6, nine-8}
+use Rattle.arm64_hint_laws.specs.Written.{drop-1, literal-2, literal-3, adr-3, fold-3, slot-4, literal-4, adr-4, fold-4, adr-5, fold-5}
+use Rattle.arm64_hint_laws.specs.Written.{slot-6, adr-6, fold-6, adr-7, slot-8, adr-8}
 use Rattle.arm64_hint_terms.specs.declared.answer.Insns.{Insns}
 use Rattle.arm64_hint_terms.specs.declared.answer.Rewrite.{Rewrite}
-use Rattle.arm64_hint_terms.specs.declared.answer.Rewrite.the-variants.{Drop, Literal, Adr, Fold, Slot}
+use Rattle.arm64_hint_terms.specs.declared.answer.Rewrite.the-variants.{Literal, Slot}
 use Rattle.arm64_hint_terms.specs.declared.answer.NewWord.{NewWord}
 use Rattle.arm64_hint_terms.specs.declared.answer.NewWord.the-variants.{Keep, Set}
 use Rattle.arm64_hint_terms.specs.declared.answer.Decision.{Decision}
 use Rattle.arm64_hint_terms.specs.declared.answer.Decision.the-variants.{Declined, Nine, Rewritten}
 use Rattle.arm64_hint_terms.specs.declared.rels.Rels.{Rels}
+use Rattle.arm64_hint_adrp.proofs.Adds.{Adds}
+use Rattle.arm64_hint_got.proofs.Loads.{Makes}
 use Rattle.arm64_hint_laws.proofs.Cases as Cases
 use Rattle.arm64_hint_laws.proofs.Cases.{EachRule, by-kind}
 
--- what each kind may write: Keep at a place says that it is not written. A kind with no row for Nine has no sum that may pass 2^64 - 1
-pub data Written : ℕ → Decision → Type 0 where
-  declines : {kind : ℕ} → Written kind Declined
-  nine-2 : Written MCLOH-AdrpLdr Nine
-  nine-3 : Written MCLOH-AdrpAddLdr Nine
-  nine-4 : Written MCLOH-AdrpLdrGotLdr Nine
-  nine-5 : Written MCLOH-AdrpAddStr Nine
-  nine-6 : Written MCLOH-AdrpLdrGotStr Nine
-  nine-8 : Written MCLOH-AdrpLdrGot Nine
-  drop-1 : {b : ℕ} → Written MCLOH-AdrpAdrp (rewritten Drop Keep (Set b) Keep)
-  literal-2 : {a b : ℕ} → Written MCLOH-AdrpLdr (rewritten Literal (Set a) (Set b) Keep)
-  literal-3 : {a b c : ℕ} → Written MCLOH-AdrpAddLdr (rewritten Literal (Set a) (Set b) (Set c))
-  adr-3 : {a b c : ℕ} → Written MCLOH-AdrpAddLdr (rewritten Adr (Set a) (Set b) (Set c))
-  fold-3 : {b c : ℕ} → Written MCLOH-AdrpAddLdr (rewritten Fold Keep (Set b) (Set c))
-  slot-4 : {a b : ℕ} → Written MCLOH-AdrpLdrGotLdr (rewritten Slot (Set a) (Set b) Keep)
-  literal-4 : {a b c : ℕ} → Written MCLOH-AdrpLdrGotLdr (rewritten Literal (Set a) (Set b) (Set c))
-  adr-4 : {a b : ℕ} → Written MCLOH-AdrpLdrGotLdr (rewritten Adr (Set a) (Set b) Keep)
-  fold-4 : {b c : ℕ} → Written MCLOH-AdrpLdrGotLdr (rewritten Fold Keep (Set b) (Set c))
-  adr-5 : {a b c : ℕ} → Written MCLOH-AdrpAddStr (rewritten Adr (Set a) (Set b) (Set c))
-  fold-5 : {b c : ℕ} → Written MCLOH-AdrpAddStr (rewritten Fold Keep (Set b) (Set c))
-  slot-6 : {a b : ℕ} → Written MCLOH-AdrpLdrGotStr (rewritten Slot (Set a) (Set b) Keep)
-  adr-6 : {a b : ℕ} → Written MCLOH-AdrpLdrGotStr (rewritten Adr (Set a) (Set b) Keep)
-  fold-6 : {b c : ℕ} → Written MCLOH-AdrpLdrGotStr (rewritten Fold Keep (Set b) (Set c))
-  adr-7 : {a b : ℕ} → Written MCLOH-AdrpAdd (rewritten Adr (Set a) (Set b) Keep)
-  slot-8 : {a b : ℕ} → Written MCLOH-AdrpLdrGot (rewritten Slot (Set a) (Set b) Keep)
-  adr-8 : {a b : ℕ} → Written MCLOH-AdrpLdrGot (rewritten Adr (Set a) (Set b) Keep)
+-- what the cases of the rules say of the words that stand there
 
-each-writes : (s : Insns) (r : Rels) → EachRule s r Written
+second : {s : Insns} (ls : LoadStore) (target : ℕ) → Cases.Literal s ls target → SecondAccess s ls target
+second ls target l = record { adrp = l .adrp; first = l .first; second = l .second; reached = l .made }
+
+added : {s : Insns} (d : Add) (addr : ℕ) → Makes s addr d → SecondAdd s d addr
+added d addr m = record { adrp = m .adrp; first = m .first; second = m .second; made = m .made }
+
+third : {s : Insns} (d : Add) (ls : LoadStore) (addr target : ℕ) → Adds s addr d ls → target ≡ addr + ls .offset → ThirdAccess s d addr ls target
+third d ls addr target t e = record {
+  through = record { adrp = t .adrp; first = t .first; second = t .second; made = t .made };
+  third = t .third;
+  reached = e;
+}
+
+-- a fold, by the offset that its case has for the sum
+fold : (s : Insns) (kind : ℕ) → ((d : Add) (addr : ℕ) (ls : LoadStore) (target : ℕ) → ThirdAccess s d addr ls target
+    → Written s kind (folded ls (d .rn) (d .imm + ls .offset))) → Cases.Folds s (Written s kind)
+fold s kind row d ls addr offset t e l z =
+    subst (λ (o : ℕ). Written s kind (folded ls (d .rn) o)) (sym e) (row d addr ls (addr + ls .offset) (third d ls addr (addr + ls .offset) t refl))
+
+each-writes : (s : Insns) (r : Rels) → EachRule s r (Written s)
 each-writes s r =
     record {
       declined = λ kind. declines;
-      adrp-adrp = λ pages _. Cases.adrp-adrp s (Written MCLOH-AdrpAdrp) declines (λ p. drop-1) pages;
-      adrp-ldr = λ pair _. Cases.adrp-ldr s (Written MCLOH-AdrpLdr) declines nine-2 (λ ld target l. literal-2) pair;
+      adrp-adrp = λ pages _. Cases.adrp-adrp s (Written s MCLOH-AdrpAdrp) declines (λ p. drop-1) pages;
+      adrp-ldr = λ pair _.
+          Cases.adrp-ldr s (Written s MCLOH-AdrpLdr) declines nine-2 (λ ls target l. literal-2 ls target (second ls target l)) pair;
       adrp-add-ldr = λ pair _.
-          Cases.adrp-add-ldr s (Written MCLOH-AdrpAddLdr) declines nine-3 (λ d ls a o t e l z. fold-3) (λ d ls a o t c n. adr-3)
-          (λ d ls a o t c f z n. literal-3) pair;
+          Cases.adrp-add-ldr s (Written s MCLOH-AdrpAddLdr) declines nine-3 (fold s MCLOH-AdrpAddLdr fold-3)
+          (λ d ls addr target t a n. adr-3 d addr ls target (third d ls addr target t (a .made)))
+          (λ d ls addr target t a f z n. literal-3 d addr ls target (third d ls addr target t (a .made))) pair;
       adrp-ldr-got-ldr = λ pair _.
-          Cases.adrp-ldr-got-ldr s (Written MCLOH-AdrpLdrGotLdr) declines nine-4 (λ d ls a o t e l z. fold-4) (λ d ls a t n. adr-4) (λ ld a l. slot-4)
-          (λ d ls a o t c f z n. literal-4) pair;
+          Cases.adrp-ldr-got-ldr s (Written s MCLOH-AdrpLdrGotLdr) declines nine-4 (fold s MCLOH-AdrpLdrGotLdr fold-4)
+          (λ d ls addr t n. adr-4 d addr ls (addr + ls .offset) (third d ls addr (addr + ls .offset) t refl))
+          (λ ls slot l. slot-4 ls slot (second ls slot (l .load)))
+          (λ d ls addr target t a f z n. literal-4 d addr ls target (third d ls addr target t (a .made))) pair;
       adrp-add-str = λ pair _.
-          Cases.adrp-add-str s (Written MCLOH-AdrpAddStr) declines nine-5 (λ d ls a o t e l z. fold-5) (λ d ls a o t c n. adr-5) pair;
+          Cases.adrp-add-str s (Written s MCLOH-AdrpAddStr) declines nine-5 (fold s MCLOH-AdrpAddStr fold-5)
+          (λ d ls addr target t a n. adr-5 d addr ls target (third d ls addr target t (a .made))) pair;
       adrp-ldr-got-str = λ pair _.
-          Cases.adrp-ldr-got-str s (Written MCLOH-AdrpLdrGotStr) declines nine-6 (λ d ls a o t e l z. fold-6) (λ d ls a t n. adr-6) (λ ld a l. slot-6) pair;
-      adrp-add = λ pair _. Cases.adrp-add s (Written MCLOH-AdrpAdd) declines (λ d a m n. adr-7) pair;
-      adrp-ldr-got = λ pair _. Cases.adrp-ldr-got s (Written MCLOH-AdrpLdrGot) declines (λ d a m n. adr-8) nine-8 (λ ld a l. slot-8) pair;
+          Cases.adrp-ldr-got-str s (Written s MCLOH-AdrpLdrGotStr) declines nine-6 (fold s MCLOH-AdrpLdrGotStr fold-6)
+          (λ d ls addr t n. adr-6 d addr ls (addr + ls .offset) (third d ls addr (addr + ls .offset) t refl))
+          (λ ls slot l. slot-6 ls slot (second ls slot (l .load))) pair;
+      adrp-add = λ pair _. Cases.adrp-add s (Written s MCLOH-AdrpAdd) declines (λ d addr m n. adr-7 d addr (added d addr m)) pair;
+      adrp-ldr-got = λ pair _.
+          Cases.adrp-ldr-got s (Written s MCLOH-AdrpLdrGot) declines (λ d addr m n. adr-8 d addr (added d addr m)) nine-8
+          (λ ls slot l. slot-8 ls slot (second ls slot l)) pair;
     }
 
 -- what is decided is in the table, whatever the words and the entries
-pub written : (kind : ℕ) (s : Insns) (r : Rels) → Written kind (decide kind s r)
-written kind s r = by-kind s r Written (each-writes s r) kind
+pub written : (kind : ℕ) (s : Insns) (r : Rels) → Written s kind (decide kind s r)
+written kind s r = by-kind s r (Written s) (each-writes s r) kind
 
 -- ADRP_ADD never answers nine
 pub add-never-nine : (s : Insns) (r : Rels) → decisionNumber (decide MCLOH-AdrpAdd s r) ≡ 0
 add-never-nine s r = other (decide MCLOH-AdrpAdd s r) (written MCLOH-AdrpAdd s r)
   where
-    other : (d : Decision) → Written MCLOH-AdrpAdd d → decisionNumber d ≡ 0
+    other : (d : Decision) → Written s MCLOH-AdrpAdd d → decisionNumber d ≡ 0
     other d declines = refl
-    other d adr-7 = refl
+    other d (adr-7 _ _ _) = refl
 
 -- a new word has 32 bits
 abbrev pub Fits : NewWord → Type 0

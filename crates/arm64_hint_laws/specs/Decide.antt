@@ -1,4 +1,5 @@
 -- The rule of each kind (arch/arm64.rs, `apply_hints`: the choice over the kind; RULES 8.2, 8.15).
+use mathlib.Core.Path.{_≡_}
 use Prim.Native.Nat.{ℕ}
 use mathlib.Core.Bool.{true, false}
 use lib.Dec.{eqb}
@@ -10,8 +11,9 @@ use Rattle.arm64_hint_adrp.specs.Two.{adrpAdrp, adrpLdr, adrpAdd}
 use Rattle.arm64_hint_adrp.specs.Three.{adrpAddLdr, adrpAddStr}
 use Rattle.arm64_hint_got.specs.Got.{adrpLdrGot, adrpLdrGotLdr, adrpLdrGotStr}
 use Rattle.arm64_hint_terms.specs.declared.answer.Insns.{Insns}
+use Rattle.arm64_hint_terms.specs.declared.answer.Plan.{Plan}
 use Rattle.arm64_hint_terms.specs.declared.answer.Decision.{Decision}
-use Rattle.arm64_hint_terms.specs.declared.answer.Decision.the-variants.{Declined}
+use Rattle.arm64_hint_terms.specs.declared.answer.Decision.the-variants.{Declined, Rewritten}
 use Rattle.arm64_hint_terms.specs.declared.rels.Rels.{Rels}
 
 -- what is decided of a hint of a kind with these words and entries, by the kind's rule; a number that is no kind has none
@@ -26,3 +28,9 @@ decide kind s r =
     (choose (eqb kind MCLOH-AdrpAdd) (adrpAdd s (hasPagePair r 2 false))
     (choose (eqb kind MCLOH-AdrpLdrGot) (adrpLdrGot s (hasPagePair r 2 true))
     Declined)))))))
+
+-- a hint of a kind with these entries occurs rewritten: there are words with which it is
+pub record Occurs (kind : ℕ) (r : Rels) : Type 0 where
+  pub words : Insns
+  pub plan : Plan
+  pub rewritten : decide kind words r ≡ Rewritten plan

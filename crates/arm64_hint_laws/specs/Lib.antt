@@ -1,2 +1,3 @@
--- The definition that the theorems and the contracts of the rules at work cite.
+-- The definitions that the theorems and the contracts of the rules at work cite.
 pub mod Decide
+pub mod Written

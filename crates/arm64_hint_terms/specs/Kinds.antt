@@ -1,19 +1,22 @@
--- LLVM's linker optimization hint kinds (llvm/MC/MCLinkerOptimizationHint.h, `MCLOHType`; RULES 8.2). Numbers and names are macho's; each kind has a row of
--- words, as "Adrp _v@Page -> Add _v@PageOff -> Ldr" for AdrpAddLdr.
+-- LLVM's linker optimization hint kinds (llvm/MC/MCLinkerOptimizationHint.h, `MCLOHType`; RULES 8.2, 8.4). Numbers and names are macho's; each kind has
+-- a row of words, as "Adrp _v@Page -> Add _v@PageOff -> Ldr" for AdrpAddLdr: which instructions stand there, and which entries.
 use Prim.Native.Nat.{ℕ}
 use mathlib.Core.Path.{_≡_}
 use mathlib.Core.Logic.{_⊎_}
-use mathlib.Core.Bool.{Bool, true, false, _&&_}
+use mathlib.Core.Bool.{Bool, true, false}
 use mathlib.Core.List.{List, [], _∷_}
 use lib.Dec.{eqb}
 use Rattle.util.specs.Choice.{choose}
 use Rattle.macho.specs.Types.{MCLOH-AdrpAdrp, MCLOH-AdrpLdr, MCLOH-AdrpAddLdr, MCLOH-AdrpLdrGotLdr}
 use Rattle.macho.specs.Types.{MCLOH-AdrpAddStr, MCLOH-AdrpLdrGotStr, MCLOH-AdrpAdd, MCLOH-AdrpLdrGot}
+use Rattle.macho.specs.Types.{ARM64-RELOC-PAGE21, ARM64-RELOC-GOT-LOAD-PAGE21, ARM64-RELOC-TLVP-LOAD-PAGE21}
+use Rattle.macho.specs.Types.{ARM64-RELOC-PAGEOFF12, ARM64-RELOC-GOT-LOAD-PAGEOFF12, ARM64-RELOC-TLVP-LOAD-PAGEOFF12}
 use Rattle.arm64_insn.specs.LoadStoreTable.{rowOf, isStore}
 use Rattle.arm64_insn.specs.Manual.{ADRP, ADD, LDST, instruction, decode, allocated, sizeIn, vIn, opcIn}
 use Rattle.arm64_insn.specs.LoadStore.{takenAsLoad}
-use Rattle.arm64_hint_terms.specs.Rels.{isPageRel, isPageoffRel, isAbsent}
 use Rattle.arm64_hint_terms.specs.declared.rels.Rel.{Rel}
+use Rattle.arm64_hint_terms.specs.declared.rels.Rel.the-variants.{Entry, Absent}
+use Rattle.arm64_hint_terms.specs.declared.rels.Rels.{Rels}
 
 -- a word of a kind: the instruction, and what it carries of a reference to v, or to v's GOT slot
 pub data Word : Type 0 where
@@ -26,16 +29,16 @@ pub data Word : Type 0 where
   Str : Word
 
 -- a kind by its number, with its words
-pub record Kind : Type 0 where
+pub record HintKind : Type 0 where
   pub number : ℕ
   pub words : List Word
 
 -- the two together
-abbrev pub kind : ℕ → List Word → Kind
+abbrev pub kind : ℕ → List Word → HintKind
 kind n ws = record { number = n; words = ws }
 
 -- the kinds
-abbrev pub kinds : List Kind
+abbrev pub kinds : List HintKind
 kinds =
     kind MCLOH-AdrpAdrp (Adrp-Page ∷ Adrp-Page ∷ [])
     ∷ kind MCLOH-AdrpLdr (Adrp-Page ∷ Ldr-PageOff ∷ [])
@@ -48,13 +51,13 @@ kinds =
     ∷ []
 
 -- the words of the kind of a number among some kinds
-abbrev pub wordsIn : List Kind → ℕ → List Word
-wordsIn [] n = []
-wordsIn (k ∷ ks) n = choose (eqb n (k .number)) (k .words) (wordsIn ks n)
+abbrev pub wordsAmong : List HintKind → ℕ → List Word
+wordsAmong [] n = []
+wordsAmong (k ∷ ks) n = choose (eqb n (k .number)) (k .words) (wordsAmong ks n)
 
 -- the words of the kind of a number; none where there is no such kind
 unfoldable pub wordsOf : ℕ → List Word
-wordsOf n = wordsIn kinds n
+wordsOf n = wordsAmong kinds n
 
 -- an ADRP of the manual
 pub record IsAdrp (w : ℕ) : Type 0 where
@@ -105,24 +108,52 @@ IsInstead Ldr-GotPageOff w = IsAdd w
 IsInstead Ldr w = IsAccess w true ⊎ IsTaken w
 IsInstead Str w = ⊥
 
--- whether an entry is what its word carries
-abbrev pub isCarried : Word → Rel → Bool
-isCarried Adrp-Page r = isPageRel r false
-isCarried Adrp-GotPage r = isPageRel r true
-isCarried Add-PageOff r = isPageoffRel r false
-isCarried Ldr-PageOff r = isPageoffRel r false
-isCarried Ldr-GotPageOff r = isPageoffRel r true
-isCarried Ldr r = isAbsent r
-isCarried Str r = isAbsent r
-
 -- words are what a kind says, or what may stand there instead
 abbrev pub AreWords : List Word → List ℕ → Type 0
 AreWords [] ws = Unit {0}
 AreWords (k ∷ ks) [] = ⊥
 AreWords (k ∷ ks) (w ∷ ws) = (IsWord k w ⊎ IsInstead k w) × AreWords ks ws
 
--- whether entries are what a kind's words carry
-abbrev pub areCarried : List Word → List Rel → Bool
-areCarried [] rs = true
-areCarried (k ∷ ks) [] = false
-areCarried (k ∷ ks) (r ∷ rs) = isCarried k r && areCarried ks rs
+-- an entry of a type
+abbrev pub HasType : ℕ → Rel → Type 0
+HasType ty Absent = ⊥
+HasType ty (Entry e) = e .ty ≡ ty
+
+-- an entry is what its word carries: LLVM's @Page is a PAGE21, @PageOff a PAGEOFF12, @GotPage a GOT_LOAD_PAGE21, @GotPageOff a GOT_LOAD_PAGEOFF12;
+-- a bare Ldr or Str has no entry
+abbrev pub IsCarried : Word → Rel → Type 0
+IsCarried Adrp-Page r = HasType ARM64-RELOC-PAGE21 r
+IsCarried Adrp-GotPage r = HasType ARM64-RELOC-GOT-LOAD-PAGE21 r
+IsCarried Add-PageOff r = HasType ARM64-RELOC-PAGEOFF12 r
+IsCarried Ldr-PageOff r = HasType ARM64-RELOC-PAGEOFF12 r
+IsCarried Ldr-GotPageOff r = HasType ARM64-RELOC-GOT-LOAD-PAGEOFF12 r
+IsCarried Ldr r = r ≡ Absent
+IsCarried Str r = r ≡ Absent
+
+-- an entry is what may be carried instead (RULES 8.4): for a half of v's own address that of v's GOT slot or of its thread-local slot, for a half of
+-- the GOT slot's that of the thread-local slot
+abbrev pub IsTakenFor : Word → Rel → Type 0
+IsTakenFor Adrp-Page r = HasType ARM64-RELOC-GOT-LOAD-PAGE21 r ⊎ HasType ARM64-RELOC-TLVP-LOAD-PAGE21 r
+IsTakenFor Adrp-GotPage r = HasType ARM64-RELOC-TLVP-LOAD-PAGE21 r
+IsTakenFor Add-PageOff r = HasType ARM64-RELOC-GOT-LOAD-PAGEOFF12 r ⊎ HasType ARM64-RELOC-TLVP-LOAD-PAGEOFF12 r
+IsTakenFor Ldr-PageOff r = HasType ARM64-RELOC-GOT-LOAD-PAGEOFF12 r ⊎ HasType ARM64-RELOC-TLVP-LOAD-PAGEOFF12 r
+IsTakenFor Ldr-GotPageOff r = HasType ARM64-RELOC-TLVP-LOAD-PAGEOFF12 r
+IsTakenFor Ldr r = ⊥
+IsTakenFor Str r = ⊥
+
+-- entries are what a kind's words carry, or what may be carried instead: each word by itself, so that the two halves may be mixed
+abbrev pub AreCarried : List Word → List Rel → Type 0
+AreCarried [] rs = Unit {0}
+AreCarried (k ∷ ks) [] = ⊥
+AreCarried (k ∷ ks) (r ∷ rs) = (IsCarried k r ⊎ IsTakenFor k r) × AreCarried ks rs
+
+-- two entries are of one v: one target and one addend
+abbrev pub OneV : Rel → Rel → Type 0
+OneV Absent _ = ⊥
+OneV (Entry a) Absent = ⊥
+OneV (Entry a) (Entry b) = (a .target ≡ b .target) × (a .addend ≡ b .addend)
+
+-- the entries of a hint refer to what its kind says: AdrpAdrp names v1 and v2, which may be any two, each other kind one v
+pub record Refers (n : ℕ) (r : Rels) : Type 0 where
+  pub carried : AreCarried (wordsOf n) (r .r0 ∷ r .r1 ∷ r .r2 ∷ [])
+  pub one : (n ≡ MCLOH-AdrpAdrp → ⊥) → OneV (r .r0) (r .r1)

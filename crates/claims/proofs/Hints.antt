@@ -5,6 +5,7 @@ use Rattle.arm64_hint_terms.specs.declared.answer.NewWord.{NewWord}
 use Rattle.arm64_hint_terms.specs.declared.answer.NewWord.the-variants.{Set}
 use Rattle.arm64_hint_laws.proofs.Hinted as Hinted
 use Rattle.arm64_hint_laws.proofs.Hinted.{KeepsThird, Worded}
+use Rattle.arm64_hint_laws.proofs.Occurs as Occurs
 use Rattle.arm64_hint_laws.proofs.Written as Written
 use Rattle.arm64_hint_laws.proofs.Written.{Fits, AllFit}
 use Rattle.arm64_hint_words.proofs.hint.Hint.get.Met as Get
@@ -25,6 +26,10 @@ hints =
       counts = Hinted.counts;
       no-kind = Hinted.no-kind;
       entries = Hinted.entries;
+      two-targets = Hinted.two-targets;
+      two-addends = Hinted.two-addends;
+      references = Hinted.references;
+      exceptions = Occurs.occurs;
       words = λ n s r p e. subst (Worded s n) e (Hinted.worded n s r);
       written = Written.written;
       two-words = λ n s r p two e. subst KeepsThird e (Hinted.two-words n s r two);

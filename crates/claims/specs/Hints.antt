@@ -1,23 +1,26 @@
 -- Linker optimization hints (RULES 1.4, 1.5, 8): LLVM's kinds, what a rewrite writes, the counts, and a sum that passes 2^64 - 1.
 use mathlib.Core.Path.{_≡_}
-use mathlib.Core.Bool.{false, _||_, not}
+use mathlib.Core.Bool.{_||_, not}
 use mathlib.Core.List.{List, [], _∷_}
 use Prim.Native.Nat.{ℕ, _^_, _<_}
 use lib.Dec.{eqb}
 use lib.ListN.{length}
 use Rattle.macho.specs.Hint.{wordCount, hintCount}
 use Rattle.macho.specs.Refusal.{numberOf}
+use Rattle.macho.specs.Types.{MCLOH-AdrpAdrp}
+use Rattle.macho.specs.declared.reloc.Reloc.{Reloc}
 use Rattle.macho.specs.declared.hint.HintRecord.{HintRecord}
 use Rattle.macho.specs.declared.refusal.Refusal.the-variants.{Overflow}
 use Rattle.image.specs.Steps.{Work, answered, stepOf}
-use Rattle.arm64_hint_terms.specs.Kinds.{wordsOf, AreWords, areCarried}
+use Rattle.arm64_hint_terms.specs.Kinds.{wordsOf, AreWords, Refers}
 use Rattle.arm64_hint_terms.specs.declared.answer.Insns.{Insns}
 use Rattle.arm64_hint_terms.specs.declared.answer.Plan.{Plan}
 use Rattle.arm64_hint_terms.specs.declared.answer.NewWord.the-variants.{Keep, Set}
 use Rattle.arm64_hint_terms.specs.declared.answer.Decision.the-variants.{Declined, Nine, Rewritten}
+use Rattle.arm64_hint_terms.specs.declared.rels.Rel.the-variants.{Entry}
 use Rattle.arm64_hint_terms.specs.declared.rels.Rels.{Rels}
-use Rattle.arm64_hint_laws.specs.Decide.{decide}
-use Rattle.arm64_hint_laws.proofs.Written.{Written}
+use Rattle.arm64_hint_laws.specs.Decide.{decide, Occurs}
+use Rattle.arm64_hint_laws.specs.Written.{Written}
 use Rattle.arm64_hint_order.specs.Lists.{runList}
 use Rattle.arm64_hint_words.proofs.hint.Hint.get.Statement as Get
 use Rattle.arm64_hint_words.proofs.hint.Hint.set.Statement as Set′
@@ -36,13 +39,23 @@ pub record Hints : Type 2 where
   pub skipped : (h : HintRecord) → isSkipped h ≡ (eqb (length (wordsOf (h .kind))) 0 || not (eqb (h .n) (length (wordsOf (h .kind)))))
   -- RULES 8.2: the word counts are those of LLVM's kinds
   pub counts : (n : ℕ) → wordCount n ≡ length (wordsOf n)
-  -- RULES 8.4: a number that is no kind, and entries that are not what the kind's words carry, decline
+  -- RULES 8.4: a number that is no kind declines
   pub no-kind : (n : ℕ) (s : Insns) (r : Rels) → wordsOf n ≡ [] → decide n s r ≡ Declined
-  pub entries : (n : ℕ) (s : Insns) (r : Rels) → areCarried (wordsOf n) (r .r0 ∷ r .r1 ∷ r .r2 ∷ []) ≡ false → decide n s r ≡ Declined
+  -- so do entries that do not refer to what the kind says: other types than the kind's and those of the exceptions, or, but for kind 1, two references
+  pub entries : (n : ℕ) (s : Insns) (r : Rels) → (Refers n r → ⊥) → decide n s r ≡ Declined
+  -- RULES 8.9: halves with two targets, or with two addends
+  pub two-targets : (n : ℕ) (s : Insns) (r : Rels) (a b : Reloc) → (n ≡ MCLOH-AdrpAdrp → ⊥) → r .r0 ≡ Entry a → r .r1 ≡ Entry b
+      → (a .target ≡ b .target → ⊥) → decide n s r ≡ Declined
+  pub two-addends : (n : ℕ) (s : Insns) (r : Rels) (a b : Reloc) → (n ≡ MCLOH-AdrpAdrp → ⊥) → r .r0 ≡ Entry a → r .r1 ≡ Entry b
+      → (a .addend ≡ b .addend → ⊥) → decide n s r ≡ Declined
+  -- RULES 8.4: what is rewritten has entries that refer to what the kind says, one v with one addend but for kind 1, or one of the exceptions
+  pub references : (n : ℕ) (s : Insns) (r : Rels) (p : Plan) → decide n s r ≡ Rewritten p → Refers n r
+  -- each exception occurs: whatever entries refer so, there are words with which the hint is rewritten
+  pub exceptions : (n : ℕ) (r : Rels) → (wordsOf n ≡ [] → ⊥) → Refers n r → Occurs n r
   -- what is rewritten has the kind's words, by the manual's forms, or what may stand there instead
   pub words : (n : ℕ) (s : Insns) (r : Rels) (p : Plan) → decide n s r ≡ Rewritten p → AreWords (wordsOf n) (s .w0 ∷ s .w1 ∷ s .w2 ∷ [])
-  -- RULES 8.12: which places each rewrite writes, and which kinds may answer nine: the table Written (arm64_hint_laws/proofs/Written)
-  pub written : (kind : ℕ) (s : Insns) (r : Rels) → Written kind (decide kind s r)
+  -- RULES 8.12, 8.14: what each rewrite writes at each place, and which kinds may answer nine: the table Written (arm64_hint_laws/specs/Written)
+  pub written : (kind : ℕ) (s : Insns) (r : Rels) → Written s kind (decide kind s r)
   -- a kind of two words writes no third place
   pub two-words : (n : ℕ) (s : Insns) (r : Rels) (p : Plan) → length (wordsOf n) ≡ 2 → decide n s r ≡ Rewritten p → p .w2 ≡ Keep
   -- each new word has 32 bits
