@@ -5,4 +5,5 @@ pub mod Commute
 pub mod Runs
 pub mod Walk
 pub mod Same
+pub mod Idle
 pub mod Examples

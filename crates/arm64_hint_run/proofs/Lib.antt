@@ -5,4 +5,7 @@ pub mod Answers
 pub mod Empty
 pub mod Ignored
 pub mod IgnoredEntries
+pub mod Skipped
 pub mod Examples
+pub mod Lengths
+pub mod Addresses

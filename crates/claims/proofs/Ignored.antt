@@ -6,6 +6,8 @@ use Rattle.arm64_fixup.proofs.Ignored as Fixup
 use Rattle.arm64_hint_run.proofs.Empty as HintsEmpty
 use Rattle.arm64_hint_run.proofs.Ignored as Hints
 use Rattle.arm64_hint_run.proofs.IgnoredEntries as Entries
+use Rattle.arm64_hint_run.proofs.Skipped as Skipped
+use Rattle.arm64_hint_run.proofs.Addresses as Addresses
 use Rattle.claims.specs.Ignored.{Ignored}
 
 pub ignored : Ignored
@@ -27,6 +29,9 @@ ignored =
       fix-up-taken-target = Fixup.consumed-target;
       hint-bytes = Hints.ignored-bytes;
       hint-places = Hints.past-count;
+      hint-skipped = λ hints others entries image sized each. Skipped.run-skipped entries hints others sized each image;
+      hint-addresses = Addresses.same-number;
+      hint-part = Addresses.any-part;
       hint-entries = λ entries entries′ image hints l a.
           Entries.run-alike-entries entries entries′ l (λ k h. record { type = a k h .0; target = a k h .1; addend = a k h .2 }) image hints;
       hint-spare = Entries.spare-bytes;

@@ -1,11 +1,11 @@
 -- Linker optimization hints (RULES 1.4, 1.5, 8): LLVM's kinds, what a rewrite writes, the counts, and a sum that passes 2^64 - 1.
 use mathlib.Core.Path.{_≡_}
-use mathlib.Core.Bool.{_||_, not}
+use mathlib.Core.Bool.{true, _||_, not}
 use mathlib.Core.List.{List, [], _∷_}
-use Prim.Native.Nat.{ℕ, _^_, _<_}
+use Prim.Native.Nat.{ℕ, _/_, _%_, _^_, _<_}
 use lib.Dec.{eqb}
 use lib.ListN.{length}
-use Rattle.macho.specs.Hint.{wordCount, hintCount}
+use Rattle.macho.specs.Hint.{wordCount, hintCount, hintOf}
 use Rattle.macho.specs.Refusal.{numberOf}
 use Rattle.macho.specs.Types.{MCLOH-AdrpAdrp}
 use Rattle.macho.specs.declared.reloc.Reloc.{Reloc}
@@ -28,15 +28,26 @@ use Rattle.arm64_hint_words.proofs.hint.Hint.addr.Statement as Addr
 use Rattle.arm64_hint_words.proofs.hint.Hint.has_page_pair.Statement as HasPagePair
 use Rattle.arm64_hint_places.specs.Hint.{isSkipped}
 use Rattle.arm64_hint_rules.specs.Rule.{outcomeNumber}
-use Rattle.arm64_hint_work.specs.Step.{addDecision, total, stepsOf}
+use Rattle.arm64_hint_rules.specs.declared.outcome.HintOutcome.the-variants.{Skipped}
+use Rattle.arm64_hint_work.specs.Step.{addDecision, addOutcome, total, stepsOf}
 use Rattle.arm64_hint_work.specs.declared.tally.Tally.{Tally}
-use Rattle.arm64_hint_run.specs.Run.{runOf}
+use Rattle.arm64_hint_run.specs.Run.{runOf, runNumber}
 use Rattle.arm64_hint_run.specs.declared.run.RunAnswer.the-variants.{Done}
 
--- what is claimed of single hints
+-- bytes of whole records of a size, at most 2^32 - 1 of them
+abbrev pub IsList : ℕ → ℕ → Type 0
+IsList len size = (len % size ≡ 0) × (len / size < 2 ^ 32)
+
+-- what is claimed of hints
 pub record Hints : Type 2 where
   -- RULES 8.3: a hint is skipped where there is no such kind, or its word count is not the number of that kind's words
   pub skipped : (h : HintRecord) → isSkipped h ≡ (eqb (length (wordsOf (h .kind))) 0 || not (eqb (h .n) (length (wordsOf (h .kind)))))
+  -- it leaves the image, and is counted
+  pub skipped-leaves : (hints entries : List ℕ) (k : ℕ) → isSkipped (hintOf hints k) ≡ true → (w : Work Tally)
+      → stepOf (stepsOf hints entries) k w ≡ record { image = w .image; tally = addOutcome Skipped (w .tally) }
+  -- RULES 3.9: number 1 is answered just where one of the two lists is no list
+  pub lengths : (image hints entries : List ℕ) → (IsList (length hints) 64 × IsList (length entries) 24 → ⊥) → runNumber (runOf image hints entries) ≡ 1
+  pub lengths-only : (image hints entries : List ℕ) → IsList (length hints) 64 × IsList (length entries) 24 → runNumber (runOf image hints entries) ≡ 1 → ⊥
   -- RULES 8.2: the word counts are those of LLVM's kinds
   pub counts : (n : ℕ) → wordCount n ≡ length (wordsOf n)
   -- RULES 8.4: a number that is no kind declines

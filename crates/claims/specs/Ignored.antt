@@ -11,7 +11,9 @@ use Rattle.macho.specs.MachRel.{idxOf, externOf, typeOf}
 use Rattle.macho.specs.Types.{ARM64-RELOC-SUBTRACTOR, ARM64-RELOC-ADDEND}
 use Rattle.macho.specs.Reloc.{relocAt, isSection}
 use Rattle.macho.specs.Resolved.{wellFormed}
-use Rattle.macho.specs.Hint.{hintOf}
+use Rattle.macho.specs.Hint.{hintCount, hintOf}
+use Rattle.macho.specs.declared.hint.HintInsn.{HintInsn}
+use Rattle.macho.specs.declared.hint.HintRecord.{HintRecord}
 use Rattle.macho.specs.declared.rel.MachRel.{MachRel}
 use Rattle.macho.specs.declared.refusal.Answer.the-variants.{Filled}
 use Rattle.arch.specs.Table.{recordAt}
@@ -23,9 +25,43 @@ use Rattle.arm64_fixup_entry.specs.Seen.{seen, SameUse}
 use Rattle.arm64_fixup_entry.specs.declared.target.Bases.{Bases}
 use Rattle.arm64_fixup.specs.Walk.{lentEntry, lentTarget, entryCount, consumed}
 use Rattle.arm64_fixup.specs.Answer.{outcomeOf, answerOf, sectionAfter, slotsAfter}
+use Rattle.arm64_hint_places.specs.Hint.{isSkipped}
 use Rattle.arm64_hint_check.specs.Check.{isList}
-use Rattle.arm64_hint_run.specs.Run.{zeros, runOf, imageOf}
+use Rattle.arm64_hint_rules.specs.Rule as HintRule
+use Rattle.arm64_hint_run.specs.Run.{zeros, runOf, imageOf, runNumber}
 use Rattle.arm64_hint_run.specs.declared.run.RunAnswer.the-variants.{Done}
+
+-- a place with 0 for its word's address
+abbrev pub bare : HintInsn → HintInsn
+bare i = record { off = i .off; rel = i .rel; addr = 0 }
+
+-- a hint with zeros for its words' addresses
+abbrev pub unaddressed : HintRecord → HintRecord
+unaddressed h =
+    record {
+      kind = h .kind;
+      n = h .n;
+      object = h .object;
+      start = h .start;
+      len = h .len;
+      insn0 = bare (h .insn0);
+      insn1 = bare (h .insn1);
+      insn2 = bare (h .insn2);
+    }
+
+-- a hint with another part
+abbrev pub elsewhere : HintRecord → (start len : ℕ) → HintRecord
+elsewhere h start len =
+    record {
+      kind = h .kind;
+      n = h .n;
+      object = h .object;
+      start = start;
+      len = len;
+      insn0 = h .insn0;
+      insn1 = h .insn1;
+      insn2 = h .insn2;
+    }
 
 -- two runs give the same answer and leave the same image
 abbrev pub SameRuns : (image hints hints′ entries entries′ : List ℕ) → Type 0
@@ -94,7 +130,18 @@ pub record Ignored : Type 0 where
   -- nor at a third place of a hint that has not three words
   pub hint-places : (hints : List ℕ) (k i v : ℕ) (entries image : List ℕ) → 48 ≤ i → i < 64 → (hintOf hints k .n ≡ 3 → ⊥)
       → SameRuns image (set hints (64 * k + i) v) hints entries entries
-  -- of an entry it looks at type, target and addend alone
+  -- nor at anything of a skipped hint but that it is skipped: lists that differ in skipped hints alone, part, places, kind and object, have the same run
+  pub hint-skipped : (hints others entries image : List ℕ) → length hints ≡ length others
+      → ((k : ℕ) → k < hintCount hints
+      → (hintOf hints k ≡ hintOf others k) ⊎ ((isSkipped (hintOf hints k) ≡ true) × (isSkipped (hintOf others k) ≡ true)))
+      → SameRuns image hints others entries entries
+  -- an address is not compared with a part: no number depends on addresses, and what comes of a hint's words does not depend on where its part stands
+  pub hint-addresses : (hints others entries image : List ℕ) → length hints ≡ length others
+      → ((k : ℕ) → k < hintCount hints → unaddressed (hintOf hints k) ≡ unaddressed (hintOf others k))
+      → runNumber (runOf image hints entries) ≡ runNumber (runOf image others entries)
+  pub hint-part : (h : HintRecord) (start len : ℕ) (entries words : List ℕ)
+      → HintRule.outcomeOf entries (elsewhere h start len) words ≡ HintRule.outcomeOf entries h words
+  -- of an entry it looks at type, target and addend alone, so not at its offset
   pub hint-entries : (entries entries′ image hints : List ℕ) → length entries ≡ length entries′
       → ((k : ℕ) → k < length entries / 24
       → (relocAt entries (24 * k) .ty ≡ relocAt entries′ (24 * k) .ty)
