@@ -1,5 +1,5 @@
--- Examples through the call: 9 to 11 (RULES 11.9 to 11.11), those of the numbers 1 to 3, 5 and 8 to 11 (RULES 3.1), and the order
--- of these. Each is computed.
+-- Examples through the call: 9 to 11 (RULES 11.9 to 11.11), those of the numbers 1 to 3, 5 and 8 to 11 (RULES 3.1), their order, and
+-- what is passed over; entries that stand alone. Each is computed.
 use mathlib.Core.Path.{_≡_, refl}
 use mathlib.Core.List.{List, [], _∷_, _++_}
 use Prim.Native.Nat.{ℕ, zero, suc, _-_, _^_, _<_}
@@ -94,6 +94,22 @@ pub order : (number [] 0 (bytes 25 0) [] [] ≡ 1)
     × (number (bytes 8 0) 0 (entry ARM64-RELOC-UNSIGNED 4 0 ++ entry ARM64-RELOC-UNSIGNED 0 0) (resolved 0 0 ++ resolved 0 0x200) (bytes 48 0) ≡ 3)
 unfolding relocBytes resolvedBytes bytesOf bytes outcomeOf checkLists checkTo checkAt checkOf consumed relocAt resolvedAt le wellFormed widthOf choose
 order = (refl, refl, refl, refl, refl, refl, refl, refl, refl, refl, refl)
+
+-- RULES 3.9, 3.10: 47 bytes of targets; one entry and no target; a SUBTRACTOR, the entry that it takes, and slots for one
+pub lengths : (number (bytes 8 0) 0 (entry ARM64-RELOC-UNSIGNED 0 0) (bytes 47 0) (bytes 24 0) ≡ 1)
+    × (number (bytes 8 0) 0 (entry ARM64-RELOC-UNSIGNED 0 0) [] (bytes 24 0) ≡ 1)
+    × (number (bytes 8 0) 0 (entry ARM64-RELOC-SUBTRACTOR 0 0 ++ entry ARM64-RELOC-UNSIGNED 0 0) (resolved 0 0 ++ resolved 0 0) (bytes 47 0) ≡ 2)
+unfolding relocBytes resolvedBytes bytesOf bytes outcomeOf checkLists choose
+lengths = (refl, refl, refl)
+
+-- RULES 3.5, 3.11, 5.5: a taken entry past the section, of type 10, with flags that no target has; of three SUBTRACTORs the last takes nothing;
+-- an imported symbol's UNSIGNED at the section's end
+pub passed-over : (number (bytes 8 0) 0 (entry ARM64-RELOC-SUBTRACTOR 0 0 ++ entry ARM64-RELOC-ADDEND 9 0) (resolved 0 0 ++ resolved 0 0x200) (bytes 48 0) ≡ 0)
+    × (number (bytes 8 0) 0 (entry ARM64-RELOC-SUBTRACTOR 0 0 ++ entry ARM64-RELOC-SUBTRACTOR 0 0 ++ entry ARM64-RELOC-SUBTRACTOR 0 0)
+    (resolved 0 0 ++ resolved 0 0 ++ resolved 0 0) (bytes 72 0) ≡ 8)
+    × (number (bytes 8 0) 0 (entry ARM64-RELOC-UNSIGNED 8 0) (resolved 0 1) (bytes 24 0) ≡ 0)
+unfolding relocBytes resolvedBytes bytesOf bytes outcomeOf checkLists checkTo checkAt checkOf consumed relocAt resolvedAt le wellFormed widthOf choose
+passed-over = (refl, refl, refl)
 
 -- two PAGEOFF12 on the word of example 9: to 0x1234, which is reported and writes nothing, and to 0x1238
 abbrev pub twoEntries : List ℕ

@@ -285,20 +285,6 @@ module _ (section : List ℕ) (b : Bases) (entries targets slots : List ℕ) (i 
         field-kept 8 16 (inl low),
       ))
 
-  -- the size byte, but for SUBTRACTOR
-  pub size-byte : j ≡ 5 → (lentEntry entries i .ty ≡ ARM64-RELOC-SUBTRACTOR → ⊥)
-      → outcomeOf section b entries targets slots ≡ outcomeOf section b (set entries (24 * i + j) v) targets slots
-  unfolding relocAt choose
-  size-byte is ne =
-      entry-byte (omega arith)
-      (rw (
-        offset-kept (omega arith),
-        field-kept 1 4 (inr (omega arith)),
-        ne-eqb _ _ ne,
-        field-kept 4 8 (inl (omega arith)),
-        field-kept 8 16 (inl (omega arith)),
-      ))
-
   -- a byte of the target field that leaves bit 31
   pub target-byte : 8 ≤ j → j < 12 → isSection (lentEntry (set entries (24 * i + j) v) i .target) ≡ isSection (lentEntry entries i .target)
       → outcomeOf section b entries targets slots ≡ outcomeOf section b (set entries (24 * i + j) v) targets slots
@@ -312,3 +298,18 @@ module _ (section : List ℕ) (b : Bases) (entries targets slots : List ℕ) (i 
         same,
         field-kept 8 16 (inl (omega arith)),
       ))
+
+-- the size byte, but for SUBTRACTOR
+pub size-byte : (section : List ℕ) (b : Bases) (entries targets slots : List ℕ) (i v : ℕ) → (lentEntry entries i .ty ≡ ARM64-RELOC-SUBTRACTOR → ⊥)
+    → outcomeOf section b entries targets slots ≡ outcomeOf section b (set entries (24 * i + 5) v) targets slots
+unfolding relocAt choose
+size-byte section b entries targets slots i v ne =
+    let kept = field-kept section b entries targets slots i 5 v in
+    entry-byte section b entries targets slots i 5 v (lit≤ tt)
+    (rw (
+      offset-kept section b entries targets slots i 5 v (lit≤ tt),
+      kept 1 4 (inr (lit≤ tt)),
+      ne-eqb _ _ ne,
+      kept 4 8 (inl (lit≤ tt)),
+      kept 8 16 (inl (lit≤ tt)),
+    ))

@@ -4,10 +4,12 @@ use mathlib.Core.Bool.{Bool, true, false, _||_, not}
 use mathlib.Core.List.{List}
 use Prim.Native.Nat.{ℕ, _*_, _/_, _%_, _^_, _≤_, _<_}
 use native.Mathlib.Omega.{arith}
-use borrow.Author.Tests.{ltb-false, leb-false, eqb-true}
+use borrow.Author.Tests.{ltb-false, leb-false, eqb-true, le-leb}
 use lib.Dec.{eqb, leb}
 use lib.ListN.{length}
 use Rattle.macho.specs.declared.refusal.Refusal.{Refusal}
+use Rattle.macho.specs.declared.refusal.Refusal.the-variants.{Lengths}
+use Rattle.util.specs.Choice.{choose}
 use Rattle.arm64_fixup.specs.Walk.{checkAll, Fixed, fixAll}
 use Rattle.arm64_fixup.specs.Answer.{disagree, lacksSlots, checkLists, Outcome, refused, fixed, after, outcomeOf, answerOf, sectionAfter}
 use Rattle.arm64_fixup.specs.Answer.{filled, slotsAfter}
@@ -27,6 +29,10 @@ pub record Lists (entries targets slots : ℕ) : Type 0 where
 or-false : (a b : Bool) → (a || b) ≡ false → (a ≡ false) × (b ≡ false)
 or-false false b h = (refl, h)
 or-false true b h = let z : _≡_ {A = ℕ} 0 1 = cc in absurd (omega arith)
+
+or-true : (a : Bool) → (a || true) ≡ true
+or-true true = refl
+or-true false = refl
 
 not-eqb : (m n : ℕ) → not (eqb m n) ≡ false → m ≡ n
 not-eqb m n h = go (eqb m n) refl h
@@ -62,6 +68,11 @@ module _ (section : List ℕ) (b : Bases) (entries targets slots : List ℕ) whe
       → outcomeOf section b entries targets slots ≡ refused r
   unfolding outcomeOf
   by-lists q p = rw (sym q ∙ p)
+
+  -- RULES 3.9: 2^32 entries or more are number 1
+  pub too-many : 2 ^ 32 ≤ length entries / 24 → outcomeOf section b entries targets slots ≡ refused Lengths
+  unfolding outcomeOf checkLists choose
+  too-many h = rw (le-leb (2 ^ 32) (length entries / 24) h, or-true (not (eqb (length entries % 24) 0) || not (eqb (length targets % 48) 0)))
 
   module _ (fit : checkLists (length entries) (length targets) (length slots) ≡ C.Fit) where
     pub by-entry : {c : Check} {r : Refusal} → c ≡ checkAll (length section) b entries targets → c ≡ C.Refused r

@@ -112,9 +112,8 @@ pub record Ignored : Type 0 where
   pub fix-up-spare : (section : List ℕ) (b : Bases) (entries targets slots : List ℕ) (i j v : ℕ) → ((6 ≤ j) × (j < 8)) ⊎ ((12 ≤ j) × (j < 16))
       → outcomeOf section b entries targets slots ≡ outcomeOf section b (set entries (24 * i + j) v) targets slots
   -- the size byte, but for SUBTRACTOR
-  pub fix-up-size : (section : List ℕ) (b : Bases) (entries targets slots : List ℕ) (i j v : ℕ) → j ≡ 5
-      → (lentEntry entries i .ty ≡ ARM64-RELOC-SUBTRACTOR → ⊥)
-      → outcomeOf section b entries targets slots ≡ outcomeOf section b (set entries (24 * i + j) v) targets slots
+  pub fix-up-size : (section : List ℕ) (b : Bases) (entries targets slots : List ℕ) (i v : ℕ) → (lentEntry entries i .ty ≡ ARM64-RELOC-SUBTRACTOR → ⊥)
+      → outcomeOf section b entries targets slots ≡ outcomeOf section b (set entries (24 * i + 5) v) targets slots
   -- a byte of the target field that leaves its bit 31
   pub fix-up-target-bits : (section : List ℕ) (b : Bases) (entries targets slots : List ℕ) (i j v : ℕ) → 8 ≤ j → j < 12
       → isSection (lentEntry (set entries (24 * i + j) v) i .target) ≡ isSection (lentEntry entries i .target)
