@@ -20,7 +20,7 @@ use Rattle.macho.specs.declared.reloc.Reloc.{Reloc}
 use Rattle.macho.specs.declared.resolved.Resolved.{Resolved}
 use Rattle.arm64_fixup_entry.specs.Check.{subtracts, checkOf}
 use Rattle.arm64_fixup_entry.specs.Change.{changeOf}
-use Rattle.arm64_fixup_entry.specs.Seen.{seen, SameUse, equal}
+use Rattle.arm64_fixup_entry.specs.Seen.{seen, SameUse, same-all}
 use Rattle.arm64_fixup.specs.Walk.{lentEntry, lentTarget, entryCount, consumed, checkAt, first, checkTo, Fixed, changeAt, applied, workAt, fixTo}
 use Rattle.arm64_fixup.specs.Answer.{checkLists, after, fixed, outcomeOf}
 use Rattle.arm64_fixup_entry.specs.declared.target.Bases.{Bases}
@@ -220,7 +220,7 @@ module _ (section : List ℕ) (b : Bases) (entries targets slots : List ℕ) (i 
       (record {
         length-entries = simp length-set;
         length-targets = refl;
-        worked = λ k _ free. (ap seen (sym (entry-set entries i j v k (other k free) (omega arith))), refl, equal refl);
+        worked = λ k _ free. (ap seen (sym (entry-set entries i j v k (other k free) (omega arith))), refl, same-all refl);
         taken = λ k _ _. (sym (addend-set entries i j v k l), refl);
       })
       section
@@ -234,7 +234,7 @@ module _ (section : List ℕ) (b : Bases) (entries targets slots : List ℕ) (i 
         length-targets = simp length-set;
         worked = λ k _ free.
             let q = sym (target-set targets i j v k (other k free) l) in
-            (refl, ap wellFormed q, equal q);
+            (refl, ap wellFormed q, same-all q);
         taken = λ k _ _. (refl, sym (address-set targets i j v k m l));
       })
       section
@@ -258,7 +258,7 @@ module _ (section : List ℕ) (b : Bases) (entries targets slots : List ℕ) (i 
       (record {
         length-entries = simp length-set;
         length-targets = refl;
-        worked = λ k _ _. (sym (at k (eqb k i) refl), refl, equal refl);
+        worked = λ k _ _. (sym (at k (eqb k i) refl), refl, same-all refl);
         taken = λ k _ _. (sym (addend-set entries i j v k l), refl);
       })
       section

@@ -78,20 +78,20 @@ module _ {section : List ℕ} {b : Bases} {entries targets slots : List ℕ} {f 
     abbrev T : ℕ
     T = branchTarget (lentEntry entries k) (lentTarget targets k)
 
-    abbrev goal : ℕ
-    goal = M.branchTarget (field (displacement (lentEntry entries k) (lentTarget targets k) P) 2 26) P
+    abbrev goesTo : ℕ
+    goesTo = M.branchTarget (field (displacement (lentEntry entries k) (lentTarget targets k) P) 2 26) P
 
-    pub goes-somewhere : ((branchReaches T P ≡ true) × (T % 4 ≡ 0 → goal ≡ T))
+    pub unreported-goes : ((branchReaches T P ≡ true) × (T % 4 ≡ 0 → goesTo ≡ T))
         ⊎ ((branchReaches T P ≡ false)
         × (thunkServes (lentEntry entries k) (lentTarget targets k) T ≡ true)
-        × (branchReaches (lentTarget targets k .thunk) P ≡ true → lentTarget targets k .thunk % 4 ≡ 0 → goal ≡ lentTarget targets k .thunk))
-    goes-somewhere = go (branchReaches T P) refl
+        × (branchReaches (lentTarget targets k .thunk) P ≡ true → lentTarget targets k .thunk % 4 ≡ 0 → goesTo ≡ lentTarget targets k .thunk))
+    unreported-goes = go (branchReaches T P) refl
       where
         go : (x : Bool) → branchReaches T P ≡ x
-            → ((branchReaches T P ≡ true) × (T % 4 ≡ 0 → goal ≡ T))
+            → ((branchReaches T P ≡ true) × (T % 4 ≡ 0 → goesTo ≡ T))
             ⊎ ((branchReaches T P ≡ false)
             × (thunkServes (lentEntry entries k) (lentTarget targets k) T ≡ true)
-            × (branchReaches (lentTarget targets k .thunk) P ≡ true → lentTarget targets k .thunk % 4 ≡ 0 → goal ≡ lentTarget targets k .thunk))
+            × (branchReaches (lentTarget targets k .thunk) P ≡ true → lentTarget targets k .thunk % 4 ≡ 0 → goesTo ≡ lentTarget targets k .thunk))
         go true h = inl (h, λ t. goes l ty plain h t p)
         go false h = let s = must-serve l ty plain u h in inr (h, s, λ near t. goes-by-thunk l ty plain h s near t p)
 

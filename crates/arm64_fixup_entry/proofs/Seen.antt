@@ -16,8 +16,8 @@ use Rattle.arm64_fixup_entry.specs.Target.{isSymbol, importedSymbol, tar
 use Rattle.arm64_fixup_entry.specs.Check.{subtracts, checkOf}
 use Rattle.arm64_fixup_entry.specs.Change.{unsignedValue, subtractorValue, difference, dtraceSiteInsn, branchTarget, thunkServes, branch, gotPage21}
 use Rattle.arm64_fixup_entry.specs.Change.{gotPageoff12, pointerToGot, wordChange, changeOf}
-use Rattle.arm64_fixup_entry.specs.Seen.{seen, SameSlot, SameUse, unsigned, subtractor, branch-symbol, branch-section, page, got-helper, got-page}
-use Rattle.arm64_fixup_entry.specs.Seen.{tlv-page, got-offset, pointer-to-got, unknown, equal}
+use Rattle.arm64_fixup_entry.specs.Seen.{seen, SameUse, same-unsigned, same-subtractor, same-branch-symbol, same-branch-section, same-page}
+use Rattle.arm64_fixup_entry.specs.Seen.{same-got-helper, same-got-page, same-tlv-page, same-got-offset, same-pointer-to-got, same-unknown, same-all}
 use Rattle.arm64_fixup_entry.specs.declared.target.Bases.{Bases}
 
 -- ---- the entry
@@ -63,42 +63,42 @@ imported e t t′ same = go (isSymbol e) refl
 pub check-same : (len : ℕ) (b : Bases) (e : Reloc) (t t′ : Resolved) (last : Bool) → wellFormed t ≡ wellFormed t′ → SameUse e t t′
     → checkOf len b e t last ≡ checkOf len b e t′ last
 unfolding checkOf widthOf choose
-check-same len b e t t′ last w (unsigned h a s i) = rw (w, h, imported e t t′ i)
-check-same len b e t t′ last w (subtractor h a) = rw (w, h)
-check-same len b e t t′ last w (branch-symbol h s a k x p n) = rw (w, h)
-check-same len b e t t′ last w (branch-section h s a) = rw (w, h)
-check-same len b e t t′ last w (page (inl h) d a) = rw (w, h, d)
-check-same len b e t t′ last w (page (inr h) d a) = rw (w, h, d)
-check-same len b e t t′ last w (got-helper h p p′ a o) = rw (w, h, p, p′)
-check-same len b e t t′ last w (got-page h p p′ s) = rw (w, h, p, p′)
-check-same len b e t t′ last w (tlv-page h s) = rw (w, h)
-check-same len b e t t′ last w (got-offset (inl h) s) = rw (w, h)
-check-same len b e t t′ last w (got-offset (inr h) s) = rw (w, h)
-check-same len b e t t′ last w (pointer-to-got h a) = rw (w, h)
-check-same len b e t t′ last w (unknown h) = rw (w, le-leb _ _ h)
-check-same len b e t t′ last w (equal q) = ap (λ (x : Resolved). checkOf len b e x last) q
+check-same len b e t t′ last w (same-unsigned h a s i) = rw (w, h, imported e t t′ i)
+check-same len b e t t′ last w (same-subtractor h a) = rw (w, h)
+check-same len b e t t′ last w (same-branch-symbol h s a k x p n) = rw (w, h)
+check-same len b e t t′ last w (same-branch-section h s a) = rw (w, h)
+check-same len b e t t′ last w (same-page (inl h) d a) = rw (w, h, d)
+check-same len b e t t′ last w (same-page (inr h) d a) = rw (w, h, d)
+check-same len b e t t′ last w (same-got-helper h p p′ a o) = rw (w, h, p, p′)
+check-same len b e t t′ last w (same-got-page h p p′ s) = rw (w, h, p, p′)
+check-same len b e t t′ last w (same-tlv-page h s) = rw (w, h)
+check-same len b e t t′ last w (same-got-offset (inl h) s) = rw (w, h)
+check-same len b e t t′ last w (same-got-offset (inr h) s) = rw (w, h)
+check-same len b e t t′ last w (same-pointer-to-got h a) = rw (w, h)
+check-same len b e t t′ last w (same-unknown h) = rw (w, le-leb _ _ h)
+check-same len b e t t′ last w (same-all q) = ap (λ (x : Resolved). checkOf len b e x last) q
 
 module _ (b : Bases) (i : ℕ) (e : Reloc) (t t′ : Resolved) (next : Reloc) (nextTarget : Resolved) (word : ℕ) where
   pub change-same : SameUse e t t′ → changeOf b i e t next nextTarget word ≡ changeOf b i e t′ next nextTarget word
   unfolding changeOf widthOf unsignedValue subtractorValue targetOf slotOf gotTarget wordChange
       dtraceSiteInsn branchTarget thunkServes branch gotPage21 gotPageoff12 pointerToGot choose
-  change-same (unsigned h a s i) = rw (h, imported e t t′ i, s, a)
-  change-same (subtractor h a) = rw (h, a)
-  change-same (branch-symbol h s a k x p n) = rw (h, s, p, n, a, k, x)
-  change-same (branch-section h s a) = rw (h, s, a)
-  change-same (page (inl h) d a) = rw (h, d, a)
-  change-same (page (inr h) d a) = rw (h, d, a)
-  change-same (got-helper h p p′ a o) = rw (h, p, p′, a, o)
-  change-same (got-page h p p′ (inl s)) = rw (h, p, p′, s .0, s .1, s .2)
-  change-same (got-page h p p′ (inr s)) = rw (h, p, p′, s .0, s .1, s .2)
-  change-same (tlv-page h (inl s)) = rw (h, s .0, s .1, s .2)
-  change-same (tlv-page h (inr s)) = rw (h, s .0, s .1, s .2)
-  change-same (got-offset (inl h) (inl s)) = rw (h, s .0, s .1, s .2)
-  change-same (got-offset (inl h) (inr s)) = rw (h, s .0, s .1, s .2)
-  change-same (got-offset (inr h) (inl s)) = rw (h, s .0, s .1, s .2)
-  change-same (got-offset (inr h) (inr s)) = rw (h, s .0, s .1, s .2)
-  change-same (pointer-to-got h a) = rw (h, a)
-  change-same (unknown h) =
+  change-same (same-unsigned h a s i) = rw (h, imported e t t′ i, s, a)
+  change-same (same-subtractor h a) = rw (h, a)
+  change-same (same-branch-symbol h s a k x p n) = rw (h, s, p, n, a, k, x)
+  change-same (same-branch-section h s a) = rw (h, s, a)
+  change-same (same-page (inl h) d a) = rw (h, d, a)
+  change-same (same-page (inr h) d a) = rw (h, d, a)
+  change-same (same-got-helper h p p′ a o) = rw (h, p, p′, a, o)
+  change-same (same-got-page h p p′ (inl s)) = rw (h, p, p′, s .0, s .1, s .2)
+  change-same (same-got-page h p p′ (inr s)) = rw (h, p, p′, s .0, s .1, s .2)
+  change-same (same-tlv-page h (inl s)) = rw (h, s .0, s .1, s .2)
+  change-same (same-tlv-page h (inr s)) = rw (h, s .0, s .1, s .2)
+  change-same (same-got-offset (inl h) (inl s)) = rw (h, s .0, s .1, s .2)
+  change-same (same-got-offset (inl h) (inr s)) = rw (h, s .0, s .1, s .2)
+  change-same (same-got-offset (inr h) (inl s)) = rw (h, s .0, s .1, s .2)
+  change-same (same-got-offset (inr h) (inr s)) = rw (h, s .0, s .1, s .2)
+  change-same (same-pointer-to-got h a) = rw (h, a)
+  change-same (same-unknown h) =
       let ne : (x : ℕ) → x < 10 → eqb (e .ty) x ≡ false = λ x l. ne-eqb (e .ty) x (λ q. omega arith) in
       rw (
         ne 0 (lit< tt),
@@ -112,4 +112,4 @@ module _ (b : Bases) (i : ℕ) (e : Reloc) (t t′ : Resolved) (next : Reloc) (n
         ne 8 (lit< tt),
         ne 9 (lit< tt),
       )
-  change-same (equal q) = ap (λ (x : Resolved). changeOf b i e x next nextTarget word) q
+  change-same (same-all q) = ap (λ (x : Resolved). changeOf b i e x next nextTarget word) q

@@ -35,18 +35,18 @@ SameSlot t t′ =
 
 -- targets that agree in the fields and flags that an entry of its type uses: a row for each type
 pub data SameUse (e : Reloc) (t t′ : Resolved) : Type 0 where
-  unsigned : e .ty ≡ ARM64-RELOC-UNSIGNED → t .addr ≡ t′ .addr → isTls t ≡ isTls t′ → (isSymbol e ≡ true → isImported t ≡ isImported t′) → SameUse e t t′
-  subtractor : e .ty ≡ ARM64-RELOC-SUBTRACTOR → t .addr ≡ t′ .addr → SameUse e t t′
-  branch-symbol : e .ty ≡ ARM64-RELOC-BRANCH26 → isSymbol e ≡ true → t .branch ≡ t′ .branch → t .thunk ≡ t′ .thunk → hasThunk t ≡ hasThunk t′
+  same-unsigned : e .ty ≡ ARM64-RELOC-UNSIGNED → t .addr ≡ t′ .addr → isTls t ≡ isTls t′ → (isSymbol e ≡ true → isImported t ≡ isImported t′) → SameUse e t t′
+  same-subtractor : e .ty ≡ ARM64-RELOC-SUBTRACTOR → t .addr ≡ t′ .addr → SameUse e t t′
+  same-branch-symbol : e .ty ≡ ARM64-RELOC-BRANCH26 → isSymbol e ≡ true → t .branch ≡ t′ .branch → t .thunk ≡ t′ .thunk → hasThunk t ≡ hasThunk t′
       → isProbe t ≡ isProbe t′ → isEnabled t ≡ isEnabled t′ → SameUse e t t′
-  branch-section : e .ty ≡ ARM64-RELOC-BRANCH26 → isSymbol e ≡ false → t .addr ≡ t′ .addr → SameUse e t t′
-  page : (e .ty ≡ ARM64-RELOC-PAGE21) ⊎ (e .ty ≡ ARM64-RELOC-PAGEOFF12) → hasAddress t ≡ hasAddress t′ → t .addr ≡ t′ .addr → SameUse e t t′
-  got-helper : e .ty ≡ ARM64-RELOC-GOT-LOAD-PAGE21 → hasHelper t ≡ true → hasHelper t′ ≡ true → t .helper ≡ t′ .helper → helperIsOwn t ≡ helperIsOwn t′
+  same-branch-section : e .ty ≡ ARM64-RELOC-BRANCH26 → isSymbol e ≡ false → t .addr ≡ t′ .addr → SameUse e t t′
+  same-page : (e .ty ≡ ARM64-RELOC-PAGE21) ⊎ (e .ty ≡ ARM64-RELOC-PAGEOFF12) → hasAddress t ≡ hasAddress t′ → t .addr ≡ t′ .addr → SameUse e t t′
+  same-got-helper : e .ty ≡ ARM64-RELOC-GOT-LOAD-PAGE21 → hasHelper t ≡ true → hasHelper t′ ≡ true → t .helper ≡ t′ .helper → helperIsOwn t ≡ helperIsOwn t′
       → SameUse e t t′
-  got-page : e .ty ≡ ARM64-RELOC-GOT-LOAD-PAGE21 → hasHelper t ≡ false → hasHelper t′ ≡ false → SameSlot t t′ → SameUse e t t′
-  tlv-page : e .ty ≡ ARM64-RELOC-TLVP-LOAD-PAGE21 → SameSlot t t′ → SameUse e t t′
-  got-offset : GotOffset e → SameSlot t t′ → SameUse e t t′
-  pointer-to-got : e .ty ≡ ARM64-RELOC-POINTER-TO-GOT → t .got ≡ t′ .got → SameUse e t t′
+  same-got-page : e .ty ≡ ARM64-RELOC-GOT-LOAD-PAGE21 → hasHelper t ≡ false → hasHelper t′ ≡ false → SameSlot t t′ → SameUse e t t′
+  same-tlv-page : e .ty ≡ ARM64-RELOC-TLVP-LOAD-PAGE21 → SameSlot t t′ → SameUse e t t′
+  same-got-offset : GotOffset e → SameSlot t t′ → SameUse e t t′
+  same-pointer-to-got : e .ty ≡ ARM64-RELOC-POINTER-TO-GOT → t .got ≡ t′ .got → SameUse e t t′
   -- a type that is turned down uses nothing
-  unknown : ARM64-RELOC-ADDEND ≤ e .ty → SameUse e t t′
-  equal : t ≡ t′ → SameUse e t t′
+  same-unknown : ARM64-RELOC-ADDEND ≤ e .ty → SameUse e t t′
+  same-all : t ≡ t′ → SameUse e t t′

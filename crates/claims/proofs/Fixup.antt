@@ -44,7 +44,7 @@ module _ {section : List ℕ} {b : Bases} {entries targets slots : List ℕ} {f 
         b-goes = U.b-goes l;
         bl-goes = U.bl-goes l;
         must-serve = must-serve l;
-        unreported-goes = U.goes-somewhere l;
+        unreported-goes = U.unreported-goes l;
         probe-site = Branches.probe-site l;
         is-enabled-site = Branches.is-enabled-site l;
         helper-own = Branches.helper-own l;

@@ -1,23 +1,10 @@
+-- `word_change` meets its contract: the type decides the choices.
 use borrow.Author.Tests.{eq-eqb, ne-eqb}
 use Rattle.arm64_fixup_entry.specs.Change.{wordChange}
 use Rattle.util.specs.Choice.{choose}
 use borrow.Author.Needs.{needs}
 use Rattle.arm64_fixup_entry.proofs.change.word_change.Statement.{statement}
 use Rattle.arm64_fixup_entry.proofs.change.word_change.Tie as tie
-use Rattle.arm64_fixup_entry.proofs.change.word_change.Reads as reads
-use Rattle.arm64_fixup_entry.proofs.change.word_change.Lts as lts
-use Rattle.arm64_fixup_entry.proofs.change.branch26.Reads as branch26-reads
-use Rattle.arm64_fixup_entry.proofs.change.got_page21.Reads as got-page21-reads
-use Rattle.arm64_fixup_entry.proofs.change.got_pageoff12.Reads as got-pageoff12-reads
-use Rattle.arm64_fixup_entry.proofs.change.is_got_offset.Reads as is-got-offset-reads
-use Rattle.arm64_fixup_entry.proofs.change.page21.Reads as page21-reads
-use Rattle.arm64_fixup_entry.proofs.change.pageoff12.Reads as pageoff12-reads
-use Rattle.arm64_fixup_entry.proofs.change.pointer_to_got.Reads as pointer-to-got-reads
-use Rattle.arm64_fixup_entry.proofs.change.silent.Reads as silent-reads
-use Rattle.arm64_fixup_entry.proofs.target.got_target.Reads as got-target-reads
-use Rattle.arm64_fixup_entry.proofs.target.target_of.Reads as target-of-reads
-
--- `word_change` meets its contract: the type decides the choices.
 
 branch26-requires : tie.Need-branch26-requires
 branch26-requires c κs = search needs
