@@ -5,6 +5,7 @@ pub mod Step
 pub mod HintsKept
 pub mod Picked
 pub mod PartCalls
+pub mod AllParts
 pub mod Tests
 pub mod Computing
 pub mod Examples

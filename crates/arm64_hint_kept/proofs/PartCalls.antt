@@ -18,11 +18,11 @@ use Rattle.macho.specs.Types.{MCLOH-AdrpAdrp}
 use Rattle.macho.specs.Hint.{wordCount, hintCount, hintOf}
 use Rattle.macho.specs.declared.hint.HintInsn.{HintInsn}
 use Rattle.macho.specs.declared.hint.HintRecord.{HintRecord}
-use Rattle.image.specs.Words.{span, wordsAt, putWords}
+use Rattle.image.specs.Words.{span, inWords, wordsAt, putWords}
 use Rattle.image.specs.Local.{SameBytes}
 use Rattle.image.specs.Steps.{Work, footOf, answered, written}
 use Rattle.image.proofs.Local.{leaves}
-use Rattle.image.proofs.Words.{span-in}
+use Rattle.image.proofs.Words.{span-in, words-inside}
 use Rattle.image.proofs.Steps.{local-step}
 use Rattle.arm64_hint_terms.specs.declared.answer.Insns.{Insns}
 use Rattle.arm64_hint_terms.specs.declared.rels.Rels.{Rels}
@@ -45,8 +45,8 @@ use Rattle.arm64_hint_run.specs.Run.{start, worked, runOf, imageOf}
 use Rattle.arm64_hint_run.specs.declared.run.RunAnswer.the-variants as A
 use Rattle.arm64_hint_run.proofs.Parts.{places-inside}
 use Rattle.arm64_hint_run.proofs.Answers.{done-fit, run-is}
-use Rattle.arm64_hint_kept.specs.PartCalls.{SameHint, PartCall}
-use Rattle.arm64_hint_kept.proofs.Picked.{Picked, none, mine, other, own-picked}
+use Rattle.arm64_hint_kept.specs.PartCalls.{SameHint, Call, partOf, PartCall}
+use Rattle.arm64_hint_kept.proofs.Picked.{Picked, none, mine, other, pick, own-pick}
 
 -- ---- parts
 
@@ -97,45 +97,63 @@ module _ {a : ℕ} {entries : List ℕ} {h : HintRecord} {entries′ : List ℕ}
 
 -- ---- the run along its order, and the call along its own
 
-module _ (hints entries : List ℕ) (a len : ℕ) (hints′ entries′ : List ℕ) (at : ℕ → ℕ) (call : PartCall hints entries a len hints′ entries′ at)
-    (fits : (j : ℕ) → j < hintCount hints′ → All (λ p. p + 4 ≤ len) (placesOf (hintOf hints′ j))) where
-  answers : (j : ℕ) → j < hintCount hints′ → (x : List ℕ)
-      → answered (stepsOf hints entries) (at j) x ≡ answered (stepsOf hints′ entries′) j (part x a len)
+module _ (hints entries : List ℕ) (c : Call) (call : PartCall hints entries c)
+    (fits : (j : ℕ) → j < hintCount (c .hints) → All (λ p. p + 4 ≤ c .len) (placesOf (hintOf (c .hints) j))) where
+  pub answers : (j : ℕ) → j < hintCount (c .hints) → (x : List ℕ)
+      → answered (stepsOf hints entries) (c .at j) x ≡ answered (stepsOf (c .hints) (c .entries)) j (partOf c x)
   answers j h x =
-      ap (λ (ps : List ℕ). outcomeOf entries (hintOf hints (at j)) (wordsAt ps x)) (places (call .same j h))
-      ∙ ap (outcomeOf entries (hintOf hints (at j))) (sym (words-part x a len (fits j h)))
-      ∙ outcomes (call .same j h) (wordsAt (placesOf (hintOf hints′ j)) (part x a len))
+      ap (λ (ps : List ℕ). outcomeOf entries (hintOf hints (c .at j)) (wordsAt ps x)) (places (call .same j h))
+      ∙ ap (outcomeOf entries (hintOf hints (c .at j))) (sym (words-part x (c .start) (c .len) (fits j h)))
+      ∙ outcomes (call .same j h) (wordsAt (placesOf (hintOf (c .hints) j)) (partOf c x))
 
   -- a hint of the call
-  own-part : (j : ℕ) → j < hintCount hints′ → (x : List ℕ) → a + len ≤ length x
-      → part (written (stepsOf hints entries) (at j) x) a len ≡ written (stepsOf hints′ entries′) j (part x a len)
+  pub own-part : (j : ℕ) → j < hintCount (c .hints) → (x : List ℕ) → c .start + c .len ≤ length x
+      → partOf c (written (stepsOf hints entries) (c .at j) x) ≡ written (stepsOf (c .hints) (c .entries)) j (partOf c x)
   own-part j h x l =
-      ap₂ (λ (ps : List ℕ) (o : HintOutcome). part (putWords ps (newsOf o) x) a len) (places (call .same j h)) (answers j h x)
-      ∙ ap (λ (y : List ℕ). part y a len) (sym (puts-part x a len l (fits j h) (newsOf (answered (stepsOf hints′ entries′) j (part x a len)))))
-      ∙ part-splice x a len (written (stepsOf hints′ entries′) j (part x a len)) (omega arith)
-      (local-step (stepsOf hints′ entries′) j .writes .size (part x a len) ∙ length-part x a len l)
+      ap₂ (λ (ps : List ℕ) (o : HintOutcome). partOf c (putWords ps (newsOf o) x)) (places (call .same j h)) (answers j h x)
+      ∙ ap (partOf c) (sym (puts-part x (c .start) (c .len) l (fits j h) (newsOf (answered (stepsOf (c .hints) (c .entries)) j (partOf c x)))))
+      ∙ part-splice x (c .start) (c .len) (written (stepsOf (c .hints) (c .entries)) j (partOf c x)) (omega arith)
+      (local-step (stepsOf (c .hints) (c .entries)) j .writes .size (partOf c x) ∙ length-part x (c .start) (c .len) l)
 
   -- and any other
-  other-part : (k : ℕ) → k < hintCount hints → ((j : ℕ) → j < hintCount hints′ → at j ≢ k) → (x : List ℕ) → a + len ≤ length x
-      → part (written (stepsOf hints entries) k x) a len ≡ part x a len
+  pub other-part : (k : ℕ) → k < hintCount hints → ((j : ℕ) → j < hintCount (c .hints) → c .at j ≢ k) → (x : List ℕ) → c .start + c .len ≤ length x
+      → partOf c (written (stepsOf hints entries) k x) ≡ partOf c x
   other-part k h away x l =
       let w = local-step (stepsOf hints entries) k .writes in
-      part-same (written (stepsOf hints entries) k x) x a len (omega (arith, w .size x)) (sym (w .size x))
-      (leaves (span a len) (footOf (stepsOf hints entries) k) (call .others k h away) (written (stepsOf hints entries) k) w x)
+      part-same (written (stepsOf hints entries) k x) x (c .start) (c .len) (omega (arith, w .size x)) (sym (w .size x))
+      (leaves (span (c .start) (c .len)) (footOf (stepsOf hints entries) k) (call .others k h away) (written (stepsOf hints entries) k) w x)
 
-  along : {l m : List ℕ} → Picked at (hintCount hints′) l m → All (λ k. k < hintCount hints) l → (x : List ℕ) → a + len ≤ length x
-      → part (runList (written (stepsOf hints entries)) l x) a len ≡ runList (written (stepsOf hints′ entries′)) m (part x a len)
+  along : {l m : List ℕ} → Picked (c .at) (hintCount (c .hints)) l m → All (λ k. k < hintCount hints) l → (x : List ℕ) → c .start + c .len ≤ length x
+      → partOf c (runList (written (stepsOf hints entries)) l x) ≡ runList (written (stepsOf (c .hints) (c .entries))) m (partOf c x)
   along none rest x h = refl
   along (mine {m = m} j hj p) (more hk rest) x h =
-      along p rest (written (stepsOf hints entries) (at j) x) (omega (arith, local-step (stepsOf hints entries) (at j) .writes .size x))
-      ∙ ap (runList (written (stepsOf hints′ entries′)) m) (own-part j hj x h)
+      along p rest (written (stepsOf hints entries) (c .at j) x) (omega (arith, local-step (stepsOf hints entries) (c .at j) .writes .size x))
+      ∙ ap (runList (written (stepsOf (c .hints) (c .entries))) m) (own-part j hj x h)
   along (other {m = m} k away p) (more hk rest) x h =
       along p rest (written (stepsOf hints entries) k x) (omega (arith, local-step (stepsOf hints entries) k .writes .size x))
-      ∙ ap (runList (written (stepsOf hints′ entries′)) m) (other-part k hk away x h)
+      ∙ ap (runList (written (stepsOf (c .hints) (c .entries))) m) (other-part k hk away x h)
+
+  -- the call's order of work is what is picked of the run's
+  pub own-order : pick (c .at) (hintCount (c .hints)) (orderOf hints) .0 ≡ orderOf (c .hints)
+  own-order =
+      own-pick (c .at) (hintCount (c .hints)) (call .rises) (objectAt hints) (objectAt (c .hints)) (lateAt hints) (lateAt (c .hints))
+      (λ j l. call .same j l .object)
+      (λ j l. ap (λ (k : ℕ). eqb k MCLOH-AdrpAdrp) (call .same j l .kind))
+      (hintCount hints) (call .inside)
+
+  -- a byte of a hint of the call is one of the call's
+  pub own-bytes : (j : ℕ) → j < hintCount (c .hints) → (b : ℕ) → footOf (stepsOf hints entries) (c .at j) b ≡ true → span (c .start) (c .len) b ≡ true
+  own-bytes j h b w =
+      words-inside (c .start) (c .len) (down (fits j h)) b (sym (ap (λ (ps : List ℕ). inWords ps b) (places (call .same j h))) ∙ w)
+    where
+      down : {ps : List ℕ} → All (λ p. p + 4 ≤ c .len) ps
+          → All (λ at. (c .start ≤ at) × (at + 4 ≤ c .start + c .len)) (map (λ p. c .start + p) ps)
+      down empty = empty
+      down (more {k = p} h rest) = more {k = c .start + p} (omega arith, omega arith) (down rest)
 
 -- ---- the image of a run that is done
 
-image-done : (image hints entries : List ℕ) (t : Tally) → runOf image hints entries ≡ A.Done t
+pub image-done : (image hints entries : List ℕ) (t : Tally) → runOf image hints entries ≡ A.Done t
     → imageOf image hints entries ≡ runList (written (stepsOf hints entries)) (orderOf hints) image
 unfolding worked
 image-done image hints entries t e =
@@ -157,21 +175,23 @@ words-fit image hints entries t e j l = go (isSkipped g) refl
         let r = ready (length image) (length entries) g g refl (each-fit (length image) hints (length entries) (done-fit image hints entries t e) j l) s in
         all-map (λ at w. omega (arith, r .part)) (places-inside g (r .words))
 
+-- the words of each hint of a call that is not refused lie in its bytes
+pub fits-of : (image : List ℕ) (c : Call) (u : Tally) → c .start + c .len ≤ length image → runOf (partOf c image) (c .hints) (c .entries) ≡ A.Done u
+    → (j : ℕ) → j < hintCount (c .hints) → All (λ p. p + 4 ≤ c .len) (placesOf (hintOf (c .hints) j))
+fits-of image c u h e j l =
+    all-map (λ p w. omega (arith, length-part image (c .start) (c .len) h)) (words-fit (partOf c image) (c .hints) (c .entries) u e j l)
+
+-- every member of the run's order is a hint's position
+pub order-inside : (hints : List ℕ) → All (λ k. k < hintCount hints) (orderOf hints)
+order-inside hints = once-inside (hintCount hints) (orderOf hints) (own-once (objectAt hints) (lateAt hints) (hintCount hints))
+
 -- RULES 9.31
 pub part-call : (image hints entries : List ℕ) (t : Tally) → runOf image hints entries ≡ A.Done t
-    → (a len : ℕ) → a + len ≤ length image → (hints′ entries′ : List ℕ) (u : Tally) → runOf (part image a len) hints′ entries′ ≡ A.Done u
-    → (at : ℕ → ℕ) → PartCall hints entries a len hints′ entries′ at
-    → imageOf (part image a len) hints′ entries′ ≡ part (imageOf image hints entries) a len
-part-call image hints entries t e a len h hints′ entries′ u e′ at call =
-    image-done (part image a len) hints′ entries′ u e′
-    ∙ sym (along hints entries a len hints′ entries′ at call
-    (λ j l. all-map (λ p w. omega (arith, length-part image a len h)) (words-fit (part image a len) hints′ entries′ u e′ j l))
-    picked (once-inside (hintCount hints) (orderOf hints) (own-once (objectAt hints) (lateAt hints) (hintCount hints))) image h)
-    ∙ ap (λ (y : List ℕ). part y a len) (sym (image-done image hints entries t e))
-  where
-    picked : Picked at (hintCount hints′) (orderOf hints) (orderOf hints′)
-    picked =
-        own-picked at (hintCount hints′) (call .rises) (objectAt hints) (objectAt hints′) (lateAt hints) (lateAt hints′)
-        (λ j l. call .same j l .object)
-        (λ j l. ap (λ (k : ℕ). eqb k MCLOH-AdrpAdrp) (call .same j l .kind))
-        (hintCount hints) (call .inside)
+    → (c : Call) (u : Tally) → c .start + c .len ≤ length image → runOf (partOf c image) (c .hints) (c .entries) ≡ A.Done u → PartCall hints entries c
+    → imageOf (partOf c image) (c .hints) (c .entries) ≡ partOf c (imageOf image hints entries)
+part-call image hints entries t e c u h e′ call =
+    let fits = fits-of image c u h e′ in
+    image-done (partOf c image) (c .hints) (c .entries) u e′
+    ∙ ap (λ (l : List ℕ). runList (written (stepsOf (c .hints) (c .entries))) l (partOf c image)) (sym (own-order hints entries c call fits))
+    ∙ sym (along hints entries c call fits (pick (c .at) (hintCount (c .hints)) (orderOf hints) .1) (order-inside hints) image h)
+    ∙ ap (partOf c) (sym (image-done image hints entries t e))

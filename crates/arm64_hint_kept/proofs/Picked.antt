@@ -1,6 +1,6 @@
 -- The positions of a list that a rising function hits, in the list's order: of the run's order of work they are the order of work of their own.
 -- Carried by the order's law that no other list with each hint once is so rising.
-use mathlib.Core.Path.{_≡_, refl, sym, ap, _∙_, subst}
+use mathlib.Core.Path.{_≡_, refl, sym, ap, _∙_}
 use mathlib.Core.Logic.{_≢_, _⊎_, inl, inr, ⊎-elim}
 use mathlib.Core.Bool.{Bool}
 use mathlib.Core.List.{List, [], _∷_}
@@ -36,6 +36,16 @@ module _ (at : ℕ → ℕ) where
   pick n (k ∷ l) =
       let t = pick n l in
       ⊎-elim (λ (j, h, e). (j ∷ t .0, rw (← e) (mine j h (t .1)))) (λ away. (t .0, other k away (t .1))) (hit n k)
+
+-- nothing of nothing
+pub picked-none : {at : ℕ → ℕ} {n : ℕ} {m : List ℕ} → Picked at n [] m → m ≡ []
+picked-none none = refl
+
+-- what is picked of the first position, and of the others
+pub picked-one : {at : ℕ → ℕ} {n k : ℕ} {l m : List ℕ} → Picked at n (k ∷ l) m
+    → (r : List ℕ) × (Picked at n l r) × (((j : ℕ) × (j < n) × (at j ≡ k) × (m ≡ j ∷ r)) ⊎ (((j : ℕ) → j < n → at j ≢ k) × (m ≡ r)))
+picked-one (mine {m = r} j h p) = (r, p, inl (j, h, refl, refl))
+picked-one (other {m = r} k away p) = (r, p, inr (away, refl))
 
 -- what each member of l has, each picked one has
 pub picked-all : {at : ℕ → ℕ} {n : ℕ} {P : ℕ → Type 0} {l m : List ℕ} → Picked at n l m → All P l → All (λ j. (j < n) × P (at j)) m
@@ -73,13 +83,11 @@ module _ (at : ℕ → ℕ) (n : ℕ) (rises : (i j : ℕ) → i < j → j < n �
     picked-rising (other k away p) (first a r) = picked-rising p r
 
     -- THE LAW
-    pub own-picked : (whole : ℕ) → ((j : ℕ) → j < n → at j < whole) → Picked at n (ownList obj late whole) (ownList obj′ late′ n)
-    own-picked whole inside =
+    pub own-pick : (whole : ℕ) → ((j : ℕ) → j < n → at j < whole) → pick at n (ownList obj late whole) .0 ≡ ownList obj′ late′ n
+    own-pick whole inside =
         let t = pick at n (ownList obj late whole) in
-        subst (Picked at n (ownList obj late whole))
-        (own-only obj′ late′ n (t .0)
+        own-only obj′ late′ n (t .0)
         (once-of n (t .0)
         (all-map (λ j (h, _). h) (picked-all (t .1) (once-inside whole (ownList obj late whole) (own-once obj late whole))))
         (λ j h. picked-count (t .1) j h ∙ own-once obj late whole .each (at j) (inside j h)))
-        (picked-rising (t .1) (own-rising obj late whole)))
-        (t .1)
+        (picked-rising (t .1) (own-rising obj late whole))

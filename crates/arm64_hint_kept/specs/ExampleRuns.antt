@@ -1,16 +1,18 @@
 -- Hints of the runs of several, and what the claims say of every hint of such a run (RULES 9.29) where all of them meet every premise.
 use mathlib.Core.Path.{_≡_}
 use mathlib.Core.Bool.{false}
-use mathlib.Core.List.{List, [], _∷_}
-use Prim.Native.Nat.{ℕ, _<_}
+use mathlib.Core.List.{List, [], _∷_, _++_}
+use Prim.Native.Nat.{ℕ, zero, suc, _+_, _<_}
 use Rattle.macho.specs.Hint.{noEntry, hintCount, hintOf}
 use Rattle.macho.specs.declared.hint.HintRecord.{HintRecord}
 use Rattle.arm64_machine.specs.Machine.{Other, State, run}
 use Rattle.arm64_machine.specs.SameRun.{spared, Agree}
 use Rattle.arm64_hint_places.specs.Hint.{isSkipped, addrsOf}
+use Rattle.arm64_hint_work.specs.declared.tally.Tally.{Tally}
 use Rattle.arm64_hint_run.specs.Run.{worked}
 use Rattle.arm64_hint_kept.specs.HintsKept.{codes, Alone, Same, Premises, NoneData}
-use Rattle.arm64_hint_kept.specs.Examples.{words, place, none-at, hintIn}
+use Rattle.arm64_hint_kept.specs.PartCalls.{Call}
+use Rattle.arm64_hint_kept.specs.Examples.{words, place, none-at, hintIn, lent, pair, counts}
 
 -- positions 0 to 3: example 6 (RULES 11.6), of object 2; then of object 1 one of no kind, one out of reach, and one whose sum passes 2^64 - 1
 abbrev pub four : List HintRecord
@@ -29,18 +31,30 @@ fourWords = words (0x90000000 ∷ 0xf9400401 ∷ 0x90008000 ∷ 0x91000000 ∷ 0
 abbrev pub fourAfter : List ℕ
 fourAfter = words (0xd503201f ∷ 0x58000021 ∷ 0x90008000 ∷ 0x91000000 ∷ 0x90000001 ∷ 0xbd29d025 ∷ [])
 
--- three hints, two of them in one part, whose words share no byte: adrp x0; ldr x1, [x0, #0x100]; adrp x0; add x0, x0, #3; and of another object
--- adrp x0; add x0, x0, #16; str x1, [x0]
-abbrev pub beside : List HintRecord
-beside =
+-- two hints in one part, whose words share no byte: adrp x0; ldr x1, [x0, #0x100]; adrp x0; add x0, x0, #3
+abbrev pub besideFirst : List HintRecord
+besideFirst =
     hintIn 2 1 0 16 (place 0 0 0x1000) (place 4 1 0x1004) none-at
     ∷ hintIn 7 1 0 16 (place 8 0 0x1008) (place 12 1 0x100c) none-at
-    ∷ hintIn 5 0 16 12 (place 0 0 0x1010) (place 4 1 0x1014) (place 8 noEntry 0x1018)
     ∷ []
 
--- the last of them in a call of its own, on the 12 bytes of its part
-abbrev pub besideLast : List HintRecord
-besideLast = hintIn 5 0 0 12 (place 0 0 0x1010) (place 4 1 0x1014) (place 8 noEntry 0x1018) ∷ []
+-- one of another object, whose part begins at a byte of the image: adrp x0; add x0, x0, #16; str x1, [x0]
+abbrev pub besideLast : ℕ → List HintRecord
+besideLast start = hintIn 5 0 start 12 (place 0 0 0x1010) (place 4 1 0x1014) (place 8 noEntry 0x1018) ∷ []
+
+-- all three in one run
+abbrev pub beside : List HintRecord
+beside = besideFirst ++ besideLast 16
+
+-- a call for the first two, and one for the last
+abbrev pub besideCalls : ℕ → Call
+besideCalls zero = record { start = 0; len = 16; hints = lent besideFirst; entries = pair; at = λ j. j }
+besideCalls (suc c) = record { start = 16; len = 12; hints = lent (besideLast 0); entries = pair; at = λ j. j + 2 }
+
+-- what they count
+abbrev pub besideCounts : ℕ → Tally
+besideCounts zero = counts 2 0 0 0
+besideCounts (suc c) = counts 1 0 0 0
 
 -- their words before the run
 abbrev pub besideWords : List ℕ

@@ -18,7 +18,8 @@ use Rattle.arm64_hint_order.proofs.Own as Own
 use Rattle.arm64_hint_run.proofs.Answers.{run-is}
 use Rattle.arm64_hint_kept.proofs.HintsKept as K
 use Rattle.arm64_hint_kept.proofs.PartCalls.{part-call}
-use Rattle.arm64_hint_kept.proofs.ExampleCalls as Calls
+use Rattle.arm64_hint_kept.proofs.AllParts.{part-calls}
+use Rattle.arm64_hint_kept.proofs.ExampleCalls.{called}
 use Rattle.arm64_hint_kept.proofs.Decisions.{decided}
 use Rattle.arm64_hint_kept.proofs.Examples as Examples
 use Rattle.arm64_hint_kept.proofs.ExampleRuns as Runs
@@ -54,7 +55,8 @@ kept =
       of-the-run = K.of-the-run;
       of-the-call = K.of-the-call;
       part-call = part-call;
-      part-called = (Calls.called, Calls.called-done .0, Calls.called-done .1);
+      part-calls = part-calls;
+      part-called = called;
       decided = λ kind s r a b c. decided kind s r (record { first = a; second = b; third = c });
       each-rewrite = Examples.each-rewrite;
       one-of-each = (Runs.own-order, Runs.one-of-each, Runs.other-list, Runs.other-ends);

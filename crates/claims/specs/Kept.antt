@@ -5,10 +5,10 @@ use mathlib.Core.Logic.{_≢_}
 use mathlib.Core.Bool.{true, false}
 use mathlib.Core.List.{List, [], _∷_}
 use Prim.Native.Nat.{ℕ, _+_, _^_, _≤_, _<_}
-use lib.ListN.{length, take}
-use Rattle.util.specs.Part.{part}
+use lib.ListN.{length, getD, take}
 use Rattle.macho.specs.Hint.{noEntry, wordCount, hintCount, hintOf}
 use Rattle.macho.specs.declared.hint.HintRecord.{HintRecord}
+use Rattle.image.specs.Words.{span}
 use Rattle.arm64_insn.specs.LoadStoreTable as Table
 use Rattle.arm64_insn.specs.LoadStoreTable.{Row, Mnemonic, general, zeros, sign64}
 use Rattle.arm64_insn.specs.ManualTargets.{literalTarget, accessAddress}
@@ -33,9 +33,9 @@ use Rattle.arm64_hint_run.specs.declared.run.RunAnswer.{RunAnswer}
 use Rattle.arm64_hint_run.specs.declared.run.RunAnswer.the-variants.{Done}
 use Rattle.arm64_hint_kept.specs.HintsKept.{Fair, Same, HintsKept, Premises, Literally}
 use Rattle.arm64_hint_kept.specs.HintsKept as Order
-use Rattle.arm64_hint_kept.specs.PartCalls.{PartCall}
+use Rattle.arm64_hint_kept.specs.PartCalls.{Call, partOf, PartCall, PartCalls, added}
 use Rattle.arm64_hint_kept.specs.Examples.{words, place, none-at, hintIn, lent, pair, gotPair, counts, EachRewrite}
-use Rattle.arm64_hint_kept.specs.ExampleRuns.{four, fourWords, fourAfter, beside, besideLast, besideWords, besideAfter}
+use Rattle.arm64_hint_kept.specs.ExampleRuns.{four, fourWords, fourAfter, beside, besideCalls, besideCounts, besideWords, besideAfter}
 use Rattle.arm64_hint_kept.specs.ExampleRuns.{falling, late, lateWords, lateAfter, AllEnd}
 use Rattle.arm64_hint_kept.specs.Needed.{Fails, Shared, Meeting}
 
@@ -102,13 +102,16 @@ pub record Kept : Type 0 where
       × ((l : List ℕ) → Once (hintCount hints) l → Literally image hints entries l tally)
   -- RULES 9.31: a call for a part of the image leaves there what one run over the image leaves there
   pub part-call : (image hints entries : List ℕ) (t : Tally) → runOf image hints entries ≡ Done t
-      → (a len : ℕ) → a + len ≤ length image → (hints′ entries′ : List ℕ) (u : Tally) → runOf (part image a len) hints′ entries′ ≡ Done u
-      → (at : ℕ → ℕ) → PartCall hints entries a len hints′ entries′ at
-      → imageOf (part image a len) hints′ entries′ ≡ part (imageOf image hints entries) a len
-  -- the last of three hints in a call of its own
-  pub part-called : PartCall (lent beside) pair 16 12 (lent besideLast) pair (λ j. j + 2)
-      × (runOf (part besideWords 16 12) (lent besideLast) pair ≡ Done (counts 1 0 0 0))
-      × (imageOf (part besideWords 16 12) (lent besideLast) pair ≡ part besideAfter 16 12)
+      → (c : Call) (u : Tally) → c .start + c .len ≤ length image → runOf (partOf c image) (c .hints) (c .entries) ≡ Done u → PartCall hints entries c
+      → imageOf (partOf c image) (c .hints) (c .entries) ≡ partOf c (imageOf image hints entries)
+  -- RULES 9.32: calls that have every hint of the run between them: each part's bytes, the bytes of no part, the counts
+  pub part-calls : (image hints entries : List ℕ) (t : Tally) → runOf image hints entries ≡ Done t
+      → (m : ℕ) (call : ℕ → Call) (u : ℕ → Tally) → PartCalls image hints entries m call u
+      → ((c : ℕ) → c < m → imageOf (partOf (call c) image) (call c .hints) (call c .entries) ≡ partOf (call c) (imageOf image hints entries))
+      × ((b : ℕ) → ((c : ℕ) → c < m → span (call c .start) (call c .len) b ≡ false) → getD (imageOf image hints entries) b 0 ≡ getD image b 0)
+      × (t ≡ added u m)
+  -- three hints in two calls
+  pub part-called : PartCalls besideWords (lent beside) pair 2 besideCalls besideCounts
   -- RULES 1.9: fair words run as what is decided of them, for every kind and whatever the entries say
   pub decided : (kind : ℕ) (s : Insns) (r : Rels) → s .p0 < 2 ^ 64 → s .p1 < 2 ^ 64 → s .p2 < 2 ^ 64 → Machine.FairWords (placedOf (wordCount kind) s)
       → SameRun (placedOf (wordCount kind) s) (placedOf (wordCount kind) (after (decide kind s r) s))
