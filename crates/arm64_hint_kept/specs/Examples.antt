@@ -13,6 +13,7 @@ use Rattle.macho.specs.declared.hint.HintInsn.{HintInsn}
 use Rattle.macho.specs.declared.hint.HintRecord.{HintRecord}
 use Rattle.arm64_hint_terms.specs.declared.answer.Rewrite.{Rewrite}
 use Rattle.arm64_hint_terms.specs.declared.answer.Rewrite.the-variants.{Drop, Literal, Adr, Fold, Slot}
+use Rattle.arm64_hint_terms.specs.declared.answer.Decision.{Decision}
 use Rattle.arm64_hint_terms.specs.declared.answer.Decision.the-variants.{Declined, Nine, Rewritten}
 use Rattle.arm64_machine.specs.Examples.{start, idle}
 use Rattle.arm64_hint_rules.specs.Rule.{outcomeOf}
@@ -85,7 +86,13 @@ pub record Shows (entries : List ℕ) (kind p : ℕ) (ws : List ℕ) (r : Rewrit
   pub leaves : imageOf (words ws) (lent (single kind p (length ws))) entries ≡ words new
   pub same : Same (hintOf (lent (single kind p (length ws))) 0) (words ws) (words new)
 
--- for each kind, and each rewrite that a decision of the kind ends in, a hint that shows it
+-- what a decision of a kind ends in, a hint of the kind shows it where that is a rewrite
+abbrev pub Shown : ℕ → Decision → Type 0
+Shown kind Declined = Unit {0}
+Shown kind Nine = Unit {0}
+Shown kind (Rewritten plan) = (entries : List ℕ) × (p : ℕ) × (ws : List ℕ) × (new : List ℕ) × Shows entries kind p ws (plan .rewrite) new
+
+-- for each kind and rewrite a hint that shows it
 pub record EachRewrite : Type 0 where
   -- adrp x0; adrp x0, of one page. The same with number 31
   pub drop : Shows pages 1 0x100000000 (0x90000000 ∷ 0x90000000 ∷ []) Drop (0x90000000 ∷ 0xd503201f ∷ [])

@@ -59,6 +59,7 @@ kept =
       part-called = called;
       decided = λ kind s r a b c. decided kind s r (record { first = a; second = b; third = c });
       each-rewrite = Examples.each-rewrite;
+      each-shown = Examples.each-shown;
       one-of-each = (Runs.own-order, Runs.one-of-each, Runs.other-list, Runs.other-ends);
       all-end = (Runs.all-done .0, Runs.all-done .1, Runs.all-end .0, Runs.all-end .1);
       falls = Runs.falling-ends;

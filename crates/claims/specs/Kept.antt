@@ -34,7 +34,7 @@ use Rattle.arm64_hint_run.specs.declared.run.RunAnswer.the-variants.{Done}
 use Rattle.arm64_hint_kept.specs.HintsKept.{Fair, Same, HintsKept, Premises, Literally}
 use Rattle.arm64_hint_kept.specs.HintsKept as Order
 use Rattle.arm64_hint_kept.specs.PartCalls.{Call, partOf, PartCall, PartCalls, added}
-use Rattle.arm64_hint_kept.specs.Examples.{words, place, none-at, hintIn, lent, pair, gotPair, counts, EachRewrite}
+use Rattle.arm64_hint_kept.specs.Examples.{words, place, none-at, hintIn, lent, pair, gotPair, counts, EachRewrite, Shown}
 use Rattle.arm64_hint_kept.specs.ExampleRuns.{four, fourWords, fourAfter, beside, besideCalls, besideCounts, besideWords, besideAfter}
 use Rattle.arm64_hint_kept.specs.ExampleRuns.{falling, late, lateWords, lateAfter, AllEnd}
 use Rattle.arm64_hint_kept.specs.Needed.{Fails, Shared, Meeting}
@@ -115,8 +115,10 @@ pub record Kept : Type 0 where
   -- RULES 1.9: fair words run as what is decided of them, for every kind and whatever the entries say
   pub decided : (kind : ℕ) (s : Insns) (r : Rels) → s .p0 < 2 ^ 64 → s .p1 < 2 ^ 64 → s .p2 < 2 ^ 64 → Machine.FairWords (placedOf (wordCount kind) s)
       → SameRun (placedOf (wordCount kind) s) (placedOf (wordCount kind) (after (decide kind s r) s))
-  -- not vacuous: for each kind and each rewrite that it ends in, a hint that meets every premise, is rewritten, and whose words then run alike
+  -- not vacuous: hints of each kind that meet every premise, are rewritten, and whose words then run alike; among them one for each rewrite that a
+  -- decision of the kind ends in
   pub each-rewrite : EachRewrite
+  pub each-shown : (kind : ℕ) (s : Insns) (r : Rels) → Shown kind (decide kind s r)
   -- one hint of each count, in the order 1, 2, 3, 0; the list 0, 1, 2, 3 leaves the same
   pub one-of-each : (orderOf (lent four) ≡ 1 ∷ 2 ∷ 3 ∷ 0 ∷ [])
       × (runOf fourWords (lent four) pair ≡ Done (counts 1 1 1 1))
