@@ -8,7 +8,7 @@ use Rattle.arm64_insn.specs.Manual.{decode}
 use Rattle.arm64_insn.specs.ManualTargets.{adrTarget, literalTarget, accessAddress, addValue}
 use Rattle.arm64_insn.specs.Page.{pageOf, adrpPage}
 use Rattle.arm64_insn.specs.Manual as Manual
-use Rattle.arm64_machine.specs.Examples.{start, entry, idle}
+use Rattle.arm64_machine.specs.Examples.{start, logged, idle}
 use Rattle.arm64_machine.specs.Premises.{Each, links31, adds31, storesMade, FairWords}
 use Rattle.arm64_machine.specs.SameRun.{SameRun}
 use Rattle.arm64_machine.proofs.FairLaws.{load-literal, add-adr, chain}
@@ -38,25 +38,25 @@ pub record Examples : Type 0 where
   add-from-sp : (after 0x910043e2) .x 2 ≡ 0x2010
   add-to-sp : (after 0x9100401f) .sp ≡ 0x1100
   -- ldr x1, [x0, #8]; ldr x1, [sp, #8]
-  load-x : ((after 0xf9400401) .x 1 ≡ 0xfffefdfcfbfaf9f8) × ((after 0xf9400401) .log ≡ entry load 0x10f8 8 0xfffefdfcfbfaf9f8 ∷ [])
+  load-x : ((after 0xf9400401) .x 1 ≡ 0xfffefdfcfbfaf9f8) × ((after 0xf9400401) .log ≡ logged load 0x10f8 8 0xfffefdfcfbfaf9f8 ∷ [])
   load-from-sp : (after 0xf94007e1) .x 1 ≡ 0x0f0e0d0c0b0a0908
   -- ldrsw x1, [x0, #4]; ldrsb w1, [x0, #1]; ldrb w1, [x0, #1]
-  load-sw : ((after 0xb9800401) .x 1 ≡ 0xfffffffff7f6f5f4) × ((after 0xb9800401) .log ≡ entry load 0x10f4 4 0xf7f6f5f4 ∷ [])
+  load-sw : ((after 0xb9800401) .x 1 ≡ 0xfffffffff7f6f5f4) × ((after 0xb9800401) .log ≡ logged load 0x10f4 4 0xf7f6f5f4 ∷ [])
   load-sb : (after 0x39c00401) .x 1 ≡ 0xfffffff1
   load-b : (after 0x39400401) .x 1 ≡ 0xf1
   -- ldr q1, [x0]; ldr s1, [x0]
   load-q : ((after 0x3dc00001) .v 1 ≡ 0xfffefdfcfbfaf9f8f7f6f5f4f3f2f1f0) × ((after 0x3dc00001) .x 1 ≡ 0x10f1)
   load-s : (after 0xbd400001) .v 1 ≡ 0xf3f2f1f0
   -- ldr x1, .+4
-  load-literal : ((after 0x58000021) .x 1 ≡ 0x0f0e0d0c0b0a0908) × ((after 0x58000021) .log ≡ entry load 0x1008 8 0x0f0e0d0c0b0a0908 ∷ [])
+  load-literal : ((after 0x58000021) .x 1 ≡ 0x0f0e0d0c0b0a0908) × ((after 0x58000021) .log ≡ logged load 0x1008 8 0x0f0e0d0c0b0a0908 ∷ [])
   -- ldr xzr, [x0, #8]: the access is listed, and nothing is kept
-  load-31 : ((after 0xf940041f) .sp ≡ 0x2000) × ((after 0xf940041f) .log ≡ entry load 0x10f8 8 0xfffefdfcfbfaf9f8 ∷ [])
+  load-31 : ((after 0xf940041f) .sp ≡ 0x2000) × ((after 0xf940041f) .log ≡ logged load 0x10f8 8 0xfffefdfcfbfaf9f8 ∷ [])
   -- str w1, [x0, #8]
-  store-w : ((after 0xb9000801) .memory 0x10f9 ≡ 0x10) × ((after 0xb9000801) .log ≡ entry store 0x10f8 4 0x10f1 ∷ [])
+  store-w : ((after 0xb9000801) .memory 0x10f9 ≡ 0x10) × ((after 0xb9000801) .log ≡ logged store 0x10f8 4 0x10f1 ∷ [])
   -- str xzr, [x0, #8]: zeros
-  store-31 : ((after 0xf900041f) .memory 0x10f9 ≡ 0) × ((after 0xf900041f) .log ≡ entry store 0x10f8 8 0 ∷ [])
+  store-31 : ((after 0xf900041f) .memory 0x10f9 ≡ 0) × ((after 0xf900041f) .log ≡ logged store 0x10f8 8 0 ∷ [])
   -- str q31, [x0, #16]
-  store-q31 : (after 0x3d80041f) .log ≡ entry store 0x1100 16 0x110f ∷ []
+  store-q31 : (after 0x3d80041f) .log ≡ logged store 0x1100 16 0x110f ∷ []
   -- nop
   nop : after 0xd503201f ≡ start
   -- prfm, add x0, x1, #1, lsl #12, add w0, w1, #1, b, bl, br x16, mov x0, #0, and an unallocated word are other words

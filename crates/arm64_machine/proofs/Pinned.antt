@@ -7,10 +7,10 @@ use Rattle.arm64_insn.specs.Manual.{decode}
 use Rattle.arm64_insn.specs.ManualTargets.{accessAddress}
 use Rattle.arm64_machine.specs.Machine.{load, store, placed, action}
 use Rattle.arm64_machine.specs.Machine.{read, write, setX, setMemory, listed, base, moved, run}
-use Rattle.arm64_machine.specs.Examples.{high, entry, idle, placing, copying, loading}
+use Rattle.arm64_machine.specs.Examples.{high, logged, idle, placing, copying, loading}
 
 -- strb w1, [x0, #4]: of 2^64 - 4 the low byte is listed
-pub store-cut : (run idle (placed 0x39001001 0x1000 ∷ []) high) .log ≡ entry store 0 1 0xfc ∷ []
+pub store-cut : (run idle (placed 0x39001001 0x1000 ∷ []) high) .log ≡ logged store 0 1 0xfc ∷ []
 unfolding action decode choose rowOf accessAddress base moved setMemory listed
 store-cut = refl
 
@@ -36,6 +36,6 @@ unfolding action decode choose rowOf
 other-vectors = refl
 
 -- sees stack pointer and memory, and its access is listed
-pub other-listed : (run loading (placed 0xf9800000 0x1004 ∷ []) high) .log ≡ entry load 0x2000 1 0x200 ∷ []
+pub other-listed : (run loading (placed 0xf9800000 0x1004 ∷ []) high) .log ≡ logged load 0x2000 1 0x200 ∷ []
 unfolding action decode choose rowOf
 other-listed = refl

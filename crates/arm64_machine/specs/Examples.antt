@@ -14,8 +14,8 @@ abbrev pub high : State
 high = record { x = λ r. 0xfffffffffffffffc; sp = 0x2000; v = λ r. 0x10f0 + r; memory = λ a. choose (eqb a 3) 0x301 0x200; log = [] }
 
 -- an access: kind, address, width, value
-abbrev pub entry : Kind → ℕ → ℕ → ℕ → Access
-entry k a n u = record { kind = k; address = a; width = n; value = u }
+abbrev pub logged : Kind → ℕ → ℕ → ℕ → Access
+logged k a n u = record { kind = k; address = a; width = n; value = u }
 
 -- other words that do nothing
 abbrev pub idle : Other
@@ -31,4 +31,4 @@ copying w p x sp v memory = record { x = x; sp = sp; v = λ r. v 1; memory = mem
 
 -- that load the byte at the stack pointer
 abbrev pub loading : Other
-loading w p x sp v memory = record { x = x; sp = sp; v = v; memory = memory; log = entry load sp 1 (memory sp) ∷ [] }
+loading w p x sp v memory = record { x = x; sp = sp; v = v; memory = memory; log = logged load sp 1 (memory sp) ∷ [] }

@@ -14,7 +14,7 @@ use Rattle.arm64_insn.specs.LoadStoreTable.{Row, Mnemonic, general, zeros, sign
 use Rattle.arm64_insn.specs.ManualTargets.{literalTarget, accessAddress}
 use Rattle.arm64_insn.specs.Page.{adrpPage}
 use Rattle.arm64_machine.specs.Machine.{load, store, Placed, placed, State, Other, action, adrp, access, literal, nop, other, run}
-use Rattle.arm64_machine.specs.Examples.{start, high, entry, idle, placing, copying, loading}
+use Rattle.arm64_machine.specs.Examples.{start, high, logged, idle, placing, copying, loading}
 use Rattle.arm64_machine.specs.SameRun.{SameRun}
 use Rattle.arm64_machine.specs.Premises as Machine
 use Rattle.arm64_hint_terms.specs.declared.answer.Insns.{Insns}
@@ -160,7 +160,7 @@ pub record Kept : Type 0 where
   pub needs-alone : Shared
   pub needs-apart : Meeting
   -- RULES 9.1, 9.6, 9.7: a store lists as many low bits as it moves: strb w1, [x0, #4]
-  pub store-cut : (run idle (one 0x1000 0x39001001) high) .log ≡ entry store 0 1 0xfc ∷ []
+  pub store-cut : (run idle (one 0x1000 0x39001001) high) .log ≡ logged store 0 1 0xfc ∷ []
   -- it puts 8 bits in each byte, at addresses modulo 2^64: str x1, [x0]
   pub store-bytes : let memory = (run idle (one 0x1000 0xf9000001) high) .memory in
       (memory 0xfffffffffffffffc ≡ 0xfc) × (memory 0xffffffffffffffff ≡ 0xff) × (memory 0 ≡ 0xff) × (memory 3 ≡ 0xff) × (memory 4 ≡ 0x200)
@@ -170,7 +170,7 @@ pub record Kept : Type 0 where
   -- memory, and its accesses are listed
   pub other-address : (run placing (one 0x1004 0xf9800000) high) .x 1 ≡ 0x1004
   pub other-vectors : (run copying (one 0x1004 0xf9800000) high) .v 2 ≡ 0x10f1
-  pub other-listed : (run loading (one 0x1004 0xf9800000) high) .log ≡ entry load 0x2000 1 0x200 ∷ []
+  pub other-listed : (run loading (one 0x1004 0xf9800000) high) .log ≡ logged load 0x2000 1 0x200 ∷ []
   -- wrong rewrites do not run alike: an access dropped; a literal load of another address; an ADRP dropped, last or before another word; one other word
   -- for another; a load that copies the sign replaced by one that does not
   pub access-dropped : (w n : ℕ) {p rt rn i : ℕ} {row : Row} → action w ≡ access row rt rn i → action n ≡ nop → SameRun (one p w) (one p n) → ⊥
