@@ -13,7 +13,7 @@ use Rattle.util.proofs.Below.{every, every-at}
 use Rattle.util.proofs.Choice.{both}
 use Rattle.util.specs.Bits.{field}
 use Rattle.macho.specs.MachRel.{pcrelOf, p2sizeOf, externOf, typeOf, formOf}
-use Rattle.macho.specs.declared.rel.MachRel.{MachRel}
+use Rattle.macho.specs.declared.mach_rel.MachRel.{MachRel}
 use Rattle.macho.proofs.Packed.{form-fields}
 use Rattle.arch.specs.Form.{Form, form, formIn, sameForm, member, formNumber, bitOf, bitsOf, hasBit, fieldsFit}
 

@@ -7,7 +7,7 @@ use lib.ListN.{length, length-append}
 use Rattle.util.specs.Word.{le}
 use Rattle.util.proofs.Bytes.{le-append-left, le-append-right}
 use Rattle.macho.specs.MachRel.{machRelAt}
-use Rattle.macho.specs.declared.rel.MachRel.{MachRel}
+use Rattle.macho.specs.declared.mach_rel.MachRel.{MachRel}
 use Rattle.arch.specs.Table.{recordsFrom, recordsOf, recordAt}
 
 record-from : (s : List ℕ) (n at i : ℕ) → i < n → recordAt (recordsFrom s n at) i ≡ machRelAt s (at + 8 * i)

@@ -14,7 +14,7 @@ use Rattle.macho.specs.Reloc.{relocBytes}
 use Rattle.util.specs.Word.{bytes}
 use Rattle.macho.specs.Record as Record
 use Rattle.macho.specs.declared.refusal.Refusal.{Refusal}
-use Rattle.macho.specs.declared.rel.MachRel.{MachRel}
+use Rattle.macho.specs.declared.mach_rel.MachRel.{MachRel}
 use Rattle.macho.specs.declared.reloc.Reloc.{Reloc}
 use Rattle.arch.specs.Entry.{enter, targeted}
 use Rattle.arch.specs.Table.{lengthsOf}

@@ -4,7 +4,7 @@ use mathlib.Core.Bool.{Bool}
 use mathlib.Core.List.{List}
 use Rattle.util.specs.Choice.{flag}
 use Rattle.macho.specs.MachRel.{pcrelOf, p2sizeOf, typeOf}
-use Rattle.macho.specs.declared.rel.MachRel.{MachRel}
+use Rattle.macho.specs.declared.mach_rel.MachRel.{MachRel}
 use Rattle.macho.specs.declared.reloc.Reloc.{Reloc}
 use Rattle.arch.specs.declared.target.Target.{Target}
 use Rattle.arch.specs.declared.target.Target.the-variants as T

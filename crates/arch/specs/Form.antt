@@ -6,7 +6,7 @@ use lib.Bits.{bitOr}
 use lib.Dec.{eqb, ltb}
 use Rattle.util.specs.Bits.{field}
 use Rattle.macho.specs.MachRel.{pcrelOf, p2sizeOf, externOf}
-use Rattle.macho.specs.declared.rel.MachRel.{MachRel}
+use Rattle.macho.specs.declared.mach_rel.MachRel.{MachRel}
 
 -- a form: the r_pcrel, r_length and r_extern fields of a record
 pub record Form : Type 0 where

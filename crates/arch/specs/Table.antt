@@ -8,7 +8,7 @@ use Rattle.util.specs.Choice.{choose}
 use Rattle.macho.specs.Record.{mostRecords}
 use Rattle.macho.specs.MachRel.{machRelSize, machRelAt, typeOf}
 use Rattle.macho.specs.Reloc.{relocSize}
-use Rattle.macho.specs.declared.rel.MachRel.{MachRel}
+use Rattle.macho.specs.declared.mach_rel.MachRel.{MachRel}
 use Rattle.macho.specs.declared.refusal.Refusal.the-variants.{Lengths, Slots}
 use Rattle.macho.specs.declared.refusal.Check.{Check}
 use Rattle.macho.specs.declared.refusal.Check.the-variants.{Fit, Refused}

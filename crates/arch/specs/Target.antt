@@ -7,7 +7,7 @@ use Rattle.util.specs.Choice.{choose}
 use Rattle.util.specs.Wrap.{diff}
 use Rattle.macho.specs.MachRel.{idxOf, externOf}
 use Rattle.macho.specs.Reloc.{targetSection}
-use Rattle.macho.specs.declared.rel.MachRel.{MachRel}
+use Rattle.macho.specs.declared.mach_rel.MachRel.{MachRel}
 use Rattle.macho.specs.declared.refusal.Refusal.the-variants.{NoSection}
 use Rattle.arch.specs.declared.target.Target.{Target}
 use Rattle.arch.specs.declared.target.Target.the-variants.{Named, Refused}

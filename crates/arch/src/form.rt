@@ -1,5 +1,5 @@
 // Forms of a relocation record as sets of bits (macho/arch/mod.rs).
-use macho::rel::MachRel;
+use macho::mach_rel::MachRel;
 ghost use mathlib.Core.Path.{_≡_};
 ghost use Prim.Native.Nat.{_<_};
 ghost use Rattle.util.specs.Choice.{flag};

@@ -2,7 +2,7 @@
 use crate::target::Target;
 use crate::target::target_of;
 use macho::refusal::Refusal;
-use macho::rel::MachRel;
+use macho::mach_rel::MachRel;
 use macho::reloc::Reloc;
 ghost use mathlib.Core.Path.{_≡_};
 ghost use Rattle.arch.specs.Entry.{entryOf, targeted};

@@ -2,7 +2,7 @@
 use macho::list::MOST_RECORDS;
 use macho::refusal::Check;
 use macho::refusal::Refusal;
-use macho::rel::MachRel;
+use macho::mach_rel::MachRel;
 use macho::reloc::Reloc;
 ghost use mathlib.Core.Path.{_≡_};
 ghost use mathlib.Core.Bool.{false};

@@ -75,7 +75,8 @@ module _ {section : List ℕ} {b : Bases} {entries targets slots : List ℕ} {f 
         stores-word l
         (ap (λ (c : Change). c .write) (branch-untraced b k _ _ _ _ _ ty plain)
         ∙ branch-write (siteOf b k (lentEntry entries k)) (lentEntry entries k) (lentTarget targets k) (wordAt entries section k))
-        ∙ mod-eq-of-lt (branch-word-lt (wordAt entries section k) (displacement (lentEntry entries k) (lentTarget targets k) (addressOf b (lentEntry entries k))))
+        ∙ mod-eq-of-lt
+        (branch-word-lt (wordAt entries section k) (displacement (lentEntry entries k) (lentTarget targets k) (addressOf b (lentEntry entries k))))
 
     -- a B stays a B, and a BL a BL
     pub b-stays : (imm26 : ℕ) → decode (wordAt entries section k) ≡ instruction (B imm26)
@@ -92,7 +93,8 @@ module _ {section : List ℕ} {b : Bases} {entries targets slots : List ℕ} {f 
     pub goes : branchReaches (branchTarget (lentEntry entries k) (lentTarget targets k)) (addressOf b (lentEntry entries k)) ≡ true
         → branchTarget (lentEntry entries k) (lentTarget targets k) % 4 ≡ 0
         → addressOf b (lentEntry entries k) % 4 ≡ 0
-        → M.branchTarget (field (displacement (lentEntry entries k) (lentTarget targets k) (addressOf b (lentEntry entries k))) 2 26) (addressOf b (lentEntry entries k))
+        → M.branchTarget (field (displacement (lentEntry entries k) (lentTarget targets k) (addressOf b (lentEntry entries k))) 2 26)
+        (addressOf b (lentEntry entries k))
         ≡ branchTarget (lentEntry entries k) (lentTarget targets k)
     goes near t p =
         ap (λ (d : ℕ). M.branchTarget (field d 2 26) (addressOf b (lentEntry entries k))) (choose-true _ _ _ near)
@@ -104,7 +106,8 @@ module _ {section : List ℕ} {b : Bases} {entries targets slots : List ℕ} {f 
         → branchReaches (lentTarget targets k .thunk) (addressOf b (lentEntry entries k)) ≡ true
         → lentTarget targets k .thunk % 4 ≡ 0
         → addressOf b (lentEntry entries k) % 4 ≡ 0
-        → M.branchTarget (field (displacement (lentEntry entries k) (lentTarget targets k) (addressOf b (lentEntry entries k))) 2 26) (addressOf b (lentEntry entries k))
+        → M.branchTarget (field (displacement (lentEntry entries k) (lentTarget targets k) (addressOf b (lentEntry entries k))) 2 26)
+        (addressOf b (lentEntry entries k))
         ≡ lentTarget targets k .thunk
     goes-by-thunk far serves near t p =
         ap (λ (d : ℕ). M.branchTarget (field d 2 26) (addressOf b (lentEntry entries k))) (choose-false _ _ _ far ∙ choose-true _ _ _ serves)
@@ -119,7 +122,9 @@ module _ {section : List ℕ} {b : Bases} {entries targets slots : List ℕ} {f 
         stores-word l
         (ap (λ (c : Change). c .write)
         (branch-does b k _ _ _ _ _ ty
-        ∙ ap (λ (d : Traced). branchUnless d (branch (siteOf b k (lentEntry entries k)) (lentEntry entries k) (lentTarget targets k) (wordAt entries section k))) d))
+        ∙ ap
+        (λ (d : Traced). branchUnless d (branch (siteOf b k (lentEntry entries k)) (lentEntry entries k) (lentTarget targets k) (wordAt entries section k)))
+        d))
 
     -- a symbol's probe becomes NOP, is-enabled "movz x0, #0"
     pub probe-site : isSymbol (lentEntry entries k) ≡ true → isProbe (lentTarget targets k) ≡ true → decode (wordAt entries (f .section) k) ≡ instruction NOP

@@ -158,8 +158,8 @@ accepts-pair = refl
 
 apart : (k i p : ℕ) → k < 2 → i < 2 → (i ≡ k → ⊥) → Touches pairEntries pairTargets k p
     → Writes pairWords (basesOf 0x1000 0) pairEntries pairTargets i p → ⊥
-unfolding relocBytes resolvedBytes bytesOf bytes consumed relocAt resolvedAt le
-    widthOf widthAt fixTo workAt changeOf wordChange page21 adrpReaches pageOf pageImm pageOffset inRange adrpWith pageoff12 targetOf offsetWith scaleOf put choose writtenAt
+unfolding relocBytes resolvedBytes bytesOf bytes consumed relocAt resolvedAt le widthOf widthAt fixTo workAt changeOf wordChange page21
+    adrpReaches pageOf pageImm pageOffset inRange adrpWith pageoff12 targetOf offsetWith scaleOf put choose writtenAt
 apart zero zero p l m ne t w = ne refl
 apart zero (suc zero) p l m ne t w = absurd (omega arith)
 apart (suc zero) zero p l m ne t w = absurd (omega arith)

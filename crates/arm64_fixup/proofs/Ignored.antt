@@ -13,6 +13,7 @@ use lib.ListN.{length, set, length-set}
 use Rattle.util.specs.Choice.{choose}
 use Rattle.util.specs.Word.{le}
 use Rattle.util.proofs.Word.{le-set}
+use Rattle.macho.specs.Refusal.{first}
 use Rattle.macho.specs.Types.{ARM64-RELOC-SUBTRACTOR}
 use Rattle.macho.specs.Reloc.{relocAt, isSection}
 use Rattle.macho.specs.Resolved.{resolvedAt, wellFormed}
@@ -21,7 +22,7 @@ use Rattle.macho.specs.declared.resolved.Resolved.{Resolved}
 use Rattle.arm64_fixup_entry.specs.Check.{subtracts, checkOf}
 use Rattle.arm64_fixup_entry.specs.Change.{changeOf}
 use Rattle.arm64_fixup_entry.specs.Seen.{seen, SameUse, same-all}
-use Rattle.arm64_fixup.specs.Walk.{lentEntry, lentTarget, entryCount, consumed, checkAt, first, checkTo, Fixed, changeAt, applied, workAt, fixTo}
+use Rattle.arm64_fixup.specs.Walk.{lentEntry, lentTarget, entryCount, consumed, checkAt, checkTo, Fixed, changeAt, applied, workAt, fixTo}
 use Rattle.arm64_fixup.specs.Answer.{checkLists, after, fixed, outcomeOf}
 use Rattle.arm64_fixup_entry.specs.declared.target.Bases.{Bases}
 use Rattle.macho.specs.declared.refusal.Check.{Check}

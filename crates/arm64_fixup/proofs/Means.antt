@@ -166,7 +166,8 @@ module _ {section : List ℕ} {b : Bases} {entries targets slots : List ℕ} {f 
     (r : Relaxed (lentEntry entries k) (lentTarget targets k))
   where
     pub relaxed-does : changeAt b entries targets section k
-        ≡ relaxed (siteOf b k (lentEntry entries k)) (lentEntry entries k .ty) (targetOf (lentEntry entries k) (lentTarget targets k)) (wordAt entries section k)
+        ≡ relaxed (siteOf b k (lentEntry entries k)) (lentEntry entries k .ty) (targetOf (lentEntry entries k) (lentTarget targets k))
+        (wordAt entries section k)
     relaxed-does = got-offset-does-it b k _ _ _ _ _ (r .type) ∙ relaxes-it _ _ _ _ (r .relaxes)
 
     -- an LDR, for GOT also a 64-bit ADD, becomes the 64-bit ADD of its registers and the low 12 bits of S + A

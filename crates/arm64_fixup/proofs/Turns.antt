@@ -11,11 +11,12 @@ use lib.ListN.{length}
 use Rattle.util.specs.Choice.{choose}
 use Rattle.util.proofs.Choice.{chosen}
 use Rattle.util.proofs.Word.{length-put}
+use Rattle.macho.specs.Refusal.{first}
 use Rattle.macho.specs.declared.reloc.Reloc.{Reloc}
 use Rattle.macho.specs.declared.resolved.Resolved.{Resolved}
 use Rattle.macho.specs.declared.refusal.Refusal.{Refusal}
 use Rattle.arm64_fixup_entry.specs.Check.{subtracts, checkOf}
-use Rattle.arm64_fixup.specs.Walk.{entryCount, lentEntry, lentTarget, takenBy, consumed, checkAt, first, checkTo, stored, Fixed, changeAt, applied}
+use Rattle.arm64_fixup.specs.Walk.{entryCount, lentEntry, lentTarget, takenBy, consumed, checkAt, checkTo, stored, Fixed, changeAt, applied}
 use Rattle.arm64_fixup.specs.Walk.{workAt, fixTo}
 use Rattle.arm64_fixup_entry.specs.declared.target.Bases.{Bases}
 use Rattle.macho.specs.declared.refusal.Check.{Check}

@@ -120,9 +120,11 @@ module _ {section : List ℕ} {b : Bases} {entries targets slots : List ℕ} {f 
       ∙ unreported l u))
 
   -- a relaxed page offset had a word that can be relaxed
-  pub relaxed-fits : Relaxed (lentEntry entries k) (lentTarget targets k) → Unreported f k → canRelax (lentEntry entries k .ty) (wordAt entries section k) ≡ true
+  pub relaxed-fits : Relaxed (lentEntry entries k) (lentTarget targets k) → Unreported f k
+      → canRelax (lentEntry entries k .ty) (wordAt entries section k) ≡ true
   relaxed-fits r u =
-      relaxed-silent (siteOf b k (lentEntry entries k)) (lentEntry entries k .ty) (targetOf (lentEntry entries k) (lentTarget targets k)) (wordAt entries section k)
+      relaxed-silent (siteOf b k (lentEntry entries k)) (lentEntry entries k .ty) (targetOf (lentEntry entries k) (lentTarget targets k))
+      (wordAt entries section k)
       (sym (ap (λ (c : Change). c .told) (relaxed-does l r)) ∙ unreported l u)
 
 -- ---- pairs: entry k has a page and the word of an ADRP, entry m the page offset. What the word at m makes or accesses is said of a source
@@ -148,7 +150,8 @@ module _ {section : List ℕ} {b : Bases} {entries targets slots : List ℕ} {f 
     abbrev PageAt : ℕ → Type 0
     PageAt target = decode (wordAt entries (f .section) k) ≡ instruction (ADRP rd (pageImm target (addressOf b (lentEntry entries k))))
 
-    page-of : {page target : ℕ} → Page (lentEntry entries k) (lentTarget targets k) page → page ≡ target → Page (lentEntry entries k) (lentTarget targets k) target
+    page-of : {page target : ℕ} → Page (lentEntry entries k) (lentTarget targets k) page → page ≡ target
+        → Page (lentEntry entries k) (lentTarget targets k) target
     page-of r same = subst (λ (t : ℕ). Page (lentEntry entries k) (lentTarget targets k) t) same r
 
     -- an unshifted ADD of 64 bits makes the target that both have: S + A of PAGE21 and PAGEOFF12
@@ -182,7 +185,8 @@ module _ {section : List ℕ} {b : Bases} {entries targets slots : List ℕ} {f 
             × (M.accessAddress (rowOf size v opc) (pageTo target) (target % 2 ^ 12 / movedBy (rowOf size v opc)) ≡ target)
 
         -- a load or store accesses the target that both have: S + A of PAGE21 and PAGEOFF12
-        pub pair-access : {page target : ℕ} → Page (lentEntry entries k) (lentTarget targets k) page → Offset (lentEntry entries m) (lentTarget targets m) target
+        pub pair-access : {page target : ℕ} → Page (lentEntry entries k) (lentTarget targets k) page
+            → Offset (lentEntry entries m) (lentTarget targets m) target
             → page ≡ target
             → PageAt target × AccessAt target
         pair-access r r′ same =
@@ -192,7 +196,8 @@ module _ {section : List ℕ} {b : Bases} {entries targets slots : List ℕ} {f 
             (w .0, (w .1, w .2))
 
         -- of a GOT or TLVP pair that is not relaxed, G + A
-        pub got-access : Page (lentEntry entries k) (lentTarget targets k) (gotTarget (lentEntry entries k) (lentTarget targets k)) → GotOffset (lentEntry entries m)
+        pub got-access : Page (lentEntry entries k) (lentTarget targets k) (gotTarget (lentEntry entries k) (lentTarget targets k))
+            → GotOffset (lentEntry entries m)
             → canRelaxGot (lentTarget targets k) ≡ false
             → canRelaxGot (lentTarget targets m) ≡ false
             → slotOf (lentEntry entries k) (lentTarget targets k) ≡ slotOf (lentEntry entries m) (lentTarget targets m)

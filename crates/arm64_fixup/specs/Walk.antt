@@ -6,6 +6,7 @@ use lib.Dec.{eqb}
 use lib.ListN.{length}
 use Rattle.util.specs.Choice.{choose}
 use Rattle.util.specs.Word.{le, put}
+use Rattle.macho.specs.Refusal.{first}
 use Rattle.macho.specs.Reloc.{relocSize, relocAt}
 use Rattle.macho.specs.Resolved.{resolvedSize, resolvedAt}
 use Rattle.macho.specs.declared.reloc.Reloc.{Reloc}
@@ -15,7 +16,7 @@ use Rattle.arm64_fixup_entry.specs.Check.{subtracts, checkOf}
 use Rattle.arm64_fixup_entry.specs.Change.{changeOf}
 use Rattle.arm64_fixup_entry.specs.declared.target.Bases.{Bases}
 use Rattle.macho.specs.declared.refusal.Check.{Check}
-use Rattle.macho.specs.declared.refusal.Check.the-variants.{Fit, Refused}
+use Rattle.macho.specs.declared.refusal.Check.the-variants.{Fit}
 use Rattle.arm64_fixup_entry.specs.declared.change.Write.{Write}
 use Rattle.arm64_fixup_entry.specs.declared.change.Write.the-variants.{Nothing, Word, Pointer}
 use Rattle.arm64_fixup_entry.specs.declared.change.Told.{Told}
@@ -51,11 +52,6 @@ consumed entries (suc i) = subtracts (lentEntry entries i .ty) && not (consumed 
 unfoldable pub checkAt : ℕ → Bases → List ℕ → List ℕ → ℕ → Check
 checkAt len b entries targets i =
     choose (consumed entries i) Fit (checkOf len b (lentEntry entries i) (lentTarget targets i) (eqb (i + 1) (entryCount entries)))
-
--- the first refusal of two checks
-abbrev pub first : Check → Check → Check
-first (Refused r) c = Refused r
-first Fit c = c
 
 -- the first refusal among the first k entries
 unfoldable pub checkTo : ℕ → Bases → List ℕ → List ℕ → ℕ → Check

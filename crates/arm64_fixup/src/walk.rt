@@ -13,6 +13,7 @@ use arm64_fixup_entry::check::subtracts;
 use arm64_fixup_entry::target::Bases;
 use arm64_fixup_entry::target::width_of;
 use macho::consts::ARM64_RELOC_UNSIGNED;
+use macho::list::MOST_RECORDS;
 use macho::refusal::Answer;
 use macho::refusal::Check;
 use macho::refusal::Refusal;
@@ -44,7 +45,7 @@ fn check_lists(entries: usize, targets: usize, slots: usize) -> Check
     if targets % Resolved::SIZE != 0 {
         return Check::Refused(Refusal::Lengths);
     }
-    if 0x1_0000_0000 <= entries / Reloc::SIZE {
+    if MOST_RECORDS < entries / Reloc::SIZE {
         return Check::Refused(Refusal::Lengths);
     }
     if entries / Reloc::SIZE != targets / Resolved::SIZE {

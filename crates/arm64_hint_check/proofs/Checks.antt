@@ -20,7 +20,7 @@ use Rattle.macho.specs.declared.hint.HintInsn.{HintInsn}
 use Rattle.macho.specs.declared.hint.HintRecord.{HintRecord}
 use Rattle.macho.specs.declared.refusal.Refusal.{Refusal}
 use Rattle.macho.specs.declared.refusal.Refusal.the-variants.{Lengths}
-use Rattle.macho.specs.Refusal.{checkNumber}
+use Rattle.macho.specs.Refusal.{first, checkNumber}
 use Rattle.macho.specs.declared.refusal.Check.{Check}
 use Rattle.macho.specs.declared.refusal.Check.the-variants.{Fit, Refused}
 use Rattle.arm64_hint_order.specs.Cursor.{objectAt}
@@ -31,7 +31,7 @@ use Rattle.arm64_hint_words.specs.Entry.{InEntries}
 use Rattle.arm64_hint_places.specs.Hint.{isSkipped, insnsIn, Inside, Named}
 use Rattle.arm64_hint_places.proofs.Places.{neither, by-count}
 use Rattle.arm64_hint_check.specs.Check.{isList, checkLists, partPast, endsPast, namesAbsent, anyOf, checkHint}
-use Rattle.arm64_hint_check.specs.Check.{first, checkTo, checkAll, checkedAs, checkedNumber}
+use Rattle.arm64_hint_check.specs.Check.{checkTo, checkAll, checkedAs, checkedNumber}
 use Rattle.arm64_hint_check.specs.declared.Checked.the-variants as Said
 
 never : {x : Refusal} → Refused x ≡ Fit → ⊥

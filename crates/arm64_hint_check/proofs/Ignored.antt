@@ -6,13 +6,14 @@ use Prim.Native.Nat.{ℕ, zero, suc, _/_, _≤_, _<_}
 use native.Mathlib.Omega.{arith}
 use lib.ListN.{length}
 use Rattle.util.proofs.Choice.{choose-true}
+use Rattle.macho.specs.Refusal.{first}
 use Rattle.macho.specs.Reloc.{relocSize}
 use Rattle.macho.specs.declared.hint.HintRecord.{HintRecord}
 use Rattle.macho.specs.Hint.{hintSize, hintCount, hintOf}
 use Rattle.macho.specs.declared.refusal.Check.the-variants.{Fit}
 use Rattle.arm64_hint_places.specs.Hint.{isSkipped}
 use Rattle.arm64_hint_places.proofs.Alike.{Alike, same-skip}
-use Rattle.arm64_hint_check.specs.Check.{checkHint, first, checkLists, checkTo, checkAll}
+use Rattle.arm64_hint_check.specs.Check.{checkHint, checkLists, checkTo, checkAll}
 
 same-hint-check : (h g : HintRecord) → Alike h g → (len count : ℕ) → checkHint len count h ≡ checkHint len count g
 unfolding checkHint

@@ -12,7 +12,7 @@ use Rattle.macho.specs.declared.hint.HintRecord.{HintRecord}
 use Rattle.macho.specs.declared.refusal.Refusal.the-variants.{Lengths, Bounds, NoEntry}
 use Rattle.macho.specs.declared.refusal.Check.{Check}
 use Rattle.macho.specs.declared.refusal.Check.the-variants.{Fit, Refused}
-use Rattle.macho.specs.Refusal.{numberOf}
+use Rattle.macho.specs.Refusal.{numberOf, first}
 use Rattle.arm64_hint_places.specs.Hint.{isSkipped, insnsIn}
 use Rattle.arm64_hint_check.specs.declared.Checked.{Checked}
 use Rattle.arm64_hint_check.specs.declared.Checked.the-variants as Said
@@ -49,11 +49,6 @@ checkHint len count h =
     (choose (partPast len h) (Refused Bounds)
     (choose (anyOf (endsPast (h .len)) (insnsIn h)) (Refused Bounds)
     (choose (anyOf (namesAbsent count) (insnsIn h)) (Refused NoEntry) Fit)))
-
--- the first refusal of two checks
-abbrev pub first : Check → Check → Check
-first (Refused x) c = Refused x
-first Fit c = c
 
 -- the first refusal among the first k hints
 unfoldable pub checkTo : ℕ → ℕ → List ℕ → ℕ → Check

@@ -2,6 +2,7 @@
 use arm64_hint_places::is_skipped;
 use macho::hint::HintInsn;
 use macho::hint::HintRecord;
+use macho::list::MOST_RECORDS;
 use macho::refusal::Check;
 use macho::refusal::Refusal;
 use macho::reloc::Reloc;
@@ -25,7 +26,7 @@ fn is_list(len: usize, size: usize) -> bool
     requires { ⌜ 0 < size ⌝ }
     ensures { λ r. ⌜ r ≡ isList len size ⌝ }
 {
-    len % size == 0 && len / size <= u32::MAX as usize
+    len % size == 0 && len / size <= MOST_RECORDS
 }
 
 // The lengths of hints and entries.

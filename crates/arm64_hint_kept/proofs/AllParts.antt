@@ -15,8 +15,8 @@ use Rattle.image.specs.Steps.{Work, footOf, answered, written, stepOf}
 use Rattle.image.proofs.Steps.{local-step}
 use Rattle.arm64_hint_order.specs.Lists.{runList}
 use Rattle.arm64_hint_order.specs.Cursor.{orderOf}
-use Rattle.arm64_hint_rules.specs.declared.outcome.Outcome.{Outcome}
-use Rattle.arm64_hint_rules.specs.declared.outcome.Outcome.the-variants.{Skipped, Worked}
+use Rattle.arm64_hint_rules.specs.declared.outcome.HintOutcome.{HintOutcome}
+use Rattle.arm64_hint_rules.specs.declared.outcome.HintOutcome.the-variants.{Skipped, Worked}
 use Rattle.arm64_hint_terms.specs.declared.answer.Decision.the-variants.{Declined, Nine, Rewritten}
 use Rattle.arm64_hint_work.specs.Step.{placesOf, addOutcome, stepsOf}
 use Rattle.arm64_hint_work.specs.declared.tally.Tally.{Tally}
@@ -42,7 +42,7 @@ plus-swap : (t u v : Tally) → plus t (plus u v) ≡ plus u (plus t v)
 plus-swap t u v = tally-same (omega arith) (omega arith) (omega arith) (omega arith)
 
 -- one answer more is the tally of that answer more
-add-plus : (o : Outcome) (t : Tally) → addOutcome o t ≡ plus t (addOutcome o zeros)
+add-plus : (o : HintOutcome) (t : Tally) → addOutcome o t ≡ plus t (addOutcome o zeros)
 add-plus Skipped t = tally-same (omega arith) (omega arith) (omega arith) (omega arith)
 add-plus (Worked Declined s) t = tally-same (omega arith) (omega arith) (omega arith) (omega arith)
 add-plus (Worked Nine s) t = tally-same (omega arith) (omega arith) (omega arith) (omega arith)
@@ -119,7 +119,7 @@ module _ (image hints entries : List ℕ) (m : ℕ) (call : ℕ → Call) (u : �
       let c = call d in
       let it = all .each d hd in
       first-tally (c .hints) (c .entries) i r (partOf c x)
-      ∙ ap₂ (λ (o : Outcome) (y : List ℕ). plus (addOutcome o zeros) (tallyOf (c .hints) (c .entries) r y))
+      ∙ ap₂ (λ (o : HintOutcome) (y : List ℕ). plus (addOutcome o zeros) (tallyOf (c .hints) (c .entries) r y))
       (sym (answers hints entries c it (fits d hd) i hi x) ∙ ap (λ (k : ℕ). answered (stepsOf hints entries) k x) e)
       (sym (own-part hints entries c it (fits d hd) i hi x (omega (arith, all .within d hd)))
       ∙ ap (λ (k : ℕ). partOf c (written (stepsOf hints entries) k x)) e)

@@ -26,7 +26,7 @@ use Rattle.arm64_machine.specs.Machine.{action, read, write, setX, setSP, setV,
 use Rattle.arm64_machine.specs.Premises.{links31, adds31, storesMade}
 use Rattle.arm64_hint_places.specs.Hint.{isSkipped, insnsIn, insnsOf, relsOf}
 use Rattle.arm64_hint_check.specs.Check.{isList, checkLists, checkHint, checkTo, checkAll}
-use Rattle.arm64_hint_rules.specs.Rule.{outcomeOf}
+use Rattle.arm64_hint_rules.specs.Rule.{hintOutcome}
 use Rattle.arm64_hint_run.specs.Run.{worked, runOf, imageOf}
 
 -- lent records
@@ -49,7 +49,7 @@ rules = tt
 
 -- the run
 unfoldable pub runs : Unit {0}
-unfolding records words rules relAt isSkipped insnsIn insnsOf relsOf outcomeOf isList checkLists checkHint checkTo checkAll worked runOf imageOf
+unfolding records words rules relAt isSkipped insnsIn insnsOf relsOf hintOutcome isList checkLists checkHint checkTo checkAll worked runOf imageOf
 runs = tt
 
 -- the machine and its premises

@@ -22,7 +22,7 @@ use Rattle.arm64_hint_places.specs.Hint.{isSkipped, addrsOf}
 use Rattle.arm64_hint_work.specs.declared.tally.Tally.{Tally}
 use Rattle.arm64_hint_run.specs.Run.{worked, runOf, imageOf}
 use Rattle.arm64_hint_run.specs.declared.run.RunAnswer.the-variants.{Done}
-use Rattle.arm64_hint_kept.specs.HintsKept.{codes, Kept, PartsApart, Alone, Fair, Same, HintsKept, Premises, NoneData}
+use Rattle.arm64_hint_kept.specs.HintsKept.{codes, KeepsOrder, PartsApart, Alone, Fair, Same, HintsKept, Premises, NoneData}
 use Rattle.arm64_hint_kept.specs.Examples.{words, lent, pair, counts}
 use Rattle.arm64_hint_kept.specs.ExampleRuns.{four, fourWords, fourAfter, beside, besideWords, besideAfter, falling, late, AllEnd}
 use Rattle.arm64_hint_kept.proofs.Computing.{records, runs, machine}
@@ -51,7 +51,7 @@ once : Once (hintCount (lent four)) other
 unfolding records
 once = once-by 4 other refl refl
 
-kept : Kept (lent four) other
+kept : KeepsOrder (lent four) other
 unfolding records
 kept = kept-by (lent four) other once refl
 
@@ -192,7 +192,7 @@ pub by-position : worked (words (0x90000000 ∷ 0x90000000 ∷ 0xf9400401 ∷ []
 unfolding runs
 by-position = refl
 
-pub not-kept : Kept (lent late) (0 ∷ 1 ∷ []) → ⊥
+pub not-kept : KeepsOrder (lent late) (0 ∷ 1 ∷ []) → ⊥
 unfolding records
 not-kept k =
     let e : _≡_ {A = List ℕ} (0 ∷ 1 ∷ []) (1 ∷ 0 ∷ []) = k 0 in

@@ -22,7 +22,7 @@ use Rattle.arm64_hint_order.specs.Cursor.{orderOf}
 use Rattle.arm64_machine.specs.Examples.{start, idle}
 use Rattle.arm64_machine.specs.Premises.{linksVector}
 use Rattle.arm64_hint_places.specs.Hint.{isSkipped}
-use Rattle.arm64_hint_rules.specs.Rule.{outcomeOf}
+use Rattle.arm64_hint_rules.specs.Rule.{hintOutcome}
 use Rattle.arm64_hint_rules.specs.declared.outcome.HintOutcome.{HintOutcome}
 use Rattle.arm64_hint_rules.specs.declared.outcome.HintOutcome.the-variants.{Skipped}
 use Rattle.arm64_hint_work.specs.declared.tally.Tally.{Tally}
@@ -36,8 +36,8 @@ use Rattle.arm64_hint_kept.proofs.Computing.{records, runs, machine}
 use Rattle.arm64_hint_kept.proofs.Tests.{meetsAll, premises-when}
 
 -- a hint that is rewritten is not skipped
-not-skipped : (entries : List ℕ) (h : HintRecord) (ws : List ℕ) (r : Rewrite) → rewriteIn (outcomeOf entries h ws) ≡ some r → isSkipped h ≡ false
-unfolding outcomeOf
+not-skipped : (entries : List ℕ) (h : HintRecord) (ws : List ℕ) (r : Rewrite) → rewriteIn (hintOutcome entries h ws) ≡ some r → isSkipped h ≡ false
+unfolding hintOutcome
 not-skipped entries h ws r =
     split (λ (o : HintOutcome). rewriteIn o ≡ some r → isSkipped h ≡ false) (isSkipped h) Skipped _
     (λ t e. let z : _≡_ {A = ℕ} 0 1 = cc in absurd (omega arith))
@@ -45,7 +45,7 @@ not-skipped entries h ws r =
 
 module _ {entries : List ℕ} {kind p : ℕ} {ws : List ℕ} {r : Rewrite} {new : List ℕ} where
   pub shown : meetsAll (hintOf (lent (single kind p (length ws))) 0) (words ws) idle start ≡ true
-      → rewriteIn (outcomeOf entries (hintOf (lent (single kind p (length ws))) 0) ws) ≡ some r
+      → rewriteIn (hintOutcome entries (hintOf (lent (single kind p (length ws))) 0) ws) ≡ some r
       → runOf (words ws) (lent (single kind p (length ws))) entries ≡ Done (counts 1 0 0 0)
       → imageOf (words ws) (lent (single kind p (length ws))) entries ≡ words new → Shows entries kind p ws r new
   unfolding records

@@ -4,15 +4,11 @@ use mathlib.Core.Bool.{true, false}
 use mathlib.Core.List.{List, [], _∷_, _++_}
 use Prim.Native.Nat.{ℕ, _<_}
 use native.Mathlib.Omega.{arith}
-use lib.Dec.{lit<}
 use lib.ListN.{length}
 use Rattle.util.proofs.All.{all-map}
 use Rattle.util.proofs.Cases.{less-or}
-use Rattle.macho.specs.Refusal.{numberOf}
+use Rattle.macho.proofs.Numbered.{numbered}
 use Rattle.macho.specs.declared.hint.HintRecord.{HintRecord}
-use Rattle.macho.specs.declared.refusal.Refusal.{Refusal}
-use Rattle.macho.specs.declared.refusal.Refusal.the-variants.{Lengths, Slots, Bounds, LoneAddend, Unsupported, Unfit}
-use Rattle.macho.specs.declared.refusal.Refusal.the-variants.{NoSection, LoneSubtractor, Overflow, NeedsSymbol, Flags, NoEntry}
 use Rattle.macho.specs.Hint.{hintCount, hintOf}
 use Rattle.image.specs.Words.{wordsAt}
 use Rattle.image.specs.Steps.{Work, written, stepOf}
@@ -34,11 +30,11 @@ use Rattle.arm64_hint_run.specs.declared.run.RunAnswer.{RunAnswer}
 use Rattle.arm64_hint_run.specs.declared.run.RunAnswer.the-variants as A
 use Rattle.arm64_hint_run.proofs.Parts.{places-inside, in-part}
 use Rattle.arm64_hint_run.proofs.Answers.{done-fit, run-is}
-use Rattle.arm64_hint_kept.specs.HintsKept.{codes, partBytes, wordBytes, Kept, PartsApart, Alone, Fair, Same, HintsKept, Premises, Literally}
+use Rattle.arm64_hint_kept.specs.HintsKept.{codes, partBytes, wordBytes, KeepsOrder, PartsApart, Alone, Fair, Same, HintsKept, Premises, Literally}
 use Rattle.arm64_hint_kept.proofs.Step.{codes-same, addresses, step-same}
 
 -- the run's own list has each hint once, and keeps each object's own order
-pub own-list : (hints : List ℕ) → Once (hintCount hints) (orderOf hints) × Kept hints (orderOf hints)
+pub own-list : (hints : List ℕ) → Once (hintCount hints) (orderOf hints) × KeepsOrder hints (orderOf hints)
 own-list hints = (own-once (objectAt hints) (lateAt hints) (hintCount hints), λ o. refl)
 
 module _ (image hints entries : List ℕ) (t : Tally) (e : runOf image hints entries ≡ A.Done t) where
@@ -61,7 +57,7 @@ module _ (image hints entries : List ℕ) (t : Tally) (e : runOf image hints ent
       step-same entries h s (addresses hints k) x (all-map (λ at w. omega (arith, r .part)) (places-inside h (r .words))) fair
 
   module _ (l : List ℕ) (once : Once (hintCount hints) l) where
-    ordered : PartsApart hints → Kept hints l → worked image hints entries l ≡ record { image = imageOf image hints entries; tally = t }
+    ordered : PartsApart hints → KeepsOrder hints l → worked image hints entries l ≡ record { image = imageOf image hints entries; tally = t }
     ordered apart kept = own ∙ run-is image hints entries t e
       where
         own : worked image hints entries l ≡ worked image hints entries (orderOf hints)
@@ -132,7 +128,7 @@ pub of-the-run : (image hints entries left : List ℕ) (answer : RunAnswer) → 
     → (t : Tally) → answer ≡ A.Done t
     → (worked image hints entries (orderOf hints) ≡ record { image = left; tally = t })
     × (Once (hintCount hints) (orderOf hints))
-    × (Kept hints (orderOf hints))
+    × (KeepsOrder hints (orderOf hints))
     × ((l : List ℕ) → Once (hintCount hints) l → Literally image hints entries l t)
 of-the-run image hints entries left answer says leaves t done =
     let e = sym says ∙ done in
@@ -145,32 +141,17 @@ of-the-run image hints entries left answer says leaves t done =
 
 -- ---- the exported call
 
--- no refusal has the number 0
-some-number : (x : Refusal) → 0 < numberOf x
-some-number Lengths = lit< tt
-some-number Slots = lit< tt
-some-number Bounds = lit< tt
-some-number LoneAddend = lit< tt
-some-number Unsupported = lit< tt
-some-number Unfit = lit< tt
-some-number NoSection = lit< tt
-some-number LoneSubtractor = lit< tt
-some-number Overflow = lit< tt
-some-number NeedsSymbol = lit< tt
-some-number Flags = lit< tt
-some-number NoEntry = lit< tt
-
 -- an answer of the number 0 is done, and its counts are what the lent tally gets
 zero-done : (old : Tally) (a : RunAnswer) → runNumber a ≡ 0 → a ≡ A.Done (tallyAfter old a)
 zero-done old (A.Done t) e = refl
-zero-done old (A.Refused x) e = absurd (omega (arith, some-number x))
+zero-done old (A.Refused x) e = absurd (omega (arith, numbered x .0))
 
 -- The claim of the exported call: `number` is what `hauklivo_apply_hints` returns, `tally` and `left` what it leaves, each with its promise
 pub of-the-call : (image hints entries left : List ℕ) (old tally : Tally) (number : ℕ) → number ≡ runNumber (runOf image hints entries)
     → tally ≡ tallyAfter old (runOf image hints entries) → left ≡ imageOf image hints entries → number ≡ 0
     → (worked image hints entries (orderOf hints) ≡ record { image = left; tally = tally })
     × (Once (hintCount hints) (orderOf hints))
-    × (Kept hints (orderOf hints))
+    × (KeepsOrder hints (orderOf hints))
     × ((l : List ℕ) → Once (hintCount hints) l → Literally image hints entries l tally)
 of-the-call image hints entries left old tally number says counts leaves zero =
     of-the-run image hints entries left (runOf image hints entries) refl leaves tally

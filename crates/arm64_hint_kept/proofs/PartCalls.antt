@@ -35,7 +35,7 @@ use Rattle.arm64_hint_order.proofs.Runs as Runs
 use Rattle.arm64_hint_places.specs.Hint.{isSkipped, insnsOf, offsOf, relsOf}
 use Rattle.arm64_hint_places.proofs.Places.{insns-none}
 use Rattle.arm64_hint_check.proofs.Checks.{ready, each-fit}
-use Rattle.arm64_hint_rules.specs.Rule.{outcomeOf, newsOf}
+use Rattle.arm64_hint_rules.specs.Rule.{hintOutcome, newsOf}
 use Rattle.arm64_hint_rules.specs.declared.outcome.HintOutcome.{HintOutcome}
 use Rattle.arm64_hint_rules.specs.declared.outcome.HintOutcome.the-variants.{Skipped, Worked}
 use Rattle.arm64_hint_work.specs.Step.{placesOf, stepsOf}
@@ -88,8 +88,8 @@ module _ {a : ℕ} {entries : List ℕ} {h : HintRecord} {entries′ : List ℕ}
       at-them : List ℕ → Insns
       at-them ps = record { w0 = getD ws 0 0; w1 = getD ws 1 0; w2 = getD ws 2 0; p0 = getD ps 0 0; p1 = getD ps 1 0; p2 = getD ps 2 0 }
 
-  outcomes : (ws : List ℕ) → outcomeOf entries h ws ≡ outcomeOf entries′ g ws
-  unfolding outcomeOf
+  outcomes : (ws : List ℕ) → hintOutcome entries h ws ≡ hintOutcome entries′ g ws
+  unfolding hintOutcome
   outcomes ws =
       ap₂ (λ (b : Bool) (o : HintOutcome). choose b Skipped o) skipped
       (ap₂ (λ (k : ℕ) (i : Insns). Worked (decide k i (relsOf entries h)) i) (same .kind) (insns ws)
@@ -102,8 +102,8 @@ module _ (hints entries : List ℕ) (c : Call) (call : PartCall hints entries c)
   pub answers : (j : ℕ) → j < hintCount (c .hints) → (x : List ℕ)
       → answered (stepsOf hints entries) (c .at j) x ≡ answered (stepsOf (c .hints) (c .entries)) j (partOf c x)
   answers j h x =
-      ap (λ (ps : List ℕ). outcomeOf entries (hintOf hints (c .at j)) (wordsAt ps x)) (places (call .same j h))
-      ∙ ap (outcomeOf entries (hintOf hints (c .at j))) (sym (words-part x (c .start) (c .len) (fits j h)))
+      ap (λ (ps : List ℕ). hintOutcome entries (hintOf hints (c .at j)) (wordsAt ps x)) (places (call .same j h))
+      ∙ ap (hintOutcome entries (hintOf hints (c .at j))) (sym (words-part x (c .start) (c .len) (fits j h)))
       ∙ outcomes (call .same j h) (wordsAt (placesOf (hintOf (c .hints) j)) (partOf c x))
 
   -- a hint of the call

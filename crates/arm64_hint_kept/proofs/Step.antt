@@ -25,7 +25,7 @@ use Rattle.arm64_machine.specs.SameRun.{SameRun}
 use Rattle.arm64_machine.specs.Premises.{FairWords}
 use Rattle.arm64_hint_places.specs.Hint.{isSkipped, insnsIn, addrsOf, insnsOf, relsOf}
 use Rattle.arm64_hint_places.proofs.Places.{count-is, count-two, insns-three, insns-two}
-use Rattle.arm64_hint_rules.specs.Rule.{ruled, outcomeOf, newsIn, newsOf}
+use Rattle.arm64_hint_rules.specs.Rule.{ruled, hintOutcome, newsIn, newsOf}
 use Rattle.arm64_hint_work.specs.Step.{placesOf}
 use Rattle.arm64_hint_kept.specs.HintsKept.{codes, Disjoint, Fair, Same}
 use Rattle.arm64_hint_kept.proofs.Decisions.{placedOf, Addressed, after, decided}
@@ -80,8 +80,8 @@ module _ (h : HintRecord) (e : isSkipped h ≡ false) where
       (sym (reads-back (placesOf h) (p .w0 ∷ p .w1 ∷ p .w2 ∷ []) x apart inside (f .0, (f .1, (f .2, tt)))))
       ∙ sym (codes-paired h (putWords (placesOf h) (newsIn (Rewritten p)) x))
 
-  outcome-is : (entries words : List ℕ) → outcomeOf entries h words ≡ ruled (h .kind) h (relsOf entries h) words
-  unfolding outcomeOf
+  outcome-is : (entries words : List ℕ) → hintOutcome entries h words ≡ ruled (h .kind) h (relsOf entries h) words
+  unfolding hintOutcome
   outcome-is entries words = choose-false (isSkipped h) _ _ e
 
 -- ---- addresses have 64 bits
@@ -104,7 +104,7 @@ addressed h e low words =
 
 -- THE LAW of a hint's step
 pub step-same : (entries : List ℕ) (h : HintRecord) → isSkipped h ≡ false → Addresses h → (x : List ℕ) → All (λ at. at + 4 ≤ length x) (placesOf h)
-    → Fair h x → Same h x (putWords (placesOf h) (newsOf (outcomeOf entries h (wordsAt (placesOf h) x))) x)
+    → Fair h x → Same h x (putWords (placesOf h) (newsOf (hintOutcome entries h (wordsAt (placesOf h) x))) x)
 step-same entries h e low x inside fair =
     let words = wordsAt (placesOf h) x in
     let s = insnsOf h words in

@@ -23,7 +23,7 @@ use Rattle.arm64_machine.specs.Tests.{each}
 use Rattle.arm64_machine.proofs.FairTest.{each-by, fair-by, leftOut, premises-by}
 use Rattle.arm64_hint_places.specs.Hint.{isSkipped}
 use Rattle.arm64_hint_work.specs.Step.{placesOf}
-use Rattle.arm64_hint_kept.specs.HintsKept.{codes, Disjoint, Kept, PartsApart, Alone, Fair, Premises}
+use Rattle.arm64_hint_kept.specs.HintsKept.{codes, Disjoint, KeepsOrder, PartsApart, Alone, Fair, Premises}
 use Rattle.arm64_hint_kept.specs.Tests.{far, spaced, tests}
 
 -- ---- words that share no byte
@@ -148,7 +148,7 @@ same-is (a ∷ l) (b ∷ m) e =
 abbrev pub keeps : List ℕ → List ℕ → ℕ → Bool
 keeps hints l o = same (ofObj (objectAt hints) o l) (passes (objectAt hints) (lateAt hints) (hintCount hints) o)
 
-pub kept-by : (hints l : List ℕ) → Once (hintCount hints) l → every (keeps hints l) (bound (objectAt hints) (hintCount hints)) ≡ true → Kept hints l
+pub kept-by : (hints l : List ℕ) → Once (hintCount hints) l → every (keeps hints l) (bound (objectAt hints) (hintCount hints)) ≡ true → KeepsOrder hints l
 kept-by hints l once e =
     kept-of (objectAt hints) (lateAt hints) (hintCount hints) l once
     (λ o h. same-is _ _ (every-at (keeps hints l) (bound (objectAt hints) (hintCount hints)) e o h))

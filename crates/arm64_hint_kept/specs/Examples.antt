@@ -16,7 +16,7 @@ use Rattle.arm64_hint_terms.specs.declared.answer.Rewrite.the-variants.{Drop, L
 use Rattle.arm64_hint_terms.specs.declared.answer.Decision.{Decision}
 use Rattle.arm64_hint_terms.specs.declared.answer.Decision.the-variants.{Declined, Nine, Rewritten}
 use Rattle.arm64_machine.specs.Examples.{start, idle}
-use Rattle.arm64_hint_rules.specs.Rule.{outcomeOf}
+use Rattle.arm64_hint_rules.specs.Rule.{hintOutcome}
 use Rattle.arm64_hint_rules.specs.declared.outcome.HintOutcome.{HintOutcome}
 use Rattle.arm64_hint_rules.specs.declared.outcome.HintOutcome.the-variants.{Skipped, Worked}
 use Rattle.arm64_hint_work.specs.declared.tally.Tally.{Tally}
@@ -81,7 +81,7 @@ rewriteIn (Worked (Rewritten p) s) = some (p .rewrite)
 -- makes new words of them, which run as the old ones from every state
 pub record Shows (entries : List ℕ) (kind p : ℕ) (ws : List ℕ) (r : Rewrite) (new : List ℕ) : Type 0 where
   pub meets : Premises (hintOf (lent (single kind p (length ws))) 0) (words ws) idle start
-  pub by : rewriteIn (outcomeOf entries (hintOf (lent (single kind p (length ws))) 0) ws) ≡ some r
+  pub by : rewriteIn (hintOutcome entries (hintOf (lent (single kind p (length ws))) 0) ws) ≡ some r
   pub done : runOf (words ws) (lent (single kind p (length ws))) entries ≡ Done (counts 1 0 0 0)
   pub leaves : imageOf (words ws) (lent (single kind p (length ws))) entries ≡ words new
   pub same : Same (hintOf (lent (single kind p (length ws))) 0) (words ws) (words new)

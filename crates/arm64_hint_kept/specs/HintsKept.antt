@@ -43,7 +43,7 @@ Disjoint (at ∷ places) = Apart (span at 4) (inWords places) × Disjoint places
 -- ---- lists of hint steps
 
 -- each object's own order is kept: its hints stand in the list as in the run's order of work
-abbrev pub Kept : List ℕ → List ℕ → Type 0
+abbrev pub KeepsOrder : List ℕ → List ℕ → Type 0
 Kept hints = Runs.Kept (objectAt hints) (lateAt hints) (hintCount hints)
 
 -- different objects' parts share no byte
@@ -69,7 +69,7 @@ Same h image later = SameRun (codes h image) (codes h later)
 -- what is claimed of a list l of the hint steps of a run that counts t
 pub record HintsKept (image hints entries l : List ℕ) (t : Tally) : Type 0 where
   -- different objects' parts apart and each object's own order kept: image and tally are the run's
-  pub order : PartsApart hints → Kept hints l → worked image hints entries l ≡ record { image = imageOf image hints entries; tally = t }
+  pub order : PartsApart hints → KeepsOrder hints l → worked image hints entries l ≡ record { image = imageOf image hints entries; tally = t }
   -- each hint at its turn, on the image that the steps before it left: its words run after its step as before it
   pub turn : (a : List ℕ) (k : ℕ) (b : List ℕ) → l ≡ a ++ k ∷ b → isSkipped (hintOf hints k) ≡ false
       → Fair (hintOf hints k) (worked image hints entries a .image)
@@ -92,7 +92,7 @@ NoneData addresses log = Each (λ a. Each (λ p. Each (λ i. touches a (sum p i)
 
 -- the claim with those premises, and for the last image: no two hints share a byte, and no hint's word is data of the sequence's run
 pub record Literally (image hints entries l : List ℕ) (t : Tally) : Type 0 where
-  pub order : PartsApart hints → Kept hints l → worked image hints entries l ≡ record { image = imageOf image hints entries; tally = t }
+  pub order : PartsApart hints → KeepsOrder hints l → worked image hints entries l ≡ record { image = imageOf image hints entries; tally = t }
   pub turn : (a : List ℕ) (k : ℕ) (b : List ℕ) → l ≡ a ++ k ∷ b → isSkipped (hintOf hints k) ≡ false → (o : Other) (s : State)
       → let h = hintOf hints k in
       let before = worked image hints entries a .image in

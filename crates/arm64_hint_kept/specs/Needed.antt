@@ -9,7 +9,7 @@ use Rattle.arm64_hint_order.specs.Lists.{Once}
 use Rattle.arm64_hint_order.specs.Cursor.{orderOf}
 use Rattle.arm64_hint_run.specs.Run.{worked, runOf, imageOf}
 use Rattle.arm64_hint_run.specs.declared.run.RunAnswer.the-variants.{Done}
-use Rattle.arm64_hint_kept.specs.HintsKept.{Alone, Kept, PartsApart, Same}
+use Rattle.arm64_hint_kept.specs.HintsKept.{Alone, KeepsOrder, PartsApart, Same}
 use Rattle.arm64_hint_kept.specs.Tests.{tests, all-true}
 use Rattle.arm64_hint_kept.specs.Examples.{words, place, none-at, hintIn, lent, pair, counts}
 
@@ -46,5 +46,5 @@ pub record Meeting : Type 0 where
   pub leaves : imageOf shared (lent (sharing 2 1)) pair ≡ words (0x70000002 ∷ 0xf9400401 ∷ 0xd503201f ∷ [])
   pub other : worked shared (lent (sharing 2 1)) pair (0 ∷ 1 ∷ []) .image ≡ words (0xd503201f ∷ 0x58000021 ∷ 0x91000c02 ∷ [])
   pub once : Once (hintCount (lent (sharing 2 1))) (0 ∷ 1 ∷ [])
-  pub kept : Kept (lent (sharing 2 1)) (0 ∷ 1 ∷ [])
+  pub kept : KeepsOrder (lent (sharing 2 1)) (0 ∷ 1 ∷ [])
   pub meet : PartsApart (lent (sharing 2 1)) → ⊥

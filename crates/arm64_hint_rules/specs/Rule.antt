@@ -20,8 +20,8 @@ abbrev pub ruled : ℕ → HintRecord → Rels → List ℕ → HintOutcome
 ruled kind h r words = Worked (decide kind (insnsOf h words) r) (insnsOf h words)
 
 -- a hint's outcome, by its own kind and the entries that it names
-unfoldable pub outcomeOf : List ℕ → HintRecord → List ℕ → HintOutcome
-outcomeOf entries h words = choose (isSkipped h) Skipped (ruled (h .kind) h (relsOf entries h) words)
+unfoldable pub hintOutcome : List ℕ → HintRecord → List ℕ → HintOutcome
+hintOutcome entries h words = choose (isSkipped h) Skipped (ruled (h .kind) h (relsOf entries h) words)
 
 -- the number of an outcome: its decision's, and 0 where the hint is skipped
 abbrev pub outcomeNumber : HintOutcome → ℕ

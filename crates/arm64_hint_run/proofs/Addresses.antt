@@ -13,7 +13,7 @@ use Rattle.macho.specs.declared.hint.HintRecord.{HintRecord}
 use Rattle.arm64_hint_places.specs.Hint.{isSkipped, insnsAll, insnsIn, insnsOf, relsOf}
 use Rattle.arm64_hint_check.specs.Check.{anyOf, endsPast, namesAbsent, checkHint}
 use Rattle.arm64_hint_check.proofs.Ignored.{same-by}
-use Rattle.arm64_hint_rules.specs.Rule.{outcomeOf}
+use Rattle.arm64_hint_rules.specs.Rule.{hintOutcome}
 use Rattle.arm64_hint_run.specs.Run.{runOf, runNumber}
 use Rattle.arm64_hint_run.proofs.Answers.{number-is}
 
@@ -79,6 +79,6 @@ same-number hints others entries image sized same =
     ∙ sym (number-is image others entries)
 
 -- the outcome of a hint's words, wherever its part stands
-pub any-part : (h : HintRecord) (start len : ℕ) (entries words : List ℕ) → outcomeOf entries (elsewhere h start len) words ≡ outcomeOf entries h words
-unfolding outcomeOf insnsOf relsOf insnsIn isSkipped
+pub any-part : (h : HintRecord) (start len : ℕ) (entries words : List ℕ) → hintOutcome entries (elsewhere h start len) words ≡ hintOutcome entries h words
+unfolding hintOutcome insnsOf relsOf insnsIn isSkipped
 any-part h start len entries words = refl

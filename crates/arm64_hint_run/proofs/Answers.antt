@@ -20,7 +20,7 @@ use Rattle.macho.specs.declared.hint.HintInsn.{HintInsn}
 use Rattle.macho.specs.declared.hint.HintRecord.{HintRecord}
 use Rattle.macho.specs.declared.refusal.Refusal.{Refusal}
 use Rattle.macho.specs.declared.refusal.Refusal.the-variants.{Lengths, Overflow}
-use Rattle.macho.specs.Refusal.{numberOf, checkNumber}
+use Rattle.macho.specs.Refusal.{first, numberOf, checkNumber}
 use Rattle.macho.specs.declared.refusal.Check.{Check}
 use Rattle.macho.specs.declared.refusal.Check.the-variants as C
 use Rattle.image.specs.Words.{wordsAt, putWords}
@@ -44,8 +44,8 @@ use Rattle.arm64_hint_order.specs.Cursor.{orderOf}
 use Rattle.arm64_hint_order.proofs.Walk.{order-length}
 use Rattle.arm64_hint_places.specs.Hint.{isSkipped, insnsIn, insnsOf, relsOf}
 use Rattle.arm64_hint_places.proofs.Places.{insns-two, rels-two}
-use Rattle.arm64_hint_check.specs.Check.{isList, checkLists, first, checkTo, checkAll}
-use Rattle.arm64_hint_rules.specs.Rule.{outcomeOf, outcomeNumber, newsIn, newsOf}
+use Rattle.arm64_hint_check.specs.Check.{isList, checkLists, checkTo, checkAll}
+use Rattle.arm64_hint_rules.specs.Rule.{hintOutcome, outcomeNumber, newsIn, newsOf}
 use Rattle.arm64_hint_rules.specs.declared.outcome.HintOutcome.{HintOutcome}
 use Rattle.arm64_hint_rules.specs.declared.outcome.HintOutcome.the-variants.{Skipped, Worked}
 use Rattle.arm64_hint_work.specs.Step.{placesOf, addDecision, addOutcome, total, stepsOf}
@@ -201,11 +201,11 @@ module _ (h : HintRecord) (entries image : List ℕ) (kind : h .kind ≡ MCLOH-A
       (ap (λ (s : Insns). adrpOf (s .w1)) insns-are ∙ ap (λ (o : ℕ). adrpOf (le 4 image (h .start + o))) off ∙ word)
       (ap (λ (s : Insns). s .p1) insns-are ∙ addr ∙ sym (ap (λ (s : Insns). s .p0) insns-are))
 
-  pub twice-answer : outcomeOf entries h (wordsAt (placesOf h) image) ≡ Worked dropped insns
-  unfolding outcomeOf
+  pub twice-answer : hintOutcome entries h (wordsAt (placesOf h) image) ≡ Worked dropped insns
+  unfolding hintOutcome
   twice-answer = choose-false (isSkipped h) Skipped _ works ∙ ap (λ (d : Decision). Worked d insns) decided
 
-  pub twice-image : putWords (placesOf h) (newsOf (outcomeOf entries h (wordsAt (placesOf h) image))) image
+  pub twice-image : putWords (placesOf h) (newsOf (hintOutcome entries h (wordsAt (placesOf h) image))) image
       ≡ put 4 image (h .start + h .insn0 .off) nopWord
   twice-image =
       ap (λ (o : HintOutcome). putWords (placesOf h) (newsOf o) image) twice-answer

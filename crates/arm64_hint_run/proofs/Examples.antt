@@ -26,7 +26,7 @@ use Rattle.arm64_hint_adrp.specs.Three.{addAccess, through, foldThird, adrOrFol
 use Rattle.arm64_hint_laws.specs.Decide.{decide}
 use Rattle.arm64_hint_places.specs.Hint.{isSkipped, insnsIn, insnsOf, relsOf}
 use Rattle.arm64_hint_check.specs.Check.{isList, checkLists, checkHint, checkTo, checkAll}
-use Rattle.arm64_hint_rules.specs.Rule.{outcomeOf}
+use Rattle.arm64_hint_rules.specs.Rule.{hintOutcome}
 use Rattle.arm64_hint_run.specs.Run.{worked, runOf, imageOf, runNumber}
 use Rattle.arm64_hint_run.specs.declared.run.RunAnswer.{RunAnswer}
 use Rattle.arm64_hint_run.specs.declared.run.RunAnswer.the-variants.{Done}
@@ -76,7 +76,7 @@ pub pieces : Rewrites MCLOH-AdrpLdr (0x90000000 ∷ 0xf9400401 ∷ []) (0xd50320
 unfolding choose le put bytes inRange bytesOf relocAt relocBytes insnAt hintAt hintBytes wordCount rowOf pageOf adrpPage within1mb adrpOf adrWord addOf
     accessOf loadStoreOf hasLiteralForm literalOpc literalV literalWord baseWord sumOf fitsLiteral relAt isPageRel isPageoffRel sameReference isAbsent
     hasPagePair ldrSecond ldrAtPage adrpLdr adrTo addAtPage adrpAdd addAccess through foldThird adrOrFold adrpAddStr decide isSkipped insnsIn
-    insnsOf relsOf outcomeOf isList checkLists checkHint checkTo checkAll worked runOf imageOf
+    insnsOf relsOf hintOutcome isList checkLists checkHint checkTo checkAll worked runOf imageOf
 pieces = ((refl, refl), (refl, refl), (refl, refl))
 
 -- ---- the numbers

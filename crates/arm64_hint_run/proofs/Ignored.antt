@@ -20,7 +20,7 @@ use Rattle.arm64_hint_order.proofs.Own.{own-once}
 use Rattle.arm64_hint_order.proofs.Same.{run-same, own-same}
 use Rattle.arm64_hint_places.proofs.Alike.{Alike, same-skip, same-insns, same-rels, changed, elsewhere, ignored-byte, past-place}
 use Rattle.arm64_hint_check.proofs.Ignored.{same-check}
-use Rattle.arm64_hint_rules.specs.Rule.{outcomeOf, newsOf}
+use Rattle.arm64_hint_rules.specs.Rule.{hintOutcome, newsOf}
 use Rattle.arm64_hint_rules.specs.declared.outcome.HintOutcome.{HintOutcome}
 use Rattle.arm64_hint_work.specs.Step.{placesOf, addOutcome, stepsOf}
 use Rattle.arm64_hint_work.specs.declared.tally.Tally.{Tally}
@@ -32,12 +32,12 @@ module _ (h g : HintRecord) (alike : Alike h g) where
   same-places : placesOf h ≡ placesOf g
   same-places = ap₂ (λ (s : ℕ) (l : List HintInsn). map (λ at. s + at) (map (λ i. i .off) l)) (alike .start) (alike .places)
 
-  same-outcome : (entries words : List ℕ) → outcomeOf entries h words ≡ outcomeOf entries g words
-  unfolding outcomeOf
+  same-outcome : (entries words : List ℕ) → hintOutcome entries h words ≡ hintOutcome entries g words
+  unfolding hintOutcome
   same-outcome entries words = rw (same-insns h g alike words, same-rels h g alike entries, same-skip h g alike, alike .kind)
 
-  same-answer : (entries image : List ℕ) → outcomeOf entries h (wordsAt (placesOf h) image) ≡ outcomeOf entries g (wordsAt (placesOf g) image)
-  same-answer entries image = same-outcome entries _ ∙ ap (λ (l : List ℕ). outcomeOf entries g (wordsAt l image)) same-places
+  same-answer : (entries image : List ℕ) → hintOutcome entries h (wordsAt (placesOf h) image) ≡ hintOutcome entries g (wordsAt (placesOf g) image)
+  same-answer entries image = same-outcome entries _ ∙ ap (λ (l : List ℕ). hintOutcome entries g (wordsAt l image)) same-places
 
 module _ (hints hints′ : List ℕ) (sized : length hints ≡ length hints′)
     (alike : (k : ℕ) → k < hintCount hints → Alike (hintOf hints k) (hintOf hints′ k)) where

@@ -34,7 +34,7 @@ use Rattle.arm64_hint_order.proofs.Same.{run-same}
 use Rattle.arm64_hint_places.specs.Hint.{isSkipped, insnsOf, relsOf, Named}
 use Rattle.arm64_hint_check.specs.Check.{checkAll}
 use Rattle.arm64_hint_check.proofs.Checks.{ready, each-fit}
-use Rattle.arm64_hint_rules.specs.Rule.{outcomeOf, newsOf}
+use Rattle.arm64_hint_rules.specs.Rule.{hintOutcome, newsOf}
 use Rattle.arm64_hint_rules.specs.declared.outcome.HintOutcome.{HintOutcome}
 use Rattle.arm64_hint_rules.specs.declared.outcome.HintOutcome.the-variants.{Skipped, Worked}
 use Rattle.arm64_hint_work.specs.Step.{placesOf, addOutcome, stepsOf}
@@ -65,11 +65,11 @@ module _ (entries entries′ : List ℕ) (sized : length entries ≡ length entr
   same-at (more {k = m} h rest) zero = same-rel m h
   same-at (more h rest) (suc i) = same-at rest i
 
-  same-outcome : (h : HintRecord) (words : List ℕ) → (isSkipped h ≡ false → Named h (length entries)) → outcomeOf entries h words ≡ outcomeOf entries′ h words
-  unfolding outcomeOf relsOf
+  same-outcome : (h : HintRecord) (words : List ℕ) → (isSkipped h ≡ false → Named h (length entries)) → hintOutcome entries h words ≡ hintOutcome entries′ h words
+  unfolding hintOutcome relsOf
   same-outcome h words named = go (isSkipped h) refl
     where
-      go : (t : Bool) → isSkipped h ≡ t → outcomeOf entries h words ≡ outcomeOf entries′ h words
+      go : (t : Bool) → isSkipped h ≡ t → hintOutcome entries h words ≡ hintOutcome entries′ h words
       go true e = choose-true (isSkipped h) Skipped _ e ∙ sym (choose-true (isSkipped h) Skipped _ e)
       go false e =
           let n = same-at (named e .entries) in

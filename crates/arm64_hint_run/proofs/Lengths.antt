@@ -11,12 +11,12 @@ use lib.ListN.{length}
 use Rattle.util.proofs.Choice.{chosen, choose-true, choose-false, both}
 use Rattle.macho.specs.Hint.{hintSize, hintCount, hintOf}
 use Rattle.macho.specs.Reloc.{relocSize}
-use Rattle.macho.specs.Refusal.{checkNumber}
+use Rattle.macho.specs.Refusal.{first, checkNumber}
 use Rattle.macho.specs.declared.hint.HintRecord.{HintRecord}
 use Rattle.macho.specs.declared.refusal.Refusal.the-variants.{Lengths, Bounds, NoEntry}
 use Rattle.macho.specs.declared.refusal.Check.{Check}
 use Rattle.macho.specs.declared.refusal.Check.the-variants.{Fit, Refused}
-use Rattle.arm64_hint_check.specs.Check.{isList, checkLists, checkHint, first, checkTo, checkAll}
+use Rattle.arm64_hint_check.specs.Check.{isList, checkLists, checkHint, checkTo, checkAll}
 use Rattle.arm64_hint_run.specs.Run.{runOf, runNumber}
 use Rattle.arm64_hint_run.proofs.Answers.{number-is}
 

@@ -22,7 +22,7 @@ use Rattle.arm64_hint_order.proofs.Idle.{idle-run}
 use Rattle.arm64_hint_places.specs.Hint.{isSkipped}
 use Rattle.arm64_hint_check.specs.Check.{checkHint}
 use Rattle.arm64_hint_check.proofs.Ignored.{skipped-check, same-by}
-use Rattle.arm64_hint_rules.specs.Rule.{outcomeOf, newsOf}
+use Rattle.arm64_hint_rules.specs.Rule.{hintOutcome, newsOf}
 use Rattle.arm64_hint_rules.specs.declared.outcome.HintOutcome.{HintOutcome}
 use Rattle.arm64_hint_rules.specs.declared.outcome.HintOutcome.the-variants.{Skipped}
 use Rattle.arm64_hint_work.specs.Step.{placesOf, addOutcome, stepsOf}
@@ -50,8 +50,8 @@ module _ (entries : List ℕ) where
   -- a hint's step by its fields
   abbrev stepBy : HintRecord → Work Tally → Work Tally
   stepBy h w = record {
-    image = putWords (placesOf h) (newsOf (outcomeOf entries h (wordsAt (placesOf h) (w .image)))) (w .image);
-    tally = addOutcome (outcomeOf entries h (wordsAt (placesOf h) (w .image))) (w .tally);
+    image = putWords (placesOf h) (newsOf (hintOutcome entries h (wordsAt (placesOf h) (w .image)))) (w .image);
+    tally = addOutcome (hintOutcome entries h (wordsAt (placesOf h) (w .image))) (w .tally);
   }
 
   module _ (hints others : List ℕ) (sized : length hints ≡ length others)

@@ -20,7 +20,7 @@ use Rattle.arm64_hint_terms.specs.declared.answer.Decision.the-variants.{Declin
 use Rattle.arm64_hint_terms.specs.declared.rels.Rels.{Rels}
 use Rattle.arm64_hint_places.specs.Hint.{isSkipped, relsOf, Inside}
 use Rattle.arm64_hint_places.proofs.Places.{insns-none}
-use Rattle.arm64_hint_rules.specs.Rule.{outcomeOf, outcomeNumber, newsOf, ruled, ruledIn, sectionAfter}
+use Rattle.arm64_hint_rules.specs.Rule.{hintOutcome, outcomeNumber, newsOf, ruled, ruledIn, sectionAfter}
 use Rattle.arm64_hint_rules.specs.declared.outcome.HintOutcome.{HintOutcome}
 use Rattle.arm64_hint_rules.specs.declared.outcome.HintOutcome.the-variants.{Skipped, Worked}
 use Rattle.arm64_hint_work.specs.Step.{placesOf, addOutcome, total, stepsOf}
@@ -31,7 +31,7 @@ use Rattle.arm64_hint_work.proofs.Sections.{words-part, puts-part}
 
 -- a hint's answer on an image, and the image that it makes
 abbrev answerOf : List ℕ → HintRecord → List ℕ → HintOutcome
-answerOf entries h image = outcomeOf entries h (wordsAt (placesOf h) image)
+answerOf entries h image = hintOutcome entries h (wordsAt (placesOf h) image)
 
 abbrev imageAfter : List ℕ → HintRecord → List ℕ → List ℕ
 imageAfter entries h image = putWords (placesOf h) (newsOf (answerOf entries h image)) image
@@ -51,7 +51,7 @@ inside-part image h j e fits i =
 
 module _ (hints entries image : List ℕ) (k : ℕ) (h : HintRecord) (told : h ≡ hintOf hints k) where
   pub skipped-step : isSkipped h ≡ true → (Skipped ≡ answered (stepsOf hints entries) k image) × (image ≡ written (stepsOf hints entries) k image)
-  unfolding outcomeOf
+  unfolding hintOutcome
   skipped-step e =
       subst (λ (g : HintRecord). (Skipped ≡ answerOf entries g image) × (image ≡ imageAfter entries g image)) told (
         sym (choose-true (isSkipped h) Skipped _ e),
@@ -61,7 +61,7 @@ module _ (hints entries image : List ℕ) (k : ℕ) (h : HintRecord) (told : h �
   module _ (r : Rels) (named : r ≡ relsOf entries h) (j : ℕ) (fits : h .start + j ≤ length image) (inside : Inside h j) where
     -- the rule's answer in the part is the hint's in the image
     same-answer : ruledIn (h .kind) h r (part image (h .start) j) ≡ answerOf entries h image
-    unfolding outcomeOf
+    unfolding hintOutcome
     same-answer =
         ap (λ (x : Rels). ruledIn (h .kind) h x (part image (h .start) j)) named
         ∙ ap (ruled (h .kind) h (relsOf entries h)) (words-part image (h .start) j (inside .words))

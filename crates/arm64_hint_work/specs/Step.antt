@@ -8,7 +8,7 @@ use Rattle.image.specs.Steps.{Steps}
 use Rattle.arm64_hint_terms.specs.declared.answer.Decision.{Decision}
 use Rattle.arm64_hint_terms.specs.declared.answer.Decision.the-variants.{Declined, Nine, Rewritten}
 use Rattle.arm64_hint_places.specs.Hint.{offsOf}
-use Rattle.arm64_hint_rules.specs.Rule.{outcomeOf, newsOf}
+use Rattle.arm64_hint_rules.specs.Rule.{hintOutcome, newsOf}
 use Rattle.arm64_hint_rules.specs.declared.outcome.HintOutcome.{HintOutcome}
 use Rattle.arm64_hint_rules.specs.declared.outcome.HintOutcome.the-variants.{Skipped, Worked}
 use Rattle.arm64_hint_work.specs.declared.tally.Tally.{Tally}
@@ -36,7 +36,7 @@ total t = t .rewritten + t .skipped + t .declined + t .«turned_down»
 abbrev pub stepsOf : List ℕ → List ℕ → Steps HintOutcome Tally
 stepsOf hints entries = record {
   places = λ k. placesOf (hintOf hints k);
-  answer = λ k words. outcomeOf entries (hintOf hints k) words;
+  answer = λ k words. hintOutcome entries (hintOf hints k) words;
   news = newsOf;
   add = addOutcome;
 }

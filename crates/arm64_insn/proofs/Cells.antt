@@ -9,8 +9,8 @@ use Rattle.util.specs.Choice.{choose}
 use Rattle.util.proofs.Below.{every, every-at}
 use Rattle.arm64_insn.specs.LoadStoreTable.{rowOf}
 use Rattle.arm64_insn.specs.LoadStore.{accessOf}
-use Rattle.arm64_insn.specs.declared.ldst.Access.{Access}
-use Rattle.arm64_insn.specs.declared.ldst.Access.the-variants.{Of, Neither}
+use Rattle.arm64_insn.specs.declared.ldst.Moved.{Moved}
+use Rattle.arm64_insn.specs.declared.ldst.Moved.the-variants.{Of, Neither}
 
 -- a test that holds of every cell holds of this one
 pub each-cell : (f : ℕ → ℕ → ℕ → Bool) → every (λ k. f (k / 8) (k / 4 % 2) (k % 4)) 32 ≡ true
@@ -24,7 +24,7 @@ each-cell f e size v opc hs hv ho =
 
 -- opc 0 stores and 1 loads 2^size bytes. Above that, size 0 of a vector register stores or loads 16 bytes; else it is a
 -- load of 2^size bytes, but for size 3, and size 2 with opc 3
-unfoldable pub tested : ℕ → ℕ → ℕ → Access
+unfoldable pub tested : ℕ → ℕ → ℕ → Moved
 tested size v opc =
     choose (eqb opc 0) (Of (2 ^ size) true)
     (choose (eqb opc 1) (Of (2 ^ size) false)
@@ -34,7 +34,7 @@ tested size v opc =
     (Of (2 ^ size) false)))))
 
 -- whether two accesses are the same
-abbrev same : Access → Access → Bool
+abbrev same : Moved → Moved → Bool
 same (Of m true) (Of n true) = eqb m n
 same (Of m false) (Of n false) = eqb m n
 same (Of m true) (Of n false) = false
@@ -43,7 +43,7 @@ same (Of m s) Neither = false
 same Neither (Of n t) = false
 same Neither Neither = true
 
-same-is : (a b : Access) → same a b ≡ true → a ≡ b
+same-is : (a b : Moved) → same a b ≡ true → a ≡ b
 same-is (Of m true) (Of n true) e = ap (λ (k : ℕ). Of k true) (eqb-true m n e)
 same-is (Of m false) (Of n false) e = ap (λ (k : ℕ). Of k false) (eqb-true m n e)
 same-is (Of m true) (Of n false) e = absurd (false≢true e)
@@ -58,5 +58,5 @@ tested-is : (size v opc : ℕ) → size < 4 → v < 2 → opc < 4 → tested siz
 unfolding tested accessOf rowOf choose every
 tested-is size v opc hs hv ho = same-is _ _ (each-cell (λ s v o. same (tested s v o) (accessOf s v o)) refl size v opc hs hv ho)
 
-pub found : (size v opc : ℕ) (a : Access) → (size < 4) × (v < 2) × (opc < 4) → a ≡ tested size v opc → a ≡ accessOf size v opc
+pub found : (size v opc : ℕ) (a : Moved) → (size < 4) × (v < 2) × (opc < 4) → a ≡ tested size v opc → a ≡ accessOf size v opc
 found size v opc a h e = e ∙ tested-is size v opc (h .0) (h .1) (h .2)

@@ -22,8 +22,8 @@ use Rattle.arm64_insn.specs.declared.adrp.AdrpWord.the-variants as AdrpW
 use Rattle.arm64_insn.specs.declared.add.Add as D
 use Rattle.arm64_insn.specs.declared.add.AddWord.{AddWord}
 use Rattle.arm64_insn.specs.declared.add.AddWord.the-variants as AddWord
-use Rattle.arm64_insn.specs.declared.ldst.Access.{Access}
-use Rattle.arm64_insn.specs.declared.ldst.Access.the-variants.{Of, Neither}
+use Rattle.arm64_insn.specs.declared.ldst.Moved.{Moved}
+use Rattle.arm64_insn.specs.declared.ldst.Moved.the-variants.{Of, Neither}
 use Rattle.arm64_insn.specs.declared.ldst.LoadStore as L
 use Rattle.arm64_insn.specs.declared.ldst.LoadStoreWord.{LoadStoreWord}
 use Rattle.arm64_insn.specs.declared.ldst.LoadStoreWord.the-variants as LoadStoreWord
@@ -61,15 +61,15 @@ decoded-add x a e =
     (chosen HoldsAdd (matches add x) _ AddWord.Other (record { register = omega arith; source = omega arith; immediate = omega arith }) tt)
 
 -- an access moves 1 to 16 bytes
-abbrev Small : Access → Type 0
+abbrev Small : Moved → Type 0
 Small (Of n s) = (0 < n) × (n ≤ 16)
 Small Neither = Unit {0}
 
-abbrev small : Access → Bool
+abbrev small : Moved → Bool
 small (Of n s) = ltb 0 n && leb n 16
 small Neither = true
 
-small-is : (a : Access) → small a ≡ true → Small a
+small-is : (a : Moved) → small a ≡ true → Small a
 small-is (Of n s) e = let h = both (ltb 0 n) (leb n 16) e in (ltb-true 0 n (h .0), leb-true n 16 (h .1))
 small-is Neither e = tt
 
@@ -95,7 +95,7 @@ abbrev Holds : ℕ → LoadStoreWord → Type 0
 Holds x (LoadStoreWord.LoadStore l) = DecodedLoadStore x l
 Holds x LoadStoreWord.Other = Unit {0}
 
-with-access : (x : ℕ) (a : Access) → Small a → Holds x (loadStoreWith x a)
+with-access : (x : ℕ) (a : Moved) → Small a → Holds x (loadStoreWith x a)
 with-access x (Of n s) h =
     record {
       word = refl;

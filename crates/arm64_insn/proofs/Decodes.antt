@@ -29,7 +29,7 @@ use Rattle.arm64_insn.specs.declared.adrp.AdrpWord.the-variants as AdrpW
 use Rattle.arm64_insn.specs.declared.add.Add as D
 use Rattle.arm64_insn.specs.declared.add.AddWord.{AddWord}
 use Rattle.arm64_insn.specs.declared.add.AddWord.the-variants as AddWord
-use Rattle.arm64_insn.specs.declared.ldst.Access.the-variants.{Of}
+use Rattle.arm64_insn.specs.declared.ldst.Moved.the-variants.{Of}
 use Rattle.arm64_insn.specs.declared.ldst.LoadStore as L
 use Rattle.arm64_insn.specs.declared.ldst.LoadStoreWord.{LoadStoreWord}
 use Rattle.arm64_insn.specs.declared.ldst.LoadStoreWord.the-variants as LoadStoreWord

@@ -16,8 +16,8 @@ use Rattle.arm64_insn.specs.LoadStoreTable.{rowOf}
 use Rattle.arm64_insn.specs.Page.{pageOf, adrpPage}
 use Rattle.arm64_insn.specs.LoadStore.{accessOf, loadStoreWith, loadStoreOf}
 use Rattle.arm64_insn.specs.Literal.{hasLiteralForm}
-use Rattle.arm64_insn.specs.declared.ldst.Access.{Access}
-use Rattle.arm64_insn.specs.declared.ldst.Access.the-variants.{Of, Neither}
+use Rattle.arm64_insn.specs.declared.ldst.Moved.{Moved}
+use Rattle.arm64_insn.specs.declared.ldst.Moved.the-variants.{Of, Neither}
 use Rattle.arm64_insn.specs.declared.ldst.LoadStore as L
 use Rattle.arm64_insn.specs.declared.ldst.LoadStoreWord.{LoadStoreWord}
 use Rattle.arm64_insn.specs.declared.ldst.LoadStoreWord.the-variants as LoadStoreWord
@@ -38,7 +38,7 @@ pub page-sum : (imm pc k : ℕ) → k < 4096 → adrpPage imm pc + k < 2 ^ 64
 page-sum imm pc k h = omega (arith, page-whole imm pc, page-lt imm pc)
 
 -- whether an access moves less than 4 bytes or a multiple of 4
-abbrev fours : Access → Bool
+abbrev fours : Moved → Bool
 fours (Of n s) = ltb n 4 || eqb (n % 4) 0
 fours Neither = true
 
@@ -46,7 +46,7 @@ Fours : LoadStoreWord → Type 0
 Fours (LoadStoreWord.LoadStore l) = 4 ≤ l .size → l .size % 4 ≡ 0
 Fours LoadStoreWord.Other = Unit {0}
 
-with-access : (x : ℕ) (a : Access) → fours a ≡ true → Fours (loadStoreWith x a)
+with-access : (x : ℕ) (a : Moved) → fours a ≡ true → Fours (loadStoreWith x a)
 unfolding Fours
 with-access x (Of n s) e = λ h. eqb-true (n % 4) 0 (rw (le-ltb n 4 h) at e)
 with-access x Neither e = tt

@@ -7,14 +7,14 @@ use Rattle.util.specs.Diagram.{matches}
 use Rattle.arm64_insn.specs.Encoding.{loadStore}
 use Rattle.arm64_insn.specs.LoadStoreTable.{Row, load, store, prefetch, unallocated, zeros, sign32, sign64, rowOf, movedBy, isStore}
 use Rattle.arm64_insn.specs.Manual.{rdIn, rnIn, imm12In, sizeIn, vIn, opcIn}
-use Rattle.arm64_insn.specs.declared.ldst.Access.{Access}
-use Rattle.arm64_insn.specs.declared.ldst.Access.the-variants.{Of, Neither}
+use Rattle.arm64_insn.specs.declared.ldst.Moved.{Moved}
+use Rattle.arm64_insn.specs.declared.ldst.Moved.the-variants.{Of, Neither}
 use Rattle.arm64_insn.specs.declared.ldst.LoadStore as L
 use Rattle.arm64_insn.specs.declared.ldst.LoadStoreWord.{LoadStoreWord}
 use Rattle.arm64_insn.specs.declared.ldst.LoadStoreWord.the-variants.{LoadStore, Other}
 
 -- what a row moves: nothing, for a prefetch and an unallocated one
-abbrev pub accessIn : Row → Access
+abbrev pub accessIn : Row → Moved
 accessIn (load _ _ n _) = Of n false
 accessIn (store _ _ n) = Of n true
 accessIn (prefetch _) = Neither
@@ -25,11 +25,11 @@ abbrev pub takenAsLoad : ℕ → ℕ → ℕ → Bool
 takenAsLoad size v opc = eqb v 1 && (eqb size 1 && leb 2 opc || eqb size 2 && eqb opc 2)
 
 -- what size, V and opc move
-unfoldable pub accessOf : ℕ → ℕ → ℕ → Access
+unfoldable pub accessOf : ℕ → ℕ → ℕ → Moved
 accessOf size v opc = choose (takenAsLoad size v opc) (Of (2 ^ size) false) (accessIn (rowOf size v opc))
 
 -- the fields of a word whose access is known: Rt, Rn, the bytes that imm12 counts, V, and whether it is LDRSW: size 10, V 0, opc 10
-abbrev pub loadStoreWith : ℕ → Access → LoadStoreWord
+abbrev pub loadStoreWith : ℕ → Moved → LoadStoreWord
 loadStoreWith x Neither = Other
 loadStoreWith x (Of bytes stores) =
     LoadStore

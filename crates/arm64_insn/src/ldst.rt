@@ -7,39 +7,39 @@ ghost use Rattle.arm64_insn.specs.LoadStore.{accessOf, loadStoreOf};
 ghost use Rattle.arm64_insn.specs.Literal.{hasLiteralForm, literalOpc, literalV, literalWord, Rebased, baseWord};
 
 // The bytes that an access moves, and whether it stores them.
-pub enum Access {
+pub enum Moved {
     Of(u64, bool),
     Neither,
 }
 
 // What the size, V and opc fields say. A vector register's 16-byte access takes the encodings of the sign-extending byte loads.
 // With size 11 and opc 1x there are PRFM (V 0, opc 10) and three unallocated encodings.
-fn access_of(size: u32, v: u32, opc: u32) -> Access
+fn access_of(size: u32, v: u32, opc: u32) -> Moved
     requires { ⌜ (size < 4) × (v < 2) × (opc < 4) ⌝ }
     ensures { λ r. ⌜ r ≡ accessOf size v opc ⌝ }
 {
     let bytes = 1u64 << size;
     if opc == 0 {
-        return Access::Of(bytes, true);
+        return Moved::Of(bytes, true);
     }
     if opc == 1 {
-        return Access::Of(bytes, false);
+        return Moved::Of(bytes, false);
     }
     if size == 0 {
         if v == 1 {
-            return Access::Of(16, opc == 2);
+            return Moved::Of(16, opc == 2);
         }
-        return Access::Of(bytes, false);
+        return Moved::Of(bytes, false);
     }
     if size == 3 {
-        return Access::Neither;
+        return Moved::Neither;
     }
     if size == 2 {
         if opc == 3 {
-            return Access::Neither;
+            return Moved::Neither;
         }
     }
-    Access::Of(bytes, false)
+    Moved::Of(bytes, false)
 }
 
 // A load or store with a scaled unsigned offset.
@@ -118,7 +118,7 @@ impl LoadStore {
         let v = insn / 0x400_0000 % 2;
         let opc = insn / 0x40_0000 % 4;
         match access_of(size, v, opc) {
-            Access::Of(bytes, is_store) => {
+            Moved::Of(bytes, is_store) => {
                 let imm = (insn / 0x400 % 0x1000) as u64;
                 LoadStoreWord::LoadStore(LoadStore {
                     insn,
@@ -131,7 +131,7 @@ impl LoadStore {
                     is_ldrsw: size * 8 + v * 4 + opc == 0b10_0_10,
                 })
             }
-            Access::Neither => LoadStoreWord::Other,
+            Moved::Neither => LoadStoreWord::Other,
         }
     }
 

@@ -10,7 +10,7 @@ use Rattle.util.specs.Choice.{choose}
 use Rattle.util.proofs.Choice.{choose-true, choose-false}
 use Rattle.arm64_insn.specs.LoadStoreTable as Table
 use Rattle.arm64_insn.specs.LoadStoreTable.{Row, Mnemonic, Registers, general, vector}
-use Rattle.arm64_machine.specs.Machine.{Kind, load, store, State, read, with, setX, setV, setMemory, listed, base, source, moved}
+use Rattle.arm64_machine.specs.Machine.{AccessKind, load, store, State, read, with, setX, setV, setMemory, listed, base, source, moved}
 use Rattle.arm64_machine.specs.SameRun.{loadsTo, Agree}
 use Rattle.arm64_machine.specs.Premises.{storesOf}
 
@@ -73,7 +73,7 @@ unfolding setV
 vectors f d u a = record { log = a .log; memory = a .memory; sp = a .sp; v = λ r. ap (choose (eqb r d) u) (a .v r); x = a .x }
 
 -- one access listed, and one value stored, on both sides
-pub lists : (f : ℕ → Bool) (k : Kind) (a n u : ℕ) {s t : State} → Agree f s t → Agree f (listed k a n u s) (listed k a n u t)
+pub lists : (f : ℕ → Bool) (k : AccessKind) (a n u : ℕ) {s t : State} → Agree f s t → Agree f (listed k a n u s) (listed k a n u t)
 unfolding listed
 lists f k a n u h = record { log = rw (h .log); memory = h .memory; sp = h .sp; v = h .v; x = h .x }
 

@@ -3,7 +3,7 @@ use mathlib.Core.List.{[], _∷_}
 use Prim.Native.Nat.{ℕ, _+_, _%_}
 use lib.Dec.{eqb}
 use Rattle.util.specs.Choice.{choose}
-use Rattle.arm64_machine.specs.Machine.{Kind, load, Access, State, Other}
+use Rattle.arm64_machine.specs.Machine.{AccessKind, load, Access, State, Other}
 
 -- each register holds 0x10f0 plus its number, the stack pointer 0x2000, each byte the low byte of its address
 abbrev pub start : State
@@ -14,7 +14,7 @@ abbrev pub high : State
 high = record { x = λ r. 0xfffffffffffffffc; sp = 0x2000; v = λ r. 0x10f0 + r; memory = λ a. choose (eqb a 3) 0x301 0x200; log = [] }
 
 -- an access: kind, address, width, value
-abbrev pub logged : Kind → ℕ → ℕ → ℕ → Access
+abbrev pub logged : AccessKind → ℕ → ℕ → ℕ → Access
 logged k a n u = record { kind = k; address = a; width = n; value = u }
 
 -- other words that do nothing

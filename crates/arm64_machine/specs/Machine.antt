@@ -15,13 +15,13 @@ use Rattle.arm64_insn.specs.ManualTargets.{adrTarget, literalTarget, accessAddr
 use Rattle.arm64_insn.specs.Page.{adrpPage}
 
 -- whether an access is a load or a store
-pub data Kind : Type 0 where
-  load : Kind
-  store : Kind
+pub data AccessKind : Type 0 where
+  load : AccessKind
+  store : AccessKind
 
 -- an access of data memory: so many bytes, which hold or get the value
 pub record Access : Type 0 where
-  pub kind : Kind
+  pub kind : AccessKind
   pub address : ℕ
   pub width : ℕ
   pub value : ℕ
@@ -103,7 +103,7 @@ unfoldable pub setMemory : ℕ → ℕ → ℕ → State → State
 setMemory n a u s = record { x = s .x; sp = s .sp; v = s .v; memory = write n (s .memory) a u; log = s .log }
 
 -- an access listed after the others
-unfoldable pub listed : Kind → ℕ → ℕ → ℕ → State → State
+unfoldable pub listed : AccessKind → ℕ → ℕ → ℕ → State → State
 listed k a n u s =
     let entry : Access = record { kind = k; address = a; width = n; value = u } in
     record { x = s .x; sp = s .sp; v = s .v; memory = s .memory; log = s .log ++ (entry ∷ []) }

@@ -95,8 +95,8 @@ first-number = refl
 abbrev reads : List ℕ → List ℕ → Meaning × ℕ
 reads contents records = (meaningOf contents [] (recordsOf records), filledOf (answerOf (readRelocs contents records [] (replicate 48 0))))
 
--- read all the same: SUBTRACTOR alone; before BRANCH26; before UNSIGNED at another place; before UNSIGNED of another size; ADDEND with the fields of another type;
--- before BRANCH26; before PAGE21 at another place
+-- read all the same: SUBTRACTOR alone; before BRANCH26; before UNSIGNED at another place; before UNSIGNED of another size; ADDEND with the fields of another
+-- type; before BRANCH26; before PAGE21 at another place
 pub undefined-read :
     reads (replicate 16 0) (record-of 0 0x1e000000)
     ∷ reads (replicate 16 0) (record-of 0 0x1e000000 ++ record-of 0 0x2d000000)

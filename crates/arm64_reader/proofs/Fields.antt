@@ -16,7 +16,7 @@ use Rattle.util.proofs.Choice.{split, chosen}
 use Rattle.util.proofs.Bytes.{le-drop}
 use Rattle.macho.specs.MachRel.{idxOf, typeOf, p2sizeOf, externOf}
 use Rattle.macho.specs.Types.{ARM64-RELOC-UNSIGNED}
-use Rattle.macho.specs.declared.rel.MachRel.{MachRel}
+use Rattle.macho.specs.declared.mach_rel.MachRel.{MachRel}
 use Rattle.macho.specs.declared.reloc.Reloc.{Reloc}
 use Rattle.arch.specs.Entry.{entryOf, enter, targeted}
 use Rattle.arch.specs.Table.{recordAt}

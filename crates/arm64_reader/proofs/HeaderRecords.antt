@@ -15,7 +15,7 @@ use Rattle.util.proofs.Choice.{split, chosen, choose-true, choose-false}
 use Rattle.util.proofs.Bytes.{le-drop}
 use Rattle.macho.specs.MachRel.{idxOf, p2sizeOf, externOf, typeOf}
 use Rattle.macho.specs.Types.{ARM64-RELOC-UNSIGNED}
-use Rattle.macho.specs.declared.rel.MachRel.{MachRel}
+use Rattle.macho.specs.declared.mach_rel.MachRel.{MachRel}
 use Rattle.macho.specs.declared.reloc.Reloc.{Reloc}
 use Rattle.macho.specs.declared.refusal.Refusal.{Refusal}
 use Rattle.macho.specs.declared.refusal.Refusal.the-variants.{Unsupported, Unfit}

@@ -15,7 +15,7 @@ use Rattle.util.specs.Choice.{choose}
 use Rattle.util.proofs.Choice.{both, choose-true}
 use Rattle.macho.specs.MachRel.{idxOf, p2sizeOf, externOf, typeOf}
 use Rattle.macho.specs.Types.{ARM64-RELOC-UNSIGNED, ARM64-RELOC-SUBTRACTOR, ARM64-RELOC-ADDEND}
-use Rattle.macho.specs.declared.rel.MachRel.{MachRel}
+use Rattle.macho.specs.declared.mach_rel.MachRel.{MachRel}
 use Rattle.macho.specs.declared.reloc.Reloc.{Reloc}
 use Rattle.macho.specs.declared.refusal.Refusal.{Refusal}
 use Rattle.macho.specs.declared.refusal.Refusal.the-variants.{Bounds, LoneAddend, Unsupported, Unfit}

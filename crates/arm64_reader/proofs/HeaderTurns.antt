@@ -9,7 +9,7 @@ use Rattle.util.specs.Bits.{extend}
 use Rattle.util.proofs.Choice.{split}
 use Rattle.macho.specs.MachRel.{idxOf, p2sizeOf, typeOf}
 use Rattle.macho.specs.Types.{ARM64-RELOC-UNSIGNED, ARM64-RELOC-SUBTRACTOR, ARM64-RELOC-ADDEND}
-use Rattle.macho.specs.declared.rel.MachRel.{MachRel}
+use Rattle.macho.specs.declared.mach_rel.MachRel.{MachRel}
 use Rattle.arm64_reader.specs.Header.{nothing, less, isDefined, takesAddend, referentOf, pointerOf, wordOf, Turn, stop, wait, give}
 use Rattle.arm64_reader.specs.Header.{lackOf, subtractor-type, subtractor-place, subtractor-size, addend-form, addend-type, addend-place}
 use Rattle.arm64_reader.specs.Header.{minus, plus, turnAlone, turnMinus, turnPlus}

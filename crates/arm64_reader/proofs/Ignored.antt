@@ -16,7 +16,7 @@ use Rattle.util.proofs.Bytes.{le-drop}
 use Rattle.macho.specs.MachRel.{idxOf, typeOf, p2sizeOf, externOf}
 use Rattle.macho.specs.Types.{ARM64-RELOC-UNSIGNED, ARM64-RELOC-SUBTRACTOR, ARM64-RELOC-GOT-LOAD-PAGEOFF12, ARM64-RELOC-TLVP-LOAD-PAGEOFF12}
 use Rattle.macho.specs.Types.{ARM64-RELOC-ADDEND}
-use Rattle.macho.specs.declared.rel.MachRel.{MachRel}
+use Rattle.macho.specs.declared.mach_rel.MachRel.{MachRel}
 use Rattle.macho.specs.declared.reloc.Reloc.{Reloc}
 use Rattle.arch.specs.Entry.{entryOf, enter, targeted}
 use Rattle.arch.specs.Join.{joined}

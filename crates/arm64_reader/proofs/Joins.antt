@@ -14,7 +14,7 @@ use Rattle.util.specs.Word.{le}
 use Rattle.util.proofs.Bytes.{le-append-left}
 use Rattle.macho.specs.MachRel.{typeOf, p2sizeOf}
 use Rattle.macho.specs.Types.{ARM64-RELOC-UNSIGNED, ARM64-RELOC-SUBTRACTOR, ARM64-RELOC-ADDEND, ARM64-RELOC-GOT-LOAD-PAGEOFF12, ARM64-RELOC-TLVP-LOAD-PAGEOFF12}
-use Rattle.macho.specs.declared.rel.MachRel.{MachRel}
+use Rattle.macho.specs.declared.mach_rel.MachRel.{MachRel}
 use Rattle.macho.specs.declared.reloc.Reloc.{Reloc}
 use Rattle.macho.specs.declared.refusal.Refusal.the-variants.{Bounds}
 use Rattle.arch.specs.Entry.{entryOf}

@@ -10,7 +10,7 @@ use lib.Dec.{eqb, ltb}
 use Rattle.util.specs.Bits.{extend}
 use Rattle.macho.specs.MachRel.{idxOf, typeOf}
 use Rattle.macho.specs.Types.{ARM64-RELOC-SUBTRACTOR, ARM64-RELOC-ADDEND}
-use Rattle.macho.specs.declared.rel.MachRel.{MachRel}
+use Rattle.macho.specs.declared.mach_rel.MachRel.{MachRel}
 use Rattle.macho.specs.declared.reloc.Reloc.{Reloc}
 use Rattle.arch.specs.Entry.{entryOf, enter, targeted}
 use Rattle.arch.specs.Join.{moved}

@@ -13,7 +13,7 @@ use Rattle.util.proofs.Below.{every, every-at}
 use Rattle.util.proofs.Choice.{both}
 use Rattle.macho.specs.MachRel.{idxOf, p2sizeOf, externOf, typeOf}
 use Rattle.macho.specs.Types.{ARM64-RELOC-UNSIGNED, ARM64-RELOC-GOT-LOAD-PAGEOFF12, ARM64-RELOC-TLVP-LOAD-PAGEOFF12, ARM64-RELOC-ADDEND}
-use Rattle.macho.specs.declared.rel.MachRel.{MachRel}
+use Rattle.macho.specs.declared.mach_rel.MachRel.{MachRel}
 use Rattle.arch.specs.Entry.{entryOf, targeted}
 use Rattle.arch.specs.Form.{form, member}
 use Rattle.arch.specs.Target.{targetOf}

@@ -13,7 +13,7 @@ use Rattle.util.proofs.Choice.{split, chosen, choose-true}
 use Rattle.macho.specs.MachRel.{idxOf, typeOf}
 use Rattle.macho.specs.Types.{ARM64-RELOC-SUBTRACTOR}
 use Rattle.macho.specs.Types.{ARM64-RELOC-ADDEND}
-use Rattle.macho.specs.declared.rel.MachRel.{MachRel}
+use Rattle.macho.specs.declared.mach_rel.MachRel.{MachRel}
 use Rattle.macho.specs.declared.reloc.Reloc.{Reloc}
 use Rattle.macho.specs.declared.refusal.Refusal.{Refusal}
 use Rattle.macho.specs.declared.refusal.Refusal.the-variants.{Bounds, LoneAddend}

@@ -9,7 +9,7 @@ use Rattle.util.specs.Word.{le}
 use Rattle.util.specs.Diagram.{matches}
 use Rattle.macho.specs.MachRel.{p2sizeOf, typeOf}
 use Rattle.macho.specs.Types.{ARM64-RELOC-UNSIGNED, ARM64-RELOC-GOT-LOAD-PAGEOFF12, ARM64-RELOC-TLVP-LOAD-PAGEOFF12}
-use Rattle.macho.specs.declared.rel.MachRel.{MachRel}
+use Rattle.macho.specs.declared.mach_rel.MachRel.{MachRel}
 use Rattle.macho.specs.declared.refusal.Refusal.the-variants.{Bounds, Unsupported, Unfit}
 use Rattle.macho.specs.declared.refusal.Check.{Check}
 use Rattle.macho.specs.declared.refusal.Check.the-variants.{Fit, Refused}

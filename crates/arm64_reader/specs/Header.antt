@@ -12,7 +12,7 @@ use Rattle.util.specs.Wrap.{diff}
 use Rattle.macho.specs.MachRel.{idxOf, pcrelOf, p2sizeOf, externOf, typeOf}
 use Rattle.macho.specs.Types.{ARM64-RELOC-UNSIGNED, ARM64-RELOC-SUBTRACTOR, ARM64-RELOC-PAGE21, ARM64-RELOC-PAGEOFF12, ARM64-RELOC-GOT-LOAD-PAGE21}
 use Rattle.macho.specs.Types.{ARM64-RELOC-TLVP-LOAD-PAGE21, ARM64-RELOC-ADDEND, ARM64-RELOC-AUTHENTICATED-POINTER}
-use Rattle.macho.specs.declared.rel.MachRel.{MachRel}
+use Rattle.macho.specs.declared.mach_rel.MachRel.{MachRel}
 use Rattle.arm64_reader.specs.Support.{supportedOf}
 
 -- ---- a record

@@ -7,7 +7,7 @@ use Rattle.util.specs.Choice.{choose}
 use Rattle.macho.specs.MachRel.{typeOf}
 use Rattle.macho.specs.Types.{ARM64-RELOC-SUBTRACTOR, ARM64-RELOC-BRANCH26, ARM64-RELOC-PAGE21, ARM64-RELOC-PAGEOFF12}
 use Rattle.macho.specs.Types.{ARM64-RELOC-GOT-LOAD-PAGE21, ARM64-RELOC-POINTER-TO-GOT, ARM64-RELOC-TLVP-LOAD-PAGE21}
-use Rattle.macho.specs.declared.rel.MachRel.{MachRel}
+use Rattle.macho.specs.declared.mach_rel.MachRel.{MachRel}
 use Rattle.arch.specs.Form.{Form, form, formIn, member}
 
 -- the forms in which a type reads so: r_pcrel, r_length, r_extern

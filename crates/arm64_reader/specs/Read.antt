@@ -6,7 +6,7 @@ use Prim.Native.Nat.{ℕ, _-_}
 use lib.ListN.{length}
 use Rattle.macho.specs.MachRel.{typeOf}
 use Rattle.macho.specs.Types.{ARM64-RELOC-SUBTRACTOR, ARM64-RELOC-ADDEND}
-use Rattle.macho.specs.declared.rel.MachRel.{MachRel}
+use Rattle.macho.specs.declared.mach_rel.MachRel.{MachRel}
 use Rattle.macho.specs.declared.refusal.Answer.{Answer}
 use Rattle.arch.specs.Table.{recordsOf, recordAt, subtractedAt, lengthsOf}
 use Rattle.arch.specs.Walk.{Reading, readAll, checked, answerOf, slotsAfter}

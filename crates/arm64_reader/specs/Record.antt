@@ -9,7 +9,7 @@ use Rattle.util.specs.Choice.{choose}
 use Rattle.util.specs.Word.{le}
 use Rattle.macho.specs.MachRel.{idxOf, p2sizeOf, typeOf}
 use Rattle.macho.specs.Types.{ARM64-RELOC-UNSIGNED, ARM64-RELOC-SUBTRACTOR, ARM64-RELOC-ADDEND}
-use Rattle.macho.specs.declared.rel.MachRel.{MachRel}
+use Rattle.macho.specs.declared.mach_rel.MachRel.{MachRel}
 use Rattle.macho.specs.declared.refusal.Refusal.the-variants.{Bounds, LoneAddend}
 use Rattle.arch.specs.Entry.{targeted}
 use Rattle.arch.specs.Table.{recordAt, subtractedAt}

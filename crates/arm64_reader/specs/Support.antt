@@ -1,15 +1,12 @@
 -- Which relocation records the linker applies (arch/arm64.rs, `is_supported`; RULES 4.6).
-use Prim.Native.Nat.{ℕ}
+use Prim.Native.Nat.{ℕ, zero, suc, _*_, _^_}
 use mathlib.Core.Bool.{Bool}
-use mathlib.Core.List.{List, [], _∷_}
+use mathlib.Core.List.{List, [], _∷_, _++_}
 use lib.ListN.{getD}
+use Rattle.util.specs.Choice.{choose}
 use Rattle.macho.specs.MachRel.{typeOf}
-use Rattle.macho.specs.declared.rel.MachRel.{MachRel}
+use Rattle.macho.specs.declared.mach_rel.MachRel.{MachRel}
 use Rattle.arch.specs.Form.{Form, form, formIn, member}
-
--- a pointer of 4 or 8 bytes: not pc-relative
-abbrev pointer : ℕ → List Form
-pointer ext = form 0 2 ext ∷ form 0 3 ext ∷ []
 
 -- for each type the forms that it takes: UNSIGNED, SUBTRACTOR, BRANCH26, PAGE21, PAGEOFF12, GOT_LOAD_PAGE21, GOT_LOAD_PAGEOFF12,
 -- POINTER_TO_GOT, TLVP_LOAD_PAGE21, TLVP_LOAD_PAGEOFF12, ADDEND
@@ -35,3 +32,8 @@ formsOf ty = getD forms ty []
 -- whether a record has a form that its type takes
 unfoldable pub supportedOf : MachRel → Bool
 supportedOf r = member (formIn r) (formsOf (typeOf (r .bits)))
+
+-- the numbers below n, in bits 24 to 31 of a record its type and form, that the linker applies
+abbrev pub appliedBelow : ℕ → List ℕ
+appliedBelow zero = []
+appliedBelow (suc n) = appliedBelow n ++ choose (supportedOf (record { offset = 0; bits = n * 2 ^ 24 })) (n ∷ []) []

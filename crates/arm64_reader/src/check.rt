@@ -8,7 +8,7 @@ use macho::consts::ARM64_RELOC_TLVP_LOAD_PAGEOFF12;
 use macho::consts::ARM64_RELOC_UNSIGNED;
 use macho::refusal::Check;
 use macho::refusal::Refusal;
-use macho::rel::MachRel;
+use macho::mach_rel::MachRel;
 use util::read32;
 ghost use mathlib.Core.Path.{_≡_};
 ghost use Rattle.arm64_reader.specs.Check.{loadedBytes, gotFits, tlvpFits, pointer32, wordCheck, checkReloc};

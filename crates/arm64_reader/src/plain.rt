@@ -6,7 +6,7 @@ use macho::consts::ARM64_RELOC_PAGEOFF12;
 use macho::consts::ARM64_RELOC_POINTER_TO_GOT;
 use macho::consts::ARM64_RELOC_SUBTRACTOR;
 use macho::consts::ARM64_RELOC_TLVP_LOAD_PAGE21;
-use macho::rel::MachRel;
+use macho::mach_rel::MachRel;
 ghost use mathlib.Core.Path.{_≡_};
 ghost use Rattle.arm64_reader.specs.Plain.{plainOf};
 

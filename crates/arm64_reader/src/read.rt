@@ -5,7 +5,7 @@ use arch::step::Step;
 use arch::table::check_lengths;
 use macho::refusal::Answer;
 use macho::refusal::Check;
-use macho::rel::MachRel;
+use macho::mach_rel::MachRel;
 use macho::reloc::Reloc;
 ghost use mathlib.Core.Path.{_≡_};
 ghost use Prim.Native.Nat.{_*_, _≤_};

@@ -11,7 +11,7 @@ use macho::consts::ARM64_RELOC_SUBTRACTOR;
 use macho::consts::ARM64_RELOC_UNSIGNED;
 use macho::refusal::Check;
 use macho::refusal::Refusal;
-use macho::rel::MachRel;
+use macho::mach_rel::MachRel;
 use util::read32;
 use util::read64;
 use util::sign_extend;

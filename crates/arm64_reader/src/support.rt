@@ -12,7 +12,7 @@ use macho::consts::ARM64_RELOC_SUBTRACTOR;
 use macho::consts::ARM64_RELOC_TLVP_LOAD_PAGE21;
 use macho::consts::ARM64_RELOC_TLVP_LOAD_PAGEOFF12;
 use macho::consts::ARM64_RELOC_UNSIGNED;
-use macho::rel::MachRel;
+use macho::mach_rel::MachRel;
 ghost use mathlib.Core.Path.{_≡_};
 ghost use Rattle.arch.specs.Form.{bitsOf};
 ghost use Rattle.arm64_reader.specs.Support.{formsOf, supportedOf};

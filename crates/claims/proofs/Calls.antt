@@ -2,16 +2,14 @@
 use mathlib.Core.Path.{_≡_, refl, sym}
 use mathlib.Core.Bool.{Bool, true, false}
 use mathlib.Core.List.{List}
-use Prim.Native.Nat.{ℕ, _≤_}
-use lib.Dec.{ltb, lit≤}
+use Prim.Native.Nat.{ℕ}
+use lib.Dec.{ltb}
 use lib.ListN.{length}
 use Rattle.util.specs.Choice.{choose}
 use Rattle.util.proofs.Choice.{chosen}
-use Rattle.macho.specs.Refusal as Refusal
 use Rattle.macho.specs.Refusal.{answerNumber}
 use Rattle.macho.specs.declared.refusal.Refusal.{Refusal}
-use Rattle.macho.specs.declared.refusal.Refusal.the-variants.{Lengths, Slots, Bounds, LoneAddend, Unsupported, Unfit}
-use Rattle.macho.specs.declared.refusal.Refusal.the-variants.{NoSection, LoneSubtractor, Overflow, NeedsSymbol, Flags, NoEntry}
+use Rattle.macho.proofs.Numbered.{numbered}
 use Rattle.macho.specs.declared.refusal.Answer.{Answer}
 use Rattle.macho.specs.declared.refusal.Answer.the-variants as A
 use Rattle.arch.specs.Walk as Walk
@@ -42,20 +40,6 @@ use Rattle.hauklivo.proofs.lister.hauklivo_list.Met as List′
 use Rattle.hauklivo.proofs.version.hauklivo_version.Met as Version
 use Rattle.hauklivo.proofs.version.hauklivo_version_1.Met as Version1
 use Rattle.claims.specs.Calls.{Calls}
-
-numbered : (x : Refusal) → (1 ≤ Refusal.numberOf x) × (Refusal.numberOf x ≤ 12)
-numbered Lengths = (lit≤ tt, lit≤ tt)
-numbered Slots = (lit≤ tt, lit≤ tt)
-numbered Bounds = (lit≤ tt, lit≤ tt)
-numbered LoneAddend = (lit≤ tt, lit≤ tt)
-numbered Unsupported = (lit≤ tt, lit≤ tt)
-numbered Unfit = (lit≤ tt, lit≤ tt)
-numbered NoSection = (lit≤ tt, lit≤ tt)
-numbered LoneSubtractor = (lit≤ tt, lit≤ tt)
-numbered Overflow = (lit≤ tt, lit≤ tt)
-numbered NeedsSymbol = (lit≤ tt, lit≤ tt)
-numbered Flags = (lit≤ tt, lit≤ tt)
-numbered NoEntry = (lit≤ tt, lit≤ tt)
 
 reader : (a : Reading) (slots : List ℕ) (count : ℕ) → (answerNumber (Walk.answerOf a) ≡ 0 → ⊥)
     → (Walk.slotsAfter a slots ≡ slots) × (lentCount (Walk.answerOf a) count ≡ count)

@@ -13,7 +13,6 @@ use Rattle.arm64_hint_words.proofs.hint.Hint.set.Met as Set′
 use Rattle.arm64_hint_words.proofs.hint.Hint.addr.Met as Addr
 use Rattle.arm64_hint_words.proofs.hint.Hint.has_page_pair.Met as HasPagePair
 use Rattle.arm64_hint_run.proofs.Answers as Answers
-use Rattle.arm64_hint_run.proofs.Lengths as Lengths
 use Rattle.arm64_hint_run.proofs.Skipped as Skipped
 use Rattle.claims.specs.Hints.{Hints}
 
@@ -26,8 +25,6 @@ hints =
     record {
       skipped = Answers.skipped-kinds;
       skipped-leaves = λ hints entries. Skipped.idle-step entries hints;
-      lengths = Lengths.lengths;
-      lengths-only = Lengths.lengths-only;
       counts = Hinted.counts;
       no-kind = Hinted.no-kind;
       entries = Hinted.entries;

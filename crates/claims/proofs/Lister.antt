@@ -31,8 +31,8 @@ use Rattle.arm64_insn.specs.declared.adrp.AdrpWord.{AdrpWord}
 use Rattle.arm64_insn.specs.declared.adrp.AdrpWord.the-variants as AdrpWord
 use Rattle.arm64_insn.specs.declared.add.AddWord.{AddWord}
 use Rattle.arm64_insn.specs.declared.add.AddWord.the-variants as AddWord
-use Rattle.arm64_insn.specs.declared.ldst.Access.{Access}
-use Rattle.arm64_insn.specs.declared.ldst.Access.the-variants.{Of, Neither}
+use Rattle.arm64_insn.specs.declared.ldst.Moved.{Moved}
+use Rattle.arm64_insn.specs.declared.ldst.Moved.the-variants.{Of, Neither}
 use Rattle.arm64_insn.specs.declared.ldst.LoadStoreWord.{LoadStoreWord}
 use Rattle.arm64_insn.specs.declared.ldst.LoadStoreWord.the-variants as LoadStoreWord
 use Rattle.arm64_insn.proofs.Cells.{each-cell}
@@ -47,7 +47,7 @@ use Rattle.lister_text.proofs.Printed.{too-long, odd-length, whole-words}
 use Rattle.lister_text.proofs.Answers.{Leaves, list-long, list-narrow, list-odd, list-whole}
 use Rattle.hauklivo.specs.Lent.{lentNumber, lentCount}
 use Rattle.hauklivo.specs.Lister.{numberTo, countTo}
-use Rattle.claims.specs.Lent.{words}
+use Rattle.arm64_hint_kept.specs.Examples.{words}
 use Rattle.claims.specs.Lister.{codes, digit, hex, linesFrom, Lister}
 
 -- ---- a line for each word
@@ -115,7 +115,7 @@ line offset word =
 abbrev five : ℕ → Bool
 five n = eqb n 1 || eqb n 2 || eqb n 4 || eqb n 8 || eqb n 16
 
-abbrev fiveOf : Access → Bool
+abbrev fiveOf : Moved → Bool
 fiveOf (Of n s) = five n
 fiveOf Neither = true
 
@@ -134,7 +134,7 @@ five-access : (size v opc : ℕ) → size < 4 → v < 2 → opc < 4 → fiveOf (
 unfolding accessOf rowOf choose every
 five-access size v opc hs hv ho = each-cell (λ s v o. fiveOf (accessOf s v o)) refl size v opc hs hv ho
 
-five-with : (w : ℕ) (a : Access) → fiveOf a ≡ true → fiveBy (loadStoreWith w a) ≡ true
+five-with : (w : ℕ) (a : Moved) → fiveOf a ≡ true → fiveBy (loadStoreWith w a) ≡ true
 five-with w (Of n s) h = h
 five-with w Neither h = refl
 

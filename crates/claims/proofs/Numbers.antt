@@ -42,7 +42,8 @@ use Rattle.arm64_hint_check.specs.Check as HintCheck
 use Rattle.arm64_hint_check.specs.Check.{isList, checkAll}
 use Rattle.arm64_hint_run.specs.Run.{runNumber, runOf}
 use Rattle.arm64_hint_run.proofs.Examples as Hints
-use Rattle.arm64_hint_run.proofs.Answers.{not-lists, too-many-hints, too-many-entries, number-is}
+use Rattle.arm64_hint_run.proofs.Answers.{number-is}
+use Rattle.arm64_hint_run.proofs.Lengths as Lengths
 use Rattle.hauklivo.specs.Reader as Reader
 use Rattle.hauklivo.specs.Fixup as Fixup
 use Rattle.claims.specs.Numbers.{Numbers}
@@ -174,19 +175,6 @@ module _ (section : List ℕ) (base tls : ℕ) (entries targets slots : List ℕ
         lt-ltb (length slots) (24 * (length entries / 24)) h,
       )
 
-module _ (image hints entries : List ℕ) where
-  hints-not-whole : (length hints % hintSize ≡ 0 → ⊥) → runNumber (runOf image hints entries) ≡ 1
-  unfolding isList
-  hints-not-whole h = ap runNumber (not-lists image hints entries (rw (ne-eqb (length hints % hintSize) 0 h)))
-
-  hint-entries-not-whole : (length entries % relocSize ≡ 0 → ⊥) → runNumber (runOf image hints entries) ≡ 1
-  unfolding isList
-  hint-entries-not-whole h = ap runNumber (not-lists image hints entries (rw (ne-eqb (length entries % relocSize) 0 h) (go (isList (length hints) hintSize))))
-    where
-      go : (a : Bool) → (a && false) ≡ false
-      go true = refl
-      go false = refl
-
 pub numbers : Numbers
 unfolding relocBytes resolvedBytes bytesOf bytes outcomeOf Answer.checkLists checkTo checkAt checkOf consumed relocAt resolvedAt le wellFormed widthOf choose
     readRelocs readRecords readAll readFrom lengthsOf recordsOf recordsFrom machRelAt subtractedAt stepAt recordOf checkReloc supportedOf formsOf pointer32
@@ -225,10 +213,8 @@ numbers =
       targets-not-whole = targets-not-whole;
       many-fix-up-entries = many-fix-up-entries;
       counts-differ = counts-differ;
-      hints-not-whole = hints-not-whole;
-      hint-entries-not-whole = hint-entries-not-whole;
-      many-hints = λ image hints entries m. ap runNumber (too-many-hints image hints entries m);
-      many-entries = λ image hints entries m. ap runNumber (too-many-entries image hints entries m);
+      hint-lengths = Lengths.lengths;
+      hint-lengths-only = Lengths.lengths-only;
       few-entry-slots = λ contents records sections slots w n m h.
           read-number contents records sections slots (Lengths.few-slots contents records sections slots w n m h);
       few-report-slots = few-report-slots;

@@ -201,7 +201,8 @@ module _ (section : List ℕ) (b : Bases) (entries targets : List ℕ) (f : Fixe
     pub got-add : Page (lentEntry entries k) (lentTarget targets k) (gotTarget (lentEntry entries k) (lentTarget targets k)) → GotOffset (lentEntry entries m)
         → canRelaxGot (lentTarget targets k) ≡ false → canRelaxGot (lentTarget targets m) ≡ false → G+A k ≡ G+A m
         → (rd′ rn imm12 : ℕ) → decode (wordAt entries section m) ≡ instruction (ADD 1 0 rd′ rn imm12) → PageAt rd (G+A m) × AddAt rd′ rn (G+A m)
-    pub got-access : Page (lentEntry entries k) (lentTarget targets k) (gotTarget (lentEntry entries k) (lentTarget targets k)) → GotOffset (lentEntry entries m)
+    pub got-access : Page (lentEntry entries k) (lentTarget targets k) (gotTarget (lentEntry entries k) (lentTarget targets k))
+        → GotOffset (lentEntry entries m)
         → canRelaxGot (lentTarget targets k) ≡ false → canRelaxGot (lentTarget targets m) ≡ false → G+A k ≡ G+A m
         → (size v opc rt rn imm12 : ℕ) → decode (wordAt entries section m) ≡ instruction (LDST size v opc rt rn imm12) → Unreported f m
         → PageAt rd (G+A m) × AccessAt size v opc rt rn (G+A m)

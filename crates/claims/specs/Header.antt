@@ -14,7 +14,7 @@ use Rattle.macho.specs.Reloc.{relocSize, relocAt, relocFields, relocBytes}
 use Rattle.macho.specs.Resolved.{resolvedSize, resolvedAt, resolvedFields, resolvedBytes}
 use Rattle.macho.specs.Report.{reportSize, reportAt, reportFields, reportBytes}
 use Rattle.macho.specs.Hint.{hintSize, hintAt, hintFields, hintBytes}
-use Rattle.macho.specs.declared.rel.MachRel.{MachRel}
+use Rattle.macho.specs.declared.mach_rel.MachRel.{MachRel}
 use Rattle.macho.specs.declared.reloc.Reloc.{Reloc}
 use Rattle.macho.specs.declared.refusal.Refusal.{Refusal}
 use Rattle.macho.specs.declared.refusal.Refusal.the-variants.{Unsupported, Unfit}
@@ -23,10 +23,10 @@ use Rattle.arch.specs.Table.{recordsOf}
 use Rattle.arch.specs.Join.{joined, mapped, recordLater, entryLater}
 use Rattle.arch.specs.Walk.{refused, entries, answerOf, Fills}
 use Rattle.arm64_reader.specs.Read.{readRecords, readTable, readRelocs, endsIn, NoLastAddend}
-use Rattle.arm64_reader.specs.Support.{supportedOf}
+use Rattle.arm64_reader.specs.Support.{supportedOf, appliedBelow}
 use Rattle.arm64_reader.specs.Fields.{starts, pairs, entryFrom}
 use Rattle.arm64_reader.specs.Header.{Relocation, symbol, nothing, Meaning, undefined, relocations, meaningOf, Present, hasLonePointer32}
-use Rattle.arm64_reader.specs.Header.{inHeader, isDefined, Reason, isTolerated, not-in-header, not-applied}
+use Rattle.arm64_reader.specs.Header.{inHeader, Reason, isTolerated, not-in-header, not-applied}
 use Rattle.arm64_reader.specs.Header.{subtractor-last, subtractor-type, subtractor-place, subtractor-size}
 use Rattle.arm64_reader.specs.Header.{addend-form, addend-last, addend-type, addend-place}
 use Rattle.arm64_reader.specs.Said.{said}
@@ -80,9 +80,11 @@ pub record Header : Type 0 where
   pub report-ignores : (s : List ℕ) (at u v : ℕ) → reportAt (set (set s (at + 6) u) (at + 7) v) at ≡ reportAt s at
   pub hint-ignores : (s : List ℕ) (at u v : ℕ) → hintAt (set (set s (at + 2) u) (at + 3) v) at ≡ hintAt s at
   pub entry-spare : (s : List ℕ) (at v : ℕ) → at + 16 ≤ length s → relocAt (put 4 s (at + 12) v) at ≡ withSpare (relocAt s at) (v % 2 ^ 32)
-  -- RULES 4.16: the headers have every record that the linker applies, so those are the defined ones
+  -- RULES 4.6: the records that the linker applies, by type and form
+  pub applied : appliedBelow 256
+      ≡ 0x04 ∷ 0x06 ∷ 0x0c ∷ 0x0e ∷ 0x1c ∷ 0x1e ∷ 0x2d ∷ 0x3d ∷ 0x4c ∷ 0x5d ∷ 0x6c ∷ 0x7d ∷ 0x8d ∷ 0x9c ∷ 0xa4 ∷ []
+  -- RULES 4.16: the headers have each of them
   pub applied-in-header : (r : MachRel) → supportedOf r ≡ true → inHeader r ≡ true
-  pub applied-is-defined : (r : MachRel) → supportedOf r ≡ isDefined r
   -- RULES 4.21: where a table is defined and read, the entries say what it means
   pub same-meaning : (contents sections : List ℕ) (rs : List MachRel) (ms : List Relocation) (es : List Reloc)
       → meaningOf contents sections rs ≡ relocations ms → readRecords contents sections false rs ≡ entries es → said es ≡ ms
@@ -92,7 +94,8 @@ pub record Header : Type 0 where
       → readRecords contents sections false rs ≡ refused x → (x ≡ Unfit) ⊎ ((x ≡ Unsupported) × (hasLonePointer32 ms ≡ true))
   -- the same of a call that is lent whole records and slots enough
   pub call-refused-only : (contents records sections slots : List ℕ) (ms : List Relocation) (x : Refusal)
-      → length records % 8 ≡ 0 → length records / 8 < 2 ^ 32 → length sections < 2 ^ 32 → 24 * (length records / 8) ≤ length slots
+      → length records % machRelSize ≡ 0 → length records / machRelSize < 2 ^ 32 → length sections < 2 ^ 32
+      → relocSize * (length records / machRelSize) ≤ length slots
       → meaningOf contents sections (recordsOf records) ≡ relocations ms → Present (length contents) (length sections) ms
       → readRelocs contents records sections slots ≡ refused x → (x ≡ Unfit) ⊎ ((x ≡ Unsupported) × (hasLonePointer32 ms ≡ true))
   -- RULES 4.20: where a table is read that is not defined, the reason is one of the seven
@@ -150,7 +153,7 @@ pub record Header : Type 0 where
   -- RULES 4.15: records after others are read as a table of their own, after the first one's last record; of lists and of bytes
   pub append : (contents sections : List ℕ) (first : Bool) (xs ys : List MachRel) → NoLastAddend xs ⊎ Fills (readRecords contents sections first xs)
       → readRecords contents sections first (xs ++ ys) ≡ joined (readRecords contents sections first xs) (readRecords contents sections (endsIn first xs) ys)
-  pub append-bytes : (contents sections records more : List ℕ) → length records % 8 ≡ 0
+  pub append-bytes : (contents sections records more : List ℕ) → length records % machRelSize ≡ 0
       → NoLastAddend (recordsOf records) ⊎ Fills (readTable contents records sections)
       → readTable contents (records ++ more) sections
       ≡ joined (readTable contents records sections) (readRecords contents sections (endsIn false (recordsOf records)) (recordsOf more))

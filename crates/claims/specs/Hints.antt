@@ -34,10 +34,6 @@ use Rattle.arm64_hint_work.specs.declared.tally.Tally.{Tally}
 use Rattle.arm64_hint_run.specs.Run.{runOf, runNumber}
 use Rattle.arm64_hint_run.specs.declared.run.RunAnswer.the-variants.{Done}
 
--- bytes of whole records of a size, at most 2^32 - 1 of them
-abbrev pub IsList : ℕ → ℕ → Type 0
-IsList len size = (len % size ≡ 0) × (len / size < 2 ^ 32)
-
 -- what is claimed of hints
 pub record Hints : Type 2 where
   -- RULES 8.3: a hint is skipped where there is no such kind, or its word count is not the number of that kind's words
@@ -45,9 +41,6 @@ pub record Hints : Type 2 where
   -- it leaves the image, and is counted
   pub skipped-leaves : (hints entries : List ℕ) (k : ℕ) → isSkipped (hintOf hints k) ≡ true → (w : Work Tally)
       → stepOf (stepsOf hints entries) k w ≡ record { image = w .image; tally = addOutcome Skipped (w .tally) }
-  -- RULES 3.9: number 1 is answered just where one of the two lists is no list
-  pub lengths : (image hints entries : List ℕ) → (IsList (length hints) 64 × IsList (length entries) 24 → ⊥) → runNumber (runOf image hints entries) ≡ 1
-  pub lengths-only : (image hints entries : List ℕ) → IsList (length hints) 64 × IsList (length entries) 24 → runNumber (runOf image hints entries) ≡ 1 → ⊥
   -- RULES 8.2: the word counts are those of LLVM's kinds
   pub counts : (n : ℕ) → wordCount n ≡ length (wordsOf n)
   -- RULES 8.4: a number that is no kind declines

@@ -9,17 +9,17 @@ use lib.ListN.{length, getD, set}
 use Rattle.util.specs.Word.{le}
 use Rattle.macho.specs.MachRel.{idxOf, externOf, typeOf}
 use Rattle.macho.specs.Types.{ARM64-RELOC-SUBTRACTOR, ARM64-RELOC-ADDEND}
-use Rattle.macho.specs.Reloc.{relocAt, isSection}
-use Rattle.macho.specs.Resolved.{wellFormed}
-use Rattle.macho.specs.Hint.{hintCount, hintOf}
+use Rattle.macho.specs.Reloc.{relocSize, relocAt, isSection}
+use Rattle.macho.specs.Resolved.{resolvedSize, wellFormed}
+use Rattle.macho.specs.Hint.{hintSize, hintCount, hintOf}
 use Rattle.macho.specs.declared.hint.HintInsn.{HintInsn}
 use Rattle.macho.specs.declared.hint.HintRecord.{HintRecord}
-use Rattle.macho.specs.declared.rel.MachRel.{MachRel}
+use Rattle.macho.specs.declared.mach_rel.MachRel.{MachRel}
 use Rattle.macho.specs.declared.refusal.Answer.the-variants.{Filled}
 use Rattle.arch.specs.Table.{recordAt}
 use Rattle.arch.specs.Walk as Walk
 use Rattle.arch.specs.Walk.{Fills}
-use Rattle.arm64_reader.specs.Read.{readRecords, readRelocs}
+use Rattle.arm64_reader.specs.Read.{readRecords, readRelocs, NoLastAddend}
 use Rattle.arm64_reader.specs.Fields.{ownOf, lookedAt}
 use Rattle.arm64_fixup_entry.specs.Seen.{seen, SameUse}
 use Rattle.arm64_fixup_entry.specs.declared.target.Bases.{Bases}
@@ -78,7 +78,7 @@ pub record Ignored : Type 0 where
       × (sectionAfter (outcomeOf section b [] [] slots) section ≡ section)
       × (slotsAfter (outcomeOf section b [] [] slots) slots ≡ slots)
   -- no hints give four zeros, and leave the image
-  pub no-hints : (image entries : List ℕ) → isList (length entries) 24 ≡ true
+  pub no-hints : (image entries : List ℕ) → isList (length entries) relocSize ≡ true
       → (runOf image [] entries ≡ Done zeros) × (imageOf image [] entries ≡ image)
   -- RULES 3.15: the reader looks at no byte of the slots
   pub reader-slots : (contents records sections slots others : List ℕ) → length slots ≡ length others
@@ -95,7 +95,7 @@ pub record Ignored : Type 0 where
   pub reader-addend : (contents sections : List ℕ) (first : Bool) (xs ys : List MachRel) (a b r q : MachRel)
       → typeOf (a .bits) ≡ ARM64-RELOC-ADDEND → typeOf (b .bits) ≡ ARM64-RELOC-ADDEND → a .offset ≡ b .offset → idxOf (a .bits) ≡ idxOf (b .bits)
       → r .bits ≡ q .bits
-      → (typeOf (recordAt xs (length xs - 1) .bits) ≡ ARM64-RELOC-ADDEND → ⊥) ⊎ Fills (readRecords contents sections first xs)
+      → NoLastAddend xs ⊎ Fills (readRecords contents sections first xs)
       → readRecords contents sections first (xs ++ (a ∷ (r ∷ ys))) ≡ readRecords contents sections first (xs ++ (b ∷ (q ∷ ys)))
   -- RULES 3.16: lists that agree in what is seen of an entry and in what its type uses of a target, number 11 aside, and of a taken one in addend and
   -- address, have the same outcome
@@ -110,25 +110,25 @@ pub record Ignored : Type 0 where
       → outcomeOf section b entries targets slots ≡ outcomeOf section b entries′ targets′ slots
   -- so a pc-relative or subtracted byte of an entry, and a spare one, may hold anything
   pub fix-up-spare : (section : List ℕ) (b : Bases) (entries targets slots : List ℕ) (i j v : ℕ) → ((6 ≤ j) × (j < 8)) ⊎ ((12 ≤ j) × (j < 16))
-      → outcomeOf section b entries targets slots ≡ outcomeOf section b (set entries (24 * i + j) v) targets slots
+      → outcomeOf section b entries targets slots ≡ outcomeOf section b (set entries (relocSize * i + j) v) targets slots
   -- the size byte, but for SUBTRACTOR
   pub fix-up-size : (section : List ℕ) (b : Bases) (entries targets slots : List ℕ) (i v : ℕ) → (lentEntry entries i .ty ≡ ARM64-RELOC-SUBTRACTOR → ⊥)
-      → outcomeOf section b entries targets slots ≡ outcomeOf section b (set entries (24 * i + 5) v) targets slots
+      → outcomeOf section b entries targets slots ≡ outcomeOf section b (set entries (relocSize * i + 5) v) targets slots
   -- a byte of the target field that leaves its bit 31
   pub fix-up-target-bits : (section : List ℕ) (b : Bases) (entries targets slots : List ℕ) (i j v : ℕ) → 8 ≤ j → j < 12
-      → isSection (lentEntry (set entries (24 * i + j) v) i .target) ≡ isSection (lentEntry entries i .target)
-      → outcomeOf section b entries targets slots ≡ outcomeOf section b (set entries (24 * i + j) v) targets slots
+      → isSection (lentEntry (set entries (relocSize * i + j) v) i .target) ≡ isSection (lentEntry entries i .target)
+      → outcomeOf section b entries targets slots ≡ outcomeOf section b (set entries (relocSize * i + j) v) targets slots
   -- and so may each byte of a taken entry but its addend's, and of its target but its address's
   pub fix-up-taken : (section : List ℕ) (b : Bases) (entries targets slots : List ℕ) (i j v : ℕ) → consumed entries i ≡ true → j < 16
-      → outcomeOf section b entries targets slots ≡ outcomeOf section b (set entries (24 * i + j) v) targets slots
-  pub fix-up-taken-target : (section : List ℕ) (b : Bases) (entries targets slots : List ℕ) (i j v : ℕ) → consumed entries i ≡ true → 8 ≤ j → j < 48
-      → outcomeOf section b entries targets slots ≡ outcomeOf section b entries (set targets (48 * i + j) v) slots
+      → outcomeOf section b entries targets slots ≡ outcomeOf section b (set entries (relocSize * i + j) v) targets slots
+  pub fix-up-taken-target : (section : List ℕ) (b : Bases) (entries targets slots : List ℕ) (i j v : ℕ) → consumed entries i ≡ true → 8 ≤ j → j < resolvedSize
+      → outcomeOf section b entries targets slots ≡ outcomeOf section b entries (set targets (resolvedSize * i + j) v) slots
   -- RULES 3.17: the hint run does not look at bytes 2 and 3 of a hint
   pub hint-bytes : (hints : List ℕ) (k i v : ℕ) (entries image : List ℕ) → (i ≡ 2) ⊎ (i ≡ 3)
-      → SameRuns image (set hints (64 * k + i) v) hints entries entries
+      → SameRuns image (set hints (hintSize * k + i) v) hints entries entries
   -- nor at a third place of a hint that has not three words
-  pub hint-places : (hints : List ℕ) (k i v : ℕ) (entries image : List ℕ) → 48 ≤ i → i < 64 → (hintOf hints k .n ≡ 3 → ⊥)
-      → SameRuns image (set hints (64 * k + i) v) hints entries entries
+  pub hint-places : (hints : List ℕ) (k i v : ℕ) (entries image : List ℕ) → 48 ≤ i → i < hintSize → (hintOf hints k .n ≡ 3 → ⊥)
+      → SameRuns image (set hints (hintSize * k + i) v) hints entries entries
   -- nor at anything of a skipped hint but that it is skipped: lists that differ in skipped hints alone, part, places, kind and object, have the same run
   pub hint-skipped : (hints others entries image : List ℕ) → length hints ≡ length others
       → ((k : ℕ) → k < hintCount hints
@@ -139,14 +139,14 @@ pub record Ignored : Type 0 where
       → ((k : ℕ) → k < hintCount hints → unaddressed (hintOf hints k) ≡ unaddressed (hintOf others k))
       → runNumber (runOf image hints entries) ≡ runNumber (runOf image others entries)
   pub hint-part : (h : HintRecord) (start len : ℕ) (entries words : List ℕ)
-      → HintRule.outcomeOf entries (elsewhere h start len) words ≡ HintRule.outcomeOf entries h words
+      → HintRule.hintOutcome entries (elsewhere h start len) words ≡ HintRule.hintOutcome entries h words
   -- of an entry it looks at type, target and addend alone, so not at its offset
   pub hint-entries : (entries entries′ image hints : List ℕ) → length entries ≡ length entries′
-      → ((k : ℕ) → k < length entries / 24
-      → (relocAt entries (24 * k) .ty ≡ relocAt entries′ (24 * k) .ty)
-      × (relocAt entries (24 * k) .target ≡ relocAt entries′ (24 * k) .target)
-      × (relocAt entries (24 * k) .addend ≡ relocAt entries′ (24 * k) .addend))
+      → ((k : ℕ) → k < length entries / relocSize
+      → (relocAt entries (relocSize * k) .ty ≡ relocAt entries′ (relocSize * k) .ty)
+      × (relocAt entries (relocSize * k) .target ≡ relocAt entries′ (relocSize * k) .target)
+      × (relocAt entries (relocSize * k) .addend ≡ relocAt entries′ (relocSize * k) .addend))
       → SameRuns image hints hints entries entries′
   -- so its spare bytes may hold anything
   pub hint-spare : (entries : List ℕ) (k i v : ℕ) → 12 ≤ i → i < 16 → (image hints : List ℕ)
-      → SameRuns image hints hints (set entries (24 * k + i) v) entries
+      → SameRuns image hints hints (set entries (relocSize * k + i) v) entries

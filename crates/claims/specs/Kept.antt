@@ -28,7 +28,7 @@ use Rattle.arm64_hint_order.specs.Lists.{Once}
 use Rattle.arm64_hint_order.specs.Cursor.{objectAt, lateAt, orderOf}
 use Rattle.arm64_hint_order.specs.Rising.{Rising}
 use Rattle.arm64_hint_work.specs.declared.tally.Tally.{Tally}
-use Rattle.arm64_hint_run.specs.Run.{worked, runOf, imageOf, runNumber, tallyAfter}
+use Rattle.arm64_hint_run.specs.Run.{worked, runOf, imageOf}
 use Rattle.arm64_hint_run.specs.declared.run.RunAnswer.{RunAnswer}
 use Rattle.arm64_hint_run.specs.declared.run.RunAnswer.the-variants.{Done}
 use Rattle.arm64_hint_kept.specs.HintsKept.{Fair, Same, HintsKept, Premises, Literally}
@@ -38,6 +38,7 @@ use Rattle.arm64_hint_kept.specs.Examples.{words, place, none-at, hintIn, lent,
 use Rattle.arm64_hint_kept.specs.ExampleRuns.{four, fourWords, fourAfter, beside, besideCalls, besideCounts, besideWords, besideAfter}
 use Rattle.arm64_hint_kept.specs.ExampleRuns.{falling, late, lateWords, lateAfter, AllEnd}
 use Rattle.arm64_hint_kept.specs.Needed.{Fails, Shared, Meeting}
+use Rattle.hauklivo.specs.Hints as HintsCall
 
 -- the first n words of a hint with their addresses
 abbrev pub placedOf : ℕ → Insns → List Placed
@@ -76,7 +77,7 @@ pub record Kept : Type 0 where
   pub hints-kept : (image hints entries : List ℕ) (t : Tally) → runOf image hints entries ≡ Done t
       → (l : List ℕ) → Once (hintCount hints) l → HintsKept image hints entries l t
   -- RULES 9.30: the run's own list has each hint once and keeps each object's own order
-  pub own-list : (hints : List ℕ) → Once (hintCount hints) (orderOf hints) × Order.Kept hints (orderOf hints)
+  pub own-list : (hints : List ℕ) → Once (hintCount hints) (orderOf hints) × Order.KeepsOrder hints (orderOf hints)
   -- RULES 8.27, 8.28: it rises by object, pass and position, and no other list with each hint once does
   pub own-rising : (hints : List ℕ) → Rising (objectAt hints) (lateAt hints) (orderOf hints)
   pub own-only : (hints l : List ℕ) → Once (hintCount hints) l → Rising (objectAt hints) (lateAt hints) l → l ≡ orderOf hints
@@ -91,14 +92,14 @@ pub record Kept : Type 0 where
       → (t : Tally) → answer ≡ Done t
       → (worked image hints entries (orderOf hints) ≡ record { image = left; tally = t })
       × (Once (hintCount hints) (orderOf hints))
-      × (Order.Kept hints (orderOf hints))
+      × (Order.KeepsOrder hints (orderOf hints))
       × ((l : List ℕ) → Once (hintCount hints) l → Literally image hints entries l t)
   -- RULES 1.9 to 1.13 of the exported call: `number`, `tally` and `left` are what the contract of hauklivo/src/hints.rt says that it returns and leaves
-  pub of-the-call : (image hints entries left : List ℕ) (old tally : Tally) (number : ℕ) → number ≡ runNumber (runOf image hints entries)
-      → tally ≡ tallyAfter old (runOf image hints entries) → left ≡ imageOf image hints entries → number ≡ 0
+  pub of-the-call : (image hints entries left : List ℕ) (old tally : Tally) (number : ℕ) → number ≡ HintsCall.numberTo image hints entries
+      → tally ≡ HintsCall.tallyTo image hints entries old → left ≡ HintsCall.imageTo image hints entries → number ≡ 0
       → (worked image hints entries (orderOf hints) ≡ record { image = left; tally = tally })
       × (Once (hintCount hints) (orderOf hints))
-      × (Order.Kept hints (orderOf hints))
+      × (Order.KeepsOrder hints (orderOf hints))
       × ((l : List ℕ) → Once (hintCount hints) l → Literally image hints entries l tally)
   -- RULES 9.31: a call for a part of the image leaves there what one run over the image leaves there
   pub part-call : (image hints entries : List ℕ) (t : Tally) → runOf image hints entries ≡ Done t
@@ -137,7 +138,7 @@ pub record Kept : Type 0 where
       × (runOf lateWords (lent late) pair ≡ Done (counts 1 0 1 0))
       × (imageOf lateWords (lent late) pair ≡ lateAfter)
       × (worked lateWords (lent late) pair (0 ∷ 1 ∷ []) ≡ record { image = words (0x90000000 ∷ 0xd503201f ∷ 0xf9400401 ∷ []); tally = counts 1 0 1 0 })
-      × (Order.Kept (lent late) (0 ∷ 1 ∷ []) → ⊥)
+      × (Order.KeepsOrder (lent late) (0 ∷ 1 ∷ []) → ⊥)
   -- RULES 9.21: without one premise, and with all the others, a rewrite need not run alike (Fails: arm64_hint_kept/specs/Needed). Disjoint
   pub needs-disjoint : Fails pair (hintIn 1 0 0 4 (place 0 0 0x1000) (place 0 0 0x1000) none-at) (0x90000000 ∷ [])
       (false ∷ true ∷ true ∷ true ∷ true ∷ true ∷ []) (0xd503201f ∷ [])
@@ -167,10 +168,10 @@ pub record Kept : Type 0 where
   -- a load takes 8 bits of each byte, at addresses modulo 2^64: ldr x1, [x0]
   pub load-bytes : (run idle (one 0x1000 0xf9400001) high) .x 1 ≡ 0x0100000000000000
   -- RULES 9.8: another word (prfm) sees its address and may change general registers; sees and may change vector registers; sees stack pointer and
-  -- memory, and its accesses are listed
+  -- memory, and its accesses are listed after those before it
   pub other-address : (run placing (one 0x1004 0xf9800000) high) .x 1 ≡ 0x1004
   pub other-vectors : (run copying (one 0x1004 0xf9800000) high) .v 2 ≡ 0x10f1
-  pub other-listed : (run loading (one 0x1004 0xf9800000) high) .log ≡ logged load 0x2000 1 0x200 ∷ []
+  pub other-listed : (run loading (two 0x1000 0x1004 0x39001001 0xf9800000) high) .log ≡ logged store 0 1 0xfc ∷ logged load 0x2000 1 0x200 ∷ []
   -- wrong rewrites do not run alike: an access dropped; a literal load of another address; an ADRP dropped, last or before another word; one other word
   -- for another; a load that copies the sign replaced by one that does not
   pub access-dropped : (w n : ℕ) {p rt rn i : ℕ} {row : Row} → action w ≡ access row rt rn i → action n ≡ nop → SameRun (one p w) (one p n) → ⊥

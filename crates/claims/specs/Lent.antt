@@ -1,18 +1,14 @@
--- Lent records as bytes, for the examples: entries, resolved targets, relocation records, hints, and an image of words.
-use mathlib.Core.List.{List, [], _∷_, _++_}
+-- Lent records as bytes, for the examples: entries, resolved targets, relocation records, hints. Words of an image, places of a hint and the halves of a
+-- reference are those of arm64_hint_kept/specs/Examples.
+use mathlib.Core.List.{List, _++_}
 use Prim.Native.Nat.{ℕ, _+_, _*_, _^_}
 use Rattle.util.specs.Word.{bytes}
-use Rattle.macho.specs.Types.{ARM64-RELOC-PAGE21, ARM64-RELOC-PAGEOFF12}
 use Rattle.macho.specs.Reloc.{relocBytes}
 use Rattle.macho.specs.Resolved.{resolvedBytes}
 use Rattle.macho.specs.Hint.{noEntry, hintBytes}
 use Rattle.macho.specs.declared.resolved.Resolved.{Resolved}
 use Rattle.macho.specs.declared.hint.HintInsn.{HintInsn}
-
--- words, one after another
-abbrev pub words : List ℕ → List ℕ
-words [] = []
-words (w ∷ ws) = bytes 4 w ++ words ws
+use Rattle.arm64_hint_kept.specs.Examples.{place}
 
 -- a NOP
 abbrev pub nop : List ℕ
@@ -42,18 +38,6 @@ target addr flags = record { addr = addr; got = 0; branch = addr; thunk = 0; hel
 -- its bytes
 abbrev pub resolved : (addr flags : ℕ) → List ℕ
 resolved addr flags = resolvedBytes (target addr flags)
-
--- a half of one reference, as an entry
-abbrev pub half : ℕ → List ℕ
-half ty = relocBytes (record { offset = 0; ty = ty; size = 4; «is_pcrel» = 1; «is_subtracted» = 0; target = 5; spare = 0; addend = 0 })
-
--- both of them
-abbrev pub pair : List ℕ
-pair = half ARM64-RELOC-PAGE21 ++ half ARM64-RELOC-PAGEOFF12
-
--- a place of a hint: offset, entry number, address
-abbrev pub place : (off rel addr : ℕ) → HintInsn
-place off rel addr = record { off = off; rel = rel; addr = addr }
 
 -- a hint of a kind with n words, of object 0, with its part and its places
 abbrev pub hint : (kind n start len : ℕ) (a b c : HintInsn) → List ℕ

@@ -25,7 +25,7 @@ use Rattle.lister_text.specs.Text.{className, lineOf, textOf}
 use Rattle.lister_text.specs.Listing.{outAfter}
 use Rattle.lister_text.specs.declared.class.Class.the-variants.{Adrp, Add, Load, Store, Other}
 use Rattle.hauklivo.specs.Lister.{numberTo, countTo}
-use Rattle.claims.specs.Lent.{words}
+use Rattle.arm64_hint_kept.specs.Examples.{words}
 
 -- the ASCII codes of a text
 abbrev pub codes : String → List ℕ

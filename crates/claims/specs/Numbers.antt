@@ -21,7 +21,8 @@ use Rattle.arm64_hint_check.specs.Check as HintCheck
 use Rattle.arm64_hint_run.specs.Run.{runOf, runNumber}
 use Rattle.hauklivo.specs.Reader as Reader
 use Rattle.hauklivo.specs.Fixup as Fixup
-use Rattle.claims.specs.Lent.{nop, machRel, entry, resolved, half, pair, place, hint, plain}
+use Rattle.arm64_hint_kept.specs.Examples.{half, pair, place}
+use Rattle.claims.specs.Lent.{nop, machRel, entry, resolved, hint, plain}
 
 -- the number of the reader without sections
 abbrev pub reader : (contents records slots : List ℕ) → ℕ
@@ -46,6 +47,10 @@ pastPart = hint MCLOH-AdrpLdr 2 0 8 (place 0 0 0) (place 5 0 0) (place 0 0 0)
 -- a hint that names the entries 0 and 1
 abbrev pub entryOne : List ℕ
 entryOne = plain MCLOH-AdrpLdr 2 0
+
+-- bytes of whole records of a size, at most 2^32 - 1 of them
+abbrev pub IsList : ℕ → ℕ → Type 0
+IsList len size = (len % size ≡ 0) × (len / size < 2 ^ 32)
 
 -- the numbers of refused calls: an example of each, and their order
 pub record Numbers : Type 0 where
@@ -147,11 +152,11 @@ pub record Numbers : Type 0 where
       → Fixup.numberTo section base tls entries targets slots ≡ 1
   pub counts-differ : (section : List ℕ) (base tls : ℕ) (entries targets slots : List ℕ)
       → (length entries / relocSize ≡ length targets / resolvedSize → ⊥) → Fixup.numberTo section base tls entries targets slots ≡ 1
-  -- of the hint run: no whole hints, no whole entries, 2^32 of either or more
-  pub hints-not-whole : (image hints entries : List ℕ) → (length hints % hintSize ≡ 0 → ⊥) → runNumber (runOf image hints entries) ≡ 1
-  pub hint-entries-not-whole : (image hints entries : List ℕ) → (length entries % relocSize ≡ 0 → ⊥) → runNumber (runOf image hints entries) ≡ 1
-  pub many-hints : (image hints entries : List ℕ) → 2 ^ 32 ≤ length hints / hintSize → runNumber (runOf image hints entries) ≡ 1
-  pub many-entries : (image hints entries : List ℕ) → 2 ^ 32 ≤ length entries / relocSize → runNumber (runOf image hints entries) ≡ 1
+  -- of the hint run: just where its hints or its entries are no list
+  pub hint-lengths : (image hints entries : List ℕ) → (IsList (length hints) hintSize × IsList (length entries) relocSize → ⊥)
+      → runNumber (runOf image hints entries) ≡ 1
+  pub hint-lengths-only : (image hints entries : List ℕ) → IsList (length hints) hintSize × IsList (length entries) relocSize
+      → runNumber (runOf image hints entries) ≡ 1 → ⊥
   -- RULES 3.10: 2, where there is no 1: fewer bytes of slots than an entry for each record, ADDEND too; than a report for each entry, taken ones too
   pub few-entry-slots : (contents records sections slots : List ℕ) → length records % machRelSize ≡ 0 → length records / machRelSize < 2 ^ 32
       → length sections < 2 ^ 32 → length slots < relocSize * (length records / machRelSize) → Reader.numberTo contents records sections slots ≡ 2

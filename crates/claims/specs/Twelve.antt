@@ -23,7 +23,8 @@ use Rattle.arm64_reader.specs.Read.{readRelocs}
 use Rattle.arm64_fixup.specs.Answer.{basesOf, Outcome, fixed, outcomeOf}
 use Rattle.arm64_hint_run.specs.Run.{runOf, imageOf}
 use Rattle.arm64_hint_run.specs.declared.run.RunAnswer.the-variants.{Done}
-use Rattle.claims.specs.Lent.{words, machRel, entry, has-address, can-relax-got, target, resolved, pair, plain}
+use Rattle.arm64_hint_kept.specs.Examples.{words, pair}
+use Rattle.claims.specs.Lent.{machRel, entry, has-address, can-relax-got, target, resolved, plain}
 
 -- the page that a decoded ADRP makes at pc
 abbrev pub pageMade : AdrpWord → ℕ → ℕ

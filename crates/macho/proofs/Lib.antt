@@ -2,3 +2,4 @@
 pub mod Record
 pub mod RoundTrip
 pub mod Packed
+pub mod Numbered

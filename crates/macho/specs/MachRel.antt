@@ -4,7 +4,7 @@ use mathlib.Core.List.{List, [], _∷_}
 use Rattle.util.specs.Word.{le}
 use Rattle.util.specs.Bits.{field}
 use Rattle.macho.specs.Record.{Field, _of_, bytesOf}
-use Rattle.macho.specs.declared.rel.MachRel.{MachRel}
+use Rattle.macho.specs.declared.mach_rel.MachRel.{MachRel}
 
 -- its size in bytes
 abbrev pub machRelSize : ℕ

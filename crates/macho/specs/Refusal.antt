@@ -28,6 +28,11 @@ abbrev pub checkNumber : Check → ℕ
 checkNumber C.Fit = 0
 checkNumber (C.Refused x) = numberOf x
 
+-- the first refusal of two checks
+abbrev pub first : Check → Check → Check
+first (C.Refused x) c = C.Refused x
+first C.Fit c = c
+
 -- the number of an answer: 0 where slots were filled
 abbrev pub answerNumber : Answer → ℕ
 answerNumber (A.Filled n) = 0

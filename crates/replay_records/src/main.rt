@@ -3,7 +3,7 @@
 use libc::STDOUT_FILENO;
 use macho::consts;
 use macho::hint::word_count;
-use macho::rel::MachRel;
+use macho::mach_rel::MachRel;
 ghost use Prim.Native.Nat.{_+_, _≤_, _<_};
 ghost use lib.ListN.{length};
 

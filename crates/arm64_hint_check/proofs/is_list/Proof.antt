@@ -13,9 +13,6 @@ rem-if1 c = search needs
 div-result : tie.Need-div-result
 div-result c = search needs
 
-cast-result : tie.Need-cast-result
-cast-result c = search needs
-
 returns : tie.Need-returns
 unfolding isList
 returns c = simp (eq-eqb _ _ (c .if1 .taken)) (few-is (c .before .args .len / c .before .args .size))
@@ -25,4 +22,4 @@ unfolding isList
 returns-2 c = simp (ne-eqb _ _ (c .if1 .left))
 
 pub is-list-spec : {M : Type 1} → statement M
-is-list-spec = tie.close (tie.spec rem-if1 div-result cast-result returns returns-2)
+is-list-spec = tie.close (tie.spec rem-if1 div-result returns returns-2)

@@ -6,7 +6,7 @@ use native.Mathlib.Omega.{arith}
 use borrow.Author.Tests.{eq-eqb, ne-eqb}
 use lib.Dec.{eqb}
 use Rattle.util.specs.Choice.{choose}
-use Rattle.arm64_insn.specs.declared.ldst.Access.the-variants.{Of, Neither}
+use Rattle.arm64_insn.specs.declared.ldst.Moved.the-variants.{Of, Neither}
 use Rattle.util.proofs.Shift.{one-shl}
 use Rattle.arm64_insn.proofs.Cells.{tested, found}
 use borrow.Author.Needs.{needs}

@@ -4,7 +4,7 @@ use mathlib.Core.Bool.{false}
 use Prim.Native.Nat.{_<_}
 use denote.Ref.{now}
 use lib.ListN.{length}
-use Rattle.macho.specs.declared.rel.MachRel.{MachRel}
+use Rattle.macho.specs.declared.mach_rel.MachRel.{MachRel}
 use Rattle.arch.specs.Table.{recordsOf, recordAt}
 use Rattle.arm64_reader.proofs.Steps.{past-is, entered-is, offset-within, own-there, own-missing}
 use borrow.Author.Needs.{needs}

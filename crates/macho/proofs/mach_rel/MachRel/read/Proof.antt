@@ -1,8 +1,8 @@
 -- Each field is what its call promises.
 use Rattle.macho.specs.MachRel.{machRelAt}
 use borrow.Author.Needs.{needs}
-use Rattle.macho.proofs.rel.MachRel.read.Statement.{statement}
-use Rattle.macho.proofs.rel.MachRel.read.Tie as tie
+use Rattle.macho.proofs.mach_rel.MachRel.read.Statement.{statement}
+use Rattle.macho.proofs.mach_rel.MachRel.read.Tie as tie
 
 read32-requires : tie.Need-read32-requires
 read32-requires c κs = search needs
