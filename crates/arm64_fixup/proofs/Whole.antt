@@ -4,9 +4,10 @@ use mathlib.Core.Bool.{Bool, true, false, _||_, not}
 use mathlib.Core.List.{List}
 use Prim.Native.Nat.{ℕ, _*_, _/_, _%_, _^_, _≤_, _<_}
 use native.Mathlib.Omega.{arith}
-use borrow.Author.Tests.{ltb-false, leb-false, eqb-true, le-leb}
-use lib.Dec.{eqb, leb}
+use borrow.Author.Tests.{ltb-false, eqb-true, lt-ltb}
+use lib.Dec.{eqb, ltb}
 use lib.ListN.{length}
+use Rattle.macho.specs.Record.{mostRecords}
 use Rattle.macho.specs.declared.refusal.Refusal.{Refusal}
 use Rattle.macho.specs.declared.refusal.Refusal.the-variants.{Lengths}
 use Rattle.util.specs.Choice.{choose}
@@ -46,12 +47,12 @@ unfolding checkLists
 lists entries targets slots h =
     let p = passed (disagree entries targets) _ _ h in
     let q = passed (lacksSlots entries slots) _ _ (p .1) in
-    let a = or-false (not (eqb (entries % 24) 0) || not (eqb (targets % 48) 0) || leb (2 ^ 32) (entries / 24)) _ (p .0) in
+    let a = or-false (not (eqb (entries % 24) 0) || not (eqb (targets % 48) 0) || ltb mostRecords (entries / 24)) _ (p .0) in
     let b = or-false (not (eqb (entries % 24) 0) || not (eqb (targets % 48) 0)) _ (a .0) in
     let c = or-false (not (eqb (entries % 24) 0)) _ (b .0) in
     record {
       whole = not-eqb _ _ (c .0);
-      few = leb-false _ _ (b .1);
+      few = let l = ltb-false mostRecords (entries / 24) (b .1) in omega arith;
       paired = not-eqb _ _ (a .1);
       enough = ltb-false _ _ (q .0);
     }
@@ -72,7 +73,7 @@ module _ (section : List ℕ) (b : Bases) (entries targets slots : List ℕ) whe
   -- RULES 3.9: 2^32 entries or more are number 1
   pub too-many : 2 ^ 32 ≤ length entries / 24 → outcomeOf section b entries targets slots ≡ refused Lengths
   unfolding outcomeOf checkLists choose
-  too-many h = rw (le-leb (2 ^ 32) (length entries / 24) h, or-true (not (eqb (length entries % 24) 0) || not (eqb (length targets % 48) 0)))
+  too-many h = rw (lt-ltb mostRecords (length entries / 24) (omega arith), or-true (not (eqb (length entries % 24) 0) || not (eqb (length targets % 48) 0)))
 
   module _ (fit : checkLists (length entries) (length targets) (length slots) ≡ C.Fit) where
     pub by-entry : {c : Check} {r : Refusal} → c ≡ checkAll (length section) b entries targets → c ≡ C.Refused r

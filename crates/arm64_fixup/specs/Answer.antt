@@ -1,11 +1,11 @@
 -- The whole call: a refusal that leaves everything, or the fixed section with its reports (RULES 3.2, 3.5, 3.9, 3.10, 2.25).
-use Prim.Native.Nat.{ℕ, _*_, _/_, _%_, _^_}
+use Prim.Native.Nat.{ℕ, _*_, _/_, _%_}
 use mathlib.Core.Bool.{Bool, _||_, not}
 use mathlib.Core.List.{List, _++_}
-use lib.Dec.{eqb, ltb, leb}
+use lib.Dec.{eqb, ltb}
 use lib.ListN.{length, drop}
 use Rattle.util.specs.Choice.{choose}
-use Rattle.macho.specs.Record.{listBytes}
+use Rattle.macho.specs.Record.{listBytes, mostRecords}
 use Rattle.macho.specs.Reloc.{relocSize}
 use Rattle.macho.specs.Resolved.{resolvedSize}
 use Rattle.macho.specs.Report.{reportSize, reportBytes}
@@ -23,7 +23,7 @@ abbrev pub disagree : ℕ → ℕ → Bool
 disagree entries targets =
     not (eqb (entries % relocSize) 0)
     || not (eqb (targets % resolvedSize) 0)
-    || leb (2 ^ 32) (entries / relocSize)
+    || ltb mostRecords (entries / relocSize)
     || not (eqb (entries / relocSize) (targets / resolvedSize))
 
 -- number 2: fewer slots than entries

@@ -8,12 +8,13 @@ use Prim.Native.Nat.{ℕ, zero, suc, _+_, _-_, _*_, _/_, _%_, _^_, _≤_, _<_}
 use native.Mathlib.Omega.{arith}
 use native.Mathlib.Nat.{not-suc-le-zero, eq-or-lt-of-le, le-of-suc-le-suc}
 use native.Mathlib.Numerals.{add-one}
-use borrow.Author.Tests.{eq-eqb, ne-eqb, lt-ltb, le-ltb, le-leb, lt-leb, ltb-true, ltb-false, leb-false}
+use borrow.Author.Tests.{eq-eqb, ne-eqb, lt-ltb, le-ltb, le-leb, lt-leb, leb-true, ltb-false, leb-false}
 use lib.Dec.{eqb, ltb, leb}
 use lib.ListN.{length}
 use Rattle.util.specs.All.{empty, more}
 use Rattle.util.proofs.Choice.{split, choose-false, choose-first, both}
 use Rattle.util.proofs.Cases.{same-or, less-or}
+use Rattle.macho.specs.Record.{mostRecords}
 use Rattle.macho.specs.Hint.{hintSize, noEntry, hintCount, hintOf}
 use Rattle.macho.specs.Reloc.{relocSize}
 use Rattle.macho.specs.declared.hint.HintInsn.{HintInsn}
@@ -59,12 +60,6 @@ pub past-is : (len : ℕ) (i : HintInsn) → 4 ≤ len → ltb (len - 4) (i .off
 past-is len i h =
     less-or (len - 4) (i .off) (λ l. lt-ltb (len - 4) (i .off) l ∙ sym (lt-ltb len (i .off + 4) (omega arith)))
     (λ l. le-ltb (len - 4) (i .off) l ∙ sym (le-ltb len (i .off + 4) (omega arith)))
-
--- a count of 32 bits
-pub few-is : (n : ℕ) → leb n 0xffff_ffff ≡ ltb n (2 ^ 32)
-few-is n =
-    less-or n (2 ^ 32) (λ l. le-leb n 0xffff_ffff (omega arith) ∙ sym (lt-ltb n (2 ^ 32) l))
-    (λ l. lt-leb n 0xffff_ffff (omega arith) ∙ sym (le-ltb n (2 ^ 32) l))
 
 -- the number of an entry and one more, from 2^32 - 1 back to 0, against the count
 pub absent-is : (count : ℕ) (i : HintInsn) → i .rel < 2 ^ 32 → ltb count ((i .rel + 1) % 0x1_0000_0000) ≡ namesAbsent count i
@@ -232,7 +227,8 @@ module _ (len : ℕ) (hints : List ℕ) (entries : ℕ) where
         let t = both-fit (checkLists (length hints) entries) (checkTo len (entries / relocSize) hints (hintCount hints)) fit in
         let l = choose-first (isList (length hints) hintSize && isList entries relocSize) Fit (Refused Lengths) Fit (t .0) (λ q. never q) in
         let m = both (isList (length hints) hintSize) (isList entries relocSize) (l .0) in
-        ltb-true (hintCount hints) (2 ^ 32) (both (eqb (length hints % hintSize) 0) (ltb (hintCount hints) (2 ^ 32)) (m .0) .1)
+        let n = leb-true (hintCount hints) mostRecords (both (eqb (length hints % hintSize) 0) (leb (hintCount hints) mostRecords) (m .0) .1) in
+        omega arith
 
     pub each-fit : (k : ℕ) → k < hintCount hints → checkHint len (entries / relocSize) (hintOf hints k) ≡ Fit
     unfolding checkAll

@@ -1,10 +1,12 @@
 -- Which number a hint run is turned down with (RULES 3.6, 3.9): 1, then by list position 3 (part, then words) and 12.
-use Prim.Native.Nat.{ℕ, zero, suc, _+_, _/_, _%_, _^_}
+use Prim.Native.Nat.{ℕ, zero, suc, _+_, _/_, _%_, _≤_}
+use mathlib.Core.Path.{_≡_}
 use mathlib.Core.Bool.{Bool, false, _&&_, _||_, not}
 use mathlib.Core.List.{List, [], _∷_}
 use lib.Dec.{eqb, ltb, leb}
 use lib.ListN.{length}
 use Rattle.util.specs.Choice.{choose}
+use Rattle.macho.specs.Record.{mostRecords}
 use Rattle.macho.specs.Hint.{hintSize, noEntry, hintCount, hintOf}
 use Rattle.macho.specs.Reloc.{relocSize}
 use Rattle.macho.specs.declared.hint.HintInsn.{HintInsn}
@@ -19,7 +21,11 @@ use Rattle.arm64_hint_check.specs.declared.Checked.the-variants as Said
 
 -- whether len bytes are whole records of a size, at most 2^32 - 1 of them
 unfoldable pub isList : ℕ → ℕ → Bool
-isList len size = eqb (len % size) 0 && ltb (len / size) (2 ^ 32)
+isList len size = eqb (len % size) 0 && leb (len / size) mostRecords
+
+-- the same as a statement
+abbrev pub IsList : ℕ → ℕ → Type 0
+IsList len size = (len % size ≡ 0) × (len / size ≤ mostRecords)
 
 -- number 1: the lengths of hints and entries in bytes
 unfoldable pub checkLists : ℕ → ℕ → Check

@@ -1,5 +1,5 @@
 -- Calls for parts of an image (RULES 9.31, 9.32): three hints in two calls. Each fact is computed, by position.
-use mathlib.Core.Path.{_≡_, refl, sym, subst}
+use mathlib.Core.Path.{_≡_, refl, sym, ap, subst, _∙_}
 use mathlib.Core.Logic.{inl, inr}
 use mathlib.Core.Bool.{true}
 use mathlib.Core.List.{[], _∷_}
@@ -27,6 +27,14 @@ two-apart p q h g b s w =
     spans-apart 16 12 0 16 (inr (lit≤ tt)) b s
     (words-inside 0 16 (more {k = p} (omega arith, omega arith) (more {k = q} (omega arith, omega arith) empty)) b w)
 
+-- the first two hints are of object 1, and in their call of object 0
+first-object : (j : ℕ) → j < 2 → (hintOf (lent beside) j .object ≡ 1) × (hintOf (lent (besideFirst 0)) j .object ≡ 0)
+unfolding runs
+first-object j l =
+    let is : (i : ℕ) → Type 0 = λ i. (hintOf (lent beside) i .object ≡ 1) × (hintOf (lent (besideFirst 0)) i .object ≡ 0) in
+    same-or 0 j (λ e. subst (λ (i : ℕ). is i) e (refl, refl))
+    (λ ne. let e : 1 ≡ j = omega arith in subst (λ (i : ℕ). is i) e (refl, refl))
+
 first-call : PartCall (lent beside) pair (besideCalls 0)
 unfolding runs
 first-call = record {
@@ -34,11 +42,13 @@ first-call = record {
   rises = λ i j l h. l;
   same = λ j h.
       let l : j < 2 = h in
-      let is : (i : ℕ) → Type 0 = λ i. SameHint 0 pair (hintOf (lent beside) i) pair (hintOf (lent besideFirst) i) in
+      let is : (i : ℕ) → Type 0 = λ i. SameHint 0 pair (hintOf (lent beside) i) pair (hintOf (lent (besideFirst 0)) i) in
       same-or 0 j
-      (λ e. subst (λ (i : ℕ). is i) e (record { kind = refl; n = refl; object = refl; start = refl; offsets = refl; addresses = refl; names = refl }))
+      (λ e. subst (λ (i : ℕ). is i) e (record { kind = refl; n = refl; start = refl; offsets = refl; addresses = refl; names = refl }))
       (λ ne. let e : 1 ≡ j = omega arith in
-      subst (λ (i : ℕ). is i) e (record { kind = refl; n = refl; object = refl; start = refl; offsets = refl; addresses = refl; names = refl }));
+      subst (λ (i : ℕ). is i) e (record { kind = refl; n = refl; start = refl; offsets = refl; addresses = refl; names = refl }));
+  objects-rise = λ i j hi hj l. absurd (omega (arith, first-object i hi .0, first-object j hj .0, l));
+  objects-same = λ i j hi hj e. first-object i hi .1 ∙ sym (first-object j hj .1);
   others = λ k h away.
       let l : k < 3 = h in
       same-or 0 k (λ e. absurd (away 0 (lit< tt) e))
@@ -59,7 +69,9 @@ last-call c = record {
       let l : j < 1 = h in
       let e : 0 ≡ j = omega arith in
       subst (λ (i : ℕ). SameHint 16 pair (hintOf (lent beside) (i + 2)) pair (hintOf (lent (besideLast 0)) i)) e
-      (record { kind = refl; n = refl; object = refl; start = refl; offsets = refl; addresses = refl; names = refl });
+      (record { kind = refl; n = refl; start = refl; offsets = refl; addresses = refl; names = refl });
+  objects-rise = λ i j hi hj l. let a : i < 1 = hi in let b : j < 1 = hj in let e : i ≡ j = omega arith in absurd (omega (arith, ap (λ (k : ℕ). hintOf (lent beside) (k + 2) .object) e, l));
+  objects-same = λ i j hi hj q. let a : i < 1 = hi in let b : j < 1 = hj in let e : i ≡ j = omega arith in ap (λ (k : ℕ). hintOf (lent (besideLast 0)) k .object) e;
   others = λ k h away.
       let l : k < 3 = h in
       same-or k 2 (λ e. absurd (away 0 (lit< tt) (sym e)))

@@ -137,7 +137,7 @@ module _ (hints entries : List ℕ) (c : Call) (call : PartCall hints entries c)
   pub own-order : pick (c .at) (hintCount (c .hints)) (orderOf hints) .0 ≡ orderOf (c .hints)
   own-order =
       own-pick (c .at) (hintCount (c .hints)) (call .rises) (objectAt hints) (objectAt (c .hints)) (lateAt hints) (lateAt (c .hints))
-      (λ j l. call .same j l .object)
+      (call .objects-rise) (call .objects-same)
       (λ j l. ap (λ (k : ℕ). eqb k MCLOH-AdrpAdrp) (call .same j l .kind))
       (hintCount hints) (call .inside)
 

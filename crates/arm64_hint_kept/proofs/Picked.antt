@@ -69,13 +69,14 @@ module _ (at : ℕ → ℕ) (n : ℕ) (rises : (i j : ℕ) → i < j → j < n �
       (λ ne. count-there i j m ne ∙ picked-count p j h ∙ sym (count-there (at i) (at j) l (λ e. ne (one-to-one i j hi h e))))
   picked-count (other {l = l} k away p) j h = picked-count p j h ∙ sym (count-there k (at j) l (λ e. away j h (sym e)))
 
-  module _ (obj obj′ : ℕ → ℕ) (late late′ : ℕ → Bool) (same-object : (j : ℕ) → j < n → obj (at j) ≡ obj′ j)
+  module _ (obj obj′ : ℕ → ℕ) (late late′ : ℕ → Bool) (rise : (i j : ℕ) → i < n → j < n → obj (at i) < obj (at j) → obj′ i < obj′ j)
+      (same-object : (i j : ℕ) → i < n → j < n → obj (at i) ≡ obj (at j) → obj′ i ≡ obj′ j)
       (same-pass : (j : ℕ) → j < n → late (at j) ≡ late′ j) where
     before-back : (i j : ℕ) → i < n → j < n → Before obj late (at i) (at j) → Before obj′ late′ i j
-    before-back i j hi hj (by-object a) = by-object (omega (arith, same-object i hi, same-object j hj))
-    before-back i j hi hj (by-pass e f g) = by-pass (sym (same-object i hi) ∙ e ∙ same-object j hj) (sym (same-pass i hi) ∙ f) (sym (same-pass j hj) ∙ g)
+    before-back i j hi hj (by-object a) = by-object (rise i j hi hj a)
+    before-back i j hi hj (by-pass e f g) = by-pass (same-object i j hi hj e) (sym (same-pass i hi) ∙ f) (sym (same-pass j hj) ∙ g)
     before-back i j hi hj (by-position e f g) =
-        by-position (sym (same-object i hi) ∙ e ∙ same-object j hj) (sym (same-pass i hi) ∙ f ∙ same-pass j hj) (back i j hi g)
+        by-position (same-object i j hi hj e) (sym (same-pass i hi) ∙ f ∙ same-pass j hj) (back i j hi g)
 
     picked-rising : {l m : List ℕ} → Picked at n l m → Rising obj late l → Rising obj′ late′ m
     picked-rising none r = last

@@ -31,11 +31,11 @@ fourWords = words (0x90000000 ∷ 0xf9400401 ∷ 0x90008000 ∷ 0x91000000 ∷ 0
 abbrev pub fourAfter : List ℕ
 fourAfter = words (0xd503201f ∷ 0x58000021 ∷ 0x90008000 ∷ 0x91000000 ∷ 0x90000001 ∷ 0xbd29d025 ∷ [])
 
--- two hints in one part, whose words share no byte: adrp x0; ldr x1, [x0, #0x100]; adrp x0; add x0, x0, #3
-abbrev pub besideFirst : List HintRecord
-besideFirst =
-    hintIn 2 1 0 16 (place 0 0 0x1000) (place 4 1 0x1004) none-at
-    ∷ hintIn 7 1 0 16 (place 8 0 0x1008) (place 12 1 0x100c) none-at
+-- two hints of an object in one part, whose words share no byte: adrp x0; ldr x1, [x0, #0x100]; adrp x0; add x0, x0, #3
+abbrev pub besideFirst : ℕ → List HintRecord
+besideFirst object =
+    hintIn 2 object 0 16 (place 0 0 0x1000) (place 4 1 0x1004) none-at
+    ∷ hintIn 7 object 0 16 (place 8 0 0x1008) (place 12 1 0x100c) none-at
     ∷ []
 
 -- one of another object, whose part begins at a byte of the image: adrp x0; add x0, x0, #16; str x1, [x0]
@@ -44,11 +44,11 @@ besideLast start = hintIn 5 0 start 12 (place 0 0 0x1010) (place 4 1 0x1014) (pl
 
 -- all three in one run
 abbrev pub beside : List HintRecord
-beside = besideFirst ++ besideLast 16
+beside = besideFirst 1 ++ besideLast 16
 
 -- a call for the first two, and one for the last
 abbrev pub besideCalls : ℕ → Call
-besideCalls zero = record { start = 0; len = 16; hints = lent besideFirst; entries = pair; at = λ j. j }
+besideCalls zero = record { start = 0; len = 16; hints = lent (besideFirst 0); entries = pair; at = λ j. j }
 besideCalls (suc c) = record { start = 16; len = 12; hints = lent (besideLast 0); entries = pair; at = λ j. j + 2 }
 
 -- what they count

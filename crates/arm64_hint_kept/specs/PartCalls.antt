@@ -9,6 +9,7 @@ use Rattle.macho.specs.Hint.{hintCount, hintOf}
 use Rattle.macho.specs.declared.hint.HintRecord.{HintRecord}
 use Rattle.image.specs.Words.{span}
 use Rattle.image.specs.Local.{Apart}
+use Rattle.arm64_hint_order.specs.Cursor.{objectAt}
 use Rattle.arm64_hint_places.specs.Hint.{offsOf, addrsOf, relsOf}
 use Rattle.arm64_hint_work.specs.declared.tally.Tally.{Tally}
 use Rattle.arm64_hint_run.specs.Run.{zeros, runOf}
@@ -19,7 +20,6 @@ use Rattle.arm64_hint_kept.specs.HintsKept.{wordBytes}
 pub record SameHint (a : ℕ) (entries : List ℕ) (h : HintRecord) (entries′ : List ℕ) (g : HintRecord) : Type 0 where
   pub kind : h .kind ≡ g .kind
   pub n : h .n ≡ g .n
-  pub object : h .object ≡ g .object
   pub start : h .start ≡ a + g .start
   pub offsets : offsOf h ≡ offsOf g
   pub addresses : addrsOf h ≡ addrsOf g
@@ -37,11 +37,16 @@ pub record Call : Type 0 where
 abbrev pub partOf : Call → List ℕ → List ℕ
 partOf c image = part image (c .start) (c .len)
 
--- the call's hints are hints of the run, in the run's list order, and no other hint of the run has a word in its bytes
+-- the call's hints are hints of the run, in the run's list order; its object numbers rise and are equal where the run's are; no other hint of the run has a
+-- word in its bytes
 pub record PartCall (hints entries : List ℕ) (c : Call) : Type 0 where
   pub inside : (j : ℕ) → j < hintCount (c .hints) → c .at j < hintCount hints
   pub rises : (i j : ℕ) → i < j → j < hintCount (c .hints) → c .at i < c .at j
   pub same : (j : ℕ) → j < hintCount (c .hints) → SameHint (c .start) entries (hintOf hints (c .at j)) (c .entries) (hintOf (c .hints) j)
+  pub objects-rise : (i j : ℕ) → i < hintCount (c .hints) → j < hintCount (c .hints)
+      → objectAt hints (c .at i) < objectAt hints (c .at j) → objectAt (c .hints) i < objectAt (c .hints) j
+  pub objects-same : (i j : ℕ) → i < hintCount (c .hints) → j < hintCount (c .hints)
+      → objectAt hints (c .at i) ≡ objectAt hints (c .at j) → objectAt (c .hints) i ≡ objectAt (c .hints) j
   pub others : (k : ℕ) → k < hintCount hints → ((j : ℕ) → j < hintCount (c .hints) → c .at j ≢ k)
       → Apart (span (c .start) (c .len)) (wordBytes (hintOf hints k))
 

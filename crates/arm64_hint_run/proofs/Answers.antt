@@ -1,13 +1,12 @@
--- What a run says beside its promise: LLVM's kinds are worked; too many records are number 1; the run's number is the check's; a refusal leaves the image;
+-- What a run says beside its promise: LLVM's kinds are worked; lists that are none are number 1; the run's number is the check's; a refusal leaves the image;
 -- a run that is done is the list of its order of work, and its counts add up to the hints; a hint answered nine leaves its words and the run goes on;
 -- ADRP_ADRP on one word twice blanks it. Carried by the choices of the definitions.
 use mathlib.Core.Path.{_≡_, refl, sym, ap, _∙_}
-use mathlib.Core.Bool.{Bool, true, false, _&&_, _||_, not}
+use mathlib.Core.Bool.{true, false, _&&_, _||_, not}
 use mathlib.Core.List.{List, [], _∷_, map}
 use mathlib.Core.Option.{Option}
-use Prim.Native.Nat.{ℕ, _+_, _/_, _%_, _^_, _≤_}
+use Prim.Native.Nat.{ℕ, _+_, _/_}
 use native.Mathlib.Omega.{arith}
-use borrow.Author.Tests.{le-ltb}
 use lib.Dec.{eqb}
 use lib.ListN.{length}
 use Rattle.util.specs.Choice.{choose}
@@ -54,10 +53,6 @@ use Rattle.arm64_hint_work.proofs.Steps.{total-add}
 use Rattle.arm64_hint_run.specs.Run.{start, worked, answerBy, imageBy, runOf, imageOf, runNumber}
 use Rattle.arm64_hint_run.specs.declared.run.RunAnswer.the-variants as A
 
-both-fail : (a : Bool) {b : Bool} → b ≡ false → (a && b) ≡ false
-both-fail true e = e
-both-fail false e = refl
-
 -- ---- LLVM's kinds
 
 -- a hint is skipped exactly where there is no such kind, or its word count is not the number of that kind's words
@@ -75,16 +70,6 @@ module _ (image hints entries : List ℕ) where
       ap (λ (c : Check). answerBy (first c (checkTo (length image) (length entries / relocSize) hints (hintCount hints)))
       (worked image hints entries (orderOf hints) .tally))
       (choose-false (isList (length hints) hintSize && isList (length entries) relocSize) C.Fit (C.Refused Lengths) e)
-
-  pub too-many-hints : 2 ^ 32 ≤ hintCount hints → runOf image hints entries ≡ A.Refused Lengths
-  unfolding isList
-  too-many-hints h =
-      not-lists (ap (λ (b : Bool). b && isList (length entries) relocSize) (both-fail (eqb (length hints % hintSize) 0) (le-ltb (hintCount hints) (2 ^ 32) h)))
-
-  pub too-many-entries : 2 ^ 32 ≤ length entries / relocSize → runOf image hints entries ≡ A.Refused Lengths
-  unfolding isList
-  too-many-entries h =
-      not-lists (both-fail (isList (length hints) hintSize) (both-fail (eqb (length entries % relocSize) 0) (le-ltb (length entries / relocSize) (2 ^ 32) h)))
 
   -- the run's number is the check's
   pub number-is : runNumber (runOf image hints entries) ≡ checkNumber (checkAll (length image) hints (length entries))

@@ -3,12 +3,13 @@
 use mathlib.Core.Path.{_≡_, refl, sym, ap, _∙_}
 use mathlib.Core.Bool.{Bool, true, false, _&&_}
 use mathlib.Core.List.{List}
-use Prim.Native.Nat.{ℕ, zero, suc, _/_, _%_, _^_, _<_}
+use Prim.Native.Nat.{ℕ, zero, suc, _/_, _%_}
 use native.Mathlib.Omega.{arith}
-use borrow.Author.Tests.{eq-eqb, eqb-true, lt-ltb, ltb-true}
-use lib.Dec.{eqb, ltb}
+use borrow.Author.Tests.{eq-eqb, eqb-true, le-leb, leb-true}
+use lib.Dec.{eqb, leb}
 use lib.ListN.{length}
 use Rattle.util.proofs.Choice.{chosen, choose-true, choose-false, both}
+use Rattle.macho.specs.Record.{mostRecords}
 use Rattle.macho.specs.Hint.{hintSize, hintCount, hintOf}
 use Rattle.macho.specs.Reloc.{relocSize}
 use Rattle.macho.specs.Refusal.{first, checkNumber}
@@ -16,22 +17,18 @@ use Rattle.macho.specs.declared.hint.HintRecord.{HintRecord}
 use Rattle.macho.specs.declared.refusal.Refusal.the-variants.{Lengths, Bounds, NoEntry}
 use Rattle.macho.specs.declared.refusal.Check.{Check}
 use Rattle.macho.specs.declared.refusal.Check.the-variants.{Fit, Refused}
-use Rattle.arm64_hint_check.specs.Check.{isList, checkLists, checkHint, checkTo, checkAll}
+use Rattle.arm64_hint_check.specs.Check.{isList, IsList, checkLists, checkHint, checkTo, checkAll}
 use Rattle.arm64_hint_run.specs.Run.{runOf, runNumber}
 use Rattle.arm64_hint_run.proofs.Answers.{number-is}
-
--- bytes that are whole records of a size, at most 2^32 - 1 of them
-abbrev pub IsList : ℕ → ℕ → Type 0
-IsList len size = (len % size ≡ 0) × (len / size < 2 ^ 32)
 
 list-is : (len size : ℕ) → isList len size ≡ true → IsList len size
 unfolding isList
 list-is len size e =
-    let t = both (eqb (len % size) 0) (ltb (len / size) (2 ^ 32)) e in (eqb-true (len % size) 0 (t .0), ltb-true (len / size) (2 ^ 32) (t .1))
+    let t = both (eqb (len % size) 0) (leb (len / size) mostRecords) e in (eqb-true (len % size) 0 (t .0), leb-true (len / size) mostRecords (t .1))
 
 is-list : (len size : ℕ) → IsList len size → isList len size ≡ true
 unfolding isList
-is-list len size h = rw (eq-eqb (len % size) 0 (h .0), lt-ltb (len / size) (2 ^ 32) (h .1))
+is-list len size h = rw (eq-eqb (len % size) 0 (h .0), le-leb (len / size) mostRecords (h .1))
 
 -- a check that is not number 1
 abbrev Other : Check → Type 0

@@ -38,5 +38,5 @@ other-vectors = refl
 -- sees stack pointer and memory, and its access is listed after those before it: strb w1, [x0, #4]; prfm
 pub other-listed : (run loading (placed 0x39001001 0x1000 ∷ placed 0xf9800000 0x1004 ∷ []) high) .log
     ≡ logged store 0 1 0xfc ∷ logged load 0x2000 1 0x200 ∷ []
-unfolding action decode choose rowOf literalRowOf literalTarget accessAddress base moved read write setX setV setMemory listed
+unfolding action decode choose rowOf accessAddress base moved write setMemory listed
 other-listed = refl

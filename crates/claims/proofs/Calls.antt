@@ -8,7 +8,6 @@ use lib.ListN.{length}
 use Rattle.util.specs.Choice.{choose}
 use Rattle.util.proofs.Choice.{chosen}
 use Rattle.macho.specs.Refusal.{answerNumber}
-use Rattle.macho.specs.declared.refusal.Refusal.{Refusal}
 use Rattle.macho.proofs.Numbered.{numbered}
 use Rattle.macho.specs.declared.refusal.Answer.{Answer}
 use Rattle.macho.specs.declared.refusal.Answer.the-variants as A

@@ -1,5 +1,5 @@
 -- Relocation records: the round trips of macho, and the tables of the reader.
-use mathlib.Core.Path.{_≡_, refl}
+use mathlib.Core.Path.{refl}
 use mathlib.Core.List.{List}
 use Prim.Native.Nat.{ℕ}
 use Rattle.macho.specs.Record.{Field}

@@ -1,23 +1,23 @@
 -- Which number: the examples that each call's crate computed; the first entry or hint that has one, by induction over those before it; the lengths, by the
 -- choices of their checks.
 use mathlib.Core.Path.{_≡_, refl, ap, _∙_}
-use mathlib.Core.Bool.{Bool, true, false, _&&_, _||_, not}
+use mathlib.Core.Bool.{Bool, true, false, _||_, not}
 use mathlib.Core.Logic.{_⊎_, ⊎-elim}
 use mathlib.Core.List.{List}
 use Prim.Native.Nat.{ℕ, zero, suc, _*_, _/_, _%_, _^_, _≤_, _<_}
 use native.Mathlib.Omega.{arith}
 use native.Mathlib.Nat.{not-suc-le-zero, eq-or-lt-of-le, le-of-suc-le-suc}
-use borrow.Author.Tests.{eq-eqb, ne-eqb, le-leb, lt-leb, lt-ltb, eqb-true, eqb-false, ltb-true, ltb-false}
-use lib.Dec.{eqb, ltb, leb}
+use borrow.Author.Tests.{eq-eqb, ne-eqb, le-ltb, lt-ltb, eqb-true, eqb-false, ltb-true, ltb-false}
+use lib.Dec.{eqb, ltb}
 use lib.ListN.{length, getD}
 use Rattle.util.specs.Choice.{choose}
 use Rattle.util.specs.Word.{le, bytes}
 use Rattle.macho.specs.MachRel.{machRelAt}
-use Rattle.macho.specs.Record.{bytesOf}
+use Rattle.macho.specs.Record.{bytesOf, mostRecords}
 use Rattle.macho.specs.Reloc.{relocSize, relocAt, relocBytes}
 use Rattle.macho.specs.Resolved.{resolvedSize, resolvedAt, resolvedBytes, wellFormed}
 use Rattle.macho.specs.Report.{reportSize}
-use Rattle.macho.specs.Hint.{hintSize, hintCount, hintOf}
+use Rattle.macho.specs.Hint.{hintCount, hintOf}
 use Rattle.macho.specs.Refusal.{numberOf, answerNumber}
 use Rattle.macho.specs.declared.refusal.Refusal.{Refusal}
 use Rattle.macho.specs.declared.refusal.Check.{Check}
@@ -39,7 +39,7 @@ use Rattle.arm64_fixup.specs.Answer as Answer
 use Rattle.arm64_fixup.specs.Answer.{disagree, basesOf, outcomeOf}
 use Rattle.arm64_fixup.proofs.Examples as Fix
 use Rattle.arm64_hint_check.specs.Check as HintCheck
-use Rattle.arm64_hint_check.specs.Check.{isList, checkAll}
+use Rattle.arm64_hint_check.specs.Check.{checkAll}
 use Rattle.arm64_hint_run.specs.Run.{runNumber, runOf}
 use Rattle.arm64_hint_run.proofs.Examples as Hints
 use Rattle.arm64_hint_run.proofs.Answers.{number-is}
@@ -145,7 +145,7 @@ module _ (section : List ℕ) (base tls : ℕ) (entries targets slots : List ℕ
   targetsCut = not (eqb (length targets % resolvedSize) 0)
 
   abbrev many : Bool
-  many = leb (2 ^ 32) (length entries / relocSize)
+  many = ltb mostRecords (length entries / relocSize)
 
   abbrev differ : Bool
   differ = not (eqb (length entries / relocSize) (length targets / resolvedSize))
@@ -157,7 +157,7 @@ module _ (section : List ℕ) (base tls : ℕ) (entries targets slots : List ℕ
   targets-not-whole h = disagreeing (second cut targetsCut many differ (rw (ne-eqb (length targets % resolvedSize) 0 h)))
 
   many-fix-up-entries : 2 ^ 32 ≤ length entries / relocSize → Fixup.numberTo section base tls entries targets slots ≡ 1
-  many-fix-up-entries h = disagreeing (third cut targetsCut many differ (le-leb (2 ^ 32) (length entries / relocSize) h))
+  many-fix-up-entries h = disagreeing (third cut targetsCut many differ (lt-ltb mostRecords (length entries / relocSize) (omega arith)))
 
   counts-differ : (length entries / relocSize ≡ length targets / resolvedSize → ⊥) → Fixup.numberTo section base tls entries targets slots ≡ 1
   counts-differ h = disagreeing (fourth cut targetsCut many differ (rw (ne-eqb (length entries / relocSize) (length targets / resolvedSize) h)))
@@ -170,7 +170,7 @@ module _ (section : List ℕ) (base tls : ℕ) (entries targets slots : List ℕ
       simp (
         eq-eqb (length entries % 24) 0 e,
         eq-eqb (length targets % 48) 0 f,
-        lt-leb (2 ^ 32) (length entries / 24) l,
+        le-ltb mostRecords (length entries / 24) (omega arith),
         eq-eqb (length entries / 24) (length targets / 48) q,
         lt-ltb (length slots) (24 * (length entries / 24)) h,
       )

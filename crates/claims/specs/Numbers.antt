@@ -48,10 +48,6 @@ pastPart = hint MCLOH-AdrpLdr 2 0 8 (place 0 0 0) (place 5 0 0) (place 0 0 0)
 abbrev pub entryOne : List ℕ
 entryOne = plain MCLOH-AdrpLdr 2 0
 
--- bytes of whole records of a size, at most 2^32 - 1 of them
-abbrev pub IsList : ℕ → ℕ → Type 0
-IsList len size = (len % size ≡ 0) × (len / size < 2 ^ 32)
-
 -- the numbers of refused calls: an example of each, and their order
 pub record Numbers : Type 0 where
   -- RULES 3.1: 7 bytes of relocation records; 7 bytes of entries; 7 bytes of hints; 23 bytes of entries in a hint run
@@ -153,9 +149,9 @@ pub record Numbers : Type 0 where
   pub counts-differ : (section : List ℕ) (base tls : ℕ) (entries targets slots : List ℕ)
       → (length entries / relocSize ≡ length targets / resolvedSize → ⊥) → Fixup.numberTo section base tls entries targets slots ≡ 1
   -- of the hint run: just where its hints or its entries are no list
-  pub hint-lengths : (image hints entries : List ℕ) → (IsList (length hints) hintSize × IsList (length entries) relocSize → ⊥)
+  pub hint-lengths : (image hints entries : List ℕ) → (HintCheck.IsList (length hints) hintSize × HintCheck.IsList (length entries) relocSize → ⊥)
       → runNumber (runOf image hints entries) ≡ 1
-  pub hint-lengths-only : (image hints entries : List ℕ) → IsList (length hints) hintSize × IsList (length entries) relocSize
+  pub hint-lengths-only : (image hints entries : List ℕ) → HintCheck.IsList (length hints) hintSize × HintCheck.IsList (length entries) relocSize
       → runNumber (runOf image hints entries) ≡ 1 → ⊥
   -- RULES 3.10: 2, where there is no 1: fewer bytes of slots than an entry for each record, ADDEND too; than a report for each entry, taken ones too
   pub few-entry-slots : (contents records sections slots : List ℕ) → length records % machRelSize ≡ 0 → length records / machRelSize < 2 ^ 32

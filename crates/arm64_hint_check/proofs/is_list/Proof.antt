@@ -1,8 +1,6 @@
 -- `is_list`: whole records, then their number.
-use Prim.Native.Nat.{_/_}
 use borrow.Author.Tests.{eq-eqb, ne-eqb}
 use Rattle.arm64_hint_check.specs.Check.{isList}
-use Rattle.arm64_hint_check.proofs.Checks.{few-is}
 use borrow.Author.Needs.{needs}
 use Rattle.arm64_hint_check.proofs.is_list.Statement.{statement}
 use Rattle.arm64_hint_check.proofs.is_list.Tie as tie
@@ -15,7 +13,7 @@ div-result c = search needs
 
 returns : tie.Need-returns
 unfolding isList
-returns c = simp (eq-eqb _ _ (c .if1 .taken)) (few-is (c .before .args .len / c .before .args .size))
+returns c = simp (eq-eqb _ _ (c .if1 .taken))
 
 returns-2 : tie.Need-returns-2
 unfolding isList

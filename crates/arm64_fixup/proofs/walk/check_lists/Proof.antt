@@ -1,5 +1,5 @@
 -- `check_lists` meets its contract: the tests on the way to each return decide the choices.
-use borrow.Author.Tests.{eq-eqb, ne-eqb, le-leb, lt-leb, lt-ltb, le-ltb}
+use borrow.Author.Tests.{eq-eqb, ne-eqb, lt-ltb, le-ltb}
 use Rattle.arm64_fixup.specs.Answer.{checkLists}
 use Rattle.util.specs.Choice.{choose}
 use borrow.Author.Needs.{needs}
@@ -24,7 +24,7 @@ returns-3 : tie.Need-returns-3
 unfolding checkLists choose
 returns-3 c =
     simp (
-      le-leb _ _ (c .if3 .taken),
+      lt-ltb _ _ (c .if3 .taken),
       eq-eqb _ _ (c .before .if2 .left),
       eq-eqb _ _ (c .before .before .if1 .left),
     )
@@ -34,7 +34,7 @@ unfolding checkLists choose
 returns-4 c =
     simp (
       ne-eqb _ _ (c .if4 .taken),
-      lt-leb _ _ (c .before .if3 .left),
+      le-ltb _ _ (c .before .if3 .left),
       eq-eqb _ _ (c .before .before .if2 .left),
       eq-eqb _ _ (c .before .before .before .if1 .left),
     )
@@ -48,7 +48,7 @@ returns-5 c =
     simp (
       lt-ltb _ _ (c .if5 .taken),
       eq-eqb _ _ (c .before .if4 .left),
-      lt-leb _ _ (c .before .before .if3 .left),
+      le-ltb _ _ (c .before .before .if3 .left),
       eq-eqb _ _ (c .before .before .before .if2 .left),
       eq-eqb _ _ (c .before .before .before .before .if1 .left),
     )
@@ -59,7 +59,7 @@ returns-6 c =
     simp (
       le-ltb _ _ (c .if5 .left),
       eq-eqb _ _ (c .before .if4 .left),
-      lt-leb _ _ (c .before .before .if3 .left),
+      le-ltb _ _ (c .before .before .if3 .left),
       eq-eqb _ _ (c .before .before .before .if2 .left),
       eq-eqb _ _ (c .before .before .before .before .if1 .left),
     )
