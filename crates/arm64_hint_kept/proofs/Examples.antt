@@ -16,8 +16,9 @@ use Rattle.arm64_hint_terms.specs.declared.answer.Rewrite.{Rewrite}
 use Rattle.arm64_hint_terms.specs.declared.answer.Decision.{Decision}
 use Rattle.arm64_hint_terms.specs.declared.rels.Rels.{Rels}
 use Rattle.arm64_hint_laws.specs.Decide.{decide}
-use Rattle.arm64_hint_laws.proofs.Written as W
-use Rattle.arm64_hint_laws.proofs.Written.{Written, written}
+use Rattle.arm64_hint_laws.specs.Written as W
+use Rattle.arm64_hint_laws.specs.Written.{Written}
+use Rattle.arm64_hint_laws.proofs.Written.{written}
 use Rattle.arm64_hint_order.specs.Cursor.{orderOf}
 use Rattle.arm64_machine.specs.Examples.{start, idle}
 use Rattle.arm64_machine.specs.Premises.{linksVector}
@@ -98,32 +99,32 @@ each-rewrite = record {
 }
 
 -- the rows of what a kind may write
-by-row : (kind : ℕ) (d : Decision) → Written kind d → Shown kind d
-by-row kind d W.declines = tt
-by-row kind d W.nine-2 = tt
-by-row kind d W.nine-3 = tt
-by-row kind d W.nine-4 = tt
-by-row kind d W.nine-5 = tt
-by-row kind d W.nine-6 = tt
-by-row kind d W.nine-8 = tt
-by-row kind d W.drop-1 = (_, _, _, _, each-rewrite .drop)
-by-row kind d W.literal-2 = (_, _, _, _, each-rewrite .ldr-x)
-by-row kind d W.literal-3 = (_, _, _, _, each-rewrite .add-ldr-literal)
-by-row kind d W.adr-3 = (_, _, _, _, each-rewrite .add-ldr-adr)
-by-row kind d W.fold-3 = (_, _, _, _, each-rewrite .add-ldr-fold)
-by-row kind d W.slot-4 = (_, _, _, _, each-rewrite .got-ldr-slot)
-by-row kind d W.literal-4 = (_, _, _, _, each-rewrite .got-ldr-literal)
-by-row kind d W.adr-4 = (_, _, _, _, each-rewrite .got-ldr-adr)
-by-row kind d W.fold-4 = (_, _, _, _, each-rewrite .got-ldr-fold)
-by-row kind d W.adr-5 = (_, _, _, _, each-rewrite .add-str-adr)
-by-row kind d W.fold-5 = (_, _, _, _, each-rewrite .add-str-fold)
-by-row kind d W.slot-6 = (_, _, _, _, each-rewrite .got-str-slot)
-by-row kind d W.adr-6 = (_, _, _, _, each-rewrite .got-str-adr)
-by-row kind d W.fold-6 = (_, _, _, _, each-rewrite .got-str-fold)
-by-row kind d W.adr-7 = (_, _, _, _, each-rewrite .add-adr)
-by-row kind d W.slot-8 = (_, _, _, _, each-rewrite .got-slot-31)
-by-row kind d W.adr-8 = (_, _, _, _, each-rewrite .got-adr)
+by-row : (s : Insns) (kind : ℕ) (d : Decision) → Written s kind d → Shown kind d
+by-row s kind d W.declines = tt
+by-row s kind d W.nine-2 = tt
+by-row s kind d W.nine-3 = tt
+by-row s kind d W.nine-4 = tt
+by-row s kind d W.nine-5 = tt
+by-row s kind d W.nine-6 = tt
+by-row s kind d W.nine-8 = tt
+by-row s kind d W.drop-1 = (_, _, _, _, each-rewrite .drop)
+by-row s kind d (W.literal-2 ls t h) = (_, _, _, _, each-rewrite .ldr-x)
+by-row s kind d (W.literal-3 a m ls t h) = (_, _, _, _, each-rewrite .add-ldr-literal)
+by-row s kind d (W.adr-3 a m ls t h) = (_, _, _, _, each-rewrite .add-ldr-adr)
+by-row s kind d (W.fold-3 a m ls t h) = (_, _, _, _, each-rewrite .add-ldr-fold)
+by-row s kind d (W.slot-4 ls t h) = (_, _, _, _, each-rewrite .got-ldr-slot)
+by-row s kind d (W.literal-4 a m ls t h) = (_, _, _, _, each-rewrite .got-ldr-literal)
+by-row s kind d (W.adr-4 a m ls t h) = (_, _, _, _, each-rewrite .got-ldr-adr)
+by-row s kind d (W.fold-4 a m ls t h) = (_, _, _, _, each-rewrite .got-ldr-fold)
+by-row s kind d (W.adr-5 a m ls t h) = (_, _, _, _, each-rewrite .add-str-adr)
+by-row s kind d (W.fold-5 a m ls t h) = (_, _, _, _, each-rewrite .add-str-fold)
+by-row s kind d (W.slot-6 ls t h) = (_, _, _, _, each-rewrite .got-str-slot)
+by-row s kind d (W.adr-6 a m ls t h) = (_, _, _, _, each-rewrite .got-str-adr)
+by-row s kind d (W.fold-6 a m ls t h) = (_, _, _, _, each-rewrite .got-str-fold)
+by-row s kind d (W.adr-7 a m h) = (_, _, _, _, each-rewrite .add-adr)
+by-row s kind d (W.slot-8 ls t h) = (_, _, _, _, each-rewrite .got-slot-31)
+by-row s kind d (W.adr-8 a m h) = (_, _, _, _, each-rewrite .got-adr)
 
 -- whatever is decided of a hint, an example shows its rewrite
 pub each-shown : (kind : ℕ) (s : Insns) (r : Rels) → Shown kind (decide kind s r)
-each-shown kind s r = by-row kind (decide kind s r) (written kind s r)
+each-shown kind s r = by-row s kind (decide kind s r) (written kind s r)

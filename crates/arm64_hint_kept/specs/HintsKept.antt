@@ -44,7 +44,7 @@ Disjoint (at ∷ places) = Apart (span at 4) (inWords places) × Disjoint places
 
 -- each object's own order is kept: its hints stand in the list as in the run's order of work
 abbrev pub KeepsOrder : List ℕ → List ℕ → Type 0
-Kept hints = Runs.Kept (objectAt hints) (lateAt hints) (hintCount hints)
+KeepsOrder hints = Runs.Kept (objectAt hints) (lateAt hints) (hintCount hints)
 
 -- different objects' parts share no byte
 abbrev pub PartsApart : List ℕ → Type 0

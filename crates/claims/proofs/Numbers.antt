@@ -43,7 +43,7 @@ use Rattle.arm64_hint_check.specs.Check.{checkAll}
 use Rattle.arm64_hint_run.specs.Run.{runNumber, runOf}
 use Rattle.arm64_hint_run.proofs.Examples as Hints
 use Rattle.arm64_hint_run.proofs.Answers.{number-is}
-use Rattle.arm64_hint_run.proofs.Lengths as Lengths
+use Rattle.arm64_hint_run.proofs.Lengths as HintLengths
 use Rattle.hauklivo.specs.Reader as Reader
 use Rattle.hauklivo.specs.Fixup as Fixup
 use Rattle.claims.specs.Numbers.{Numbers}
@@ -213,8 +213,8 @@ numbers =
       targets-not-whole = targets-not-whole;
       many-fix-up-entries = many-fix-up-entries;
       counts-differ = counts-differ;
-      hint-lengths = Lengths.lengths;
-      hint-lengths-only = Lengths.lengths-only;
+      hint-lengths = HintLengths.lengths;
+      hint-lengths-only = HintLengths.lengths-only;
       few-entry-slots = λ contents records sections slots w n m h.
           read-number contents records sections slots (Lengths.few-slots contents records sections slots w n m h);
       few-report-slots = few-report-slots;
