@@ -1,8 +1,8 @@
 // One step of a reader.
 use crate::target::Target;
 use crate::target::target_of;
-use macho::refusal::Refusal;
 use macho::mach_rel::MachRel;
+use macho::refusal::Refusal;
 use macho::reloc::Reloc;
 ghost use mathlib.Core.Path.{_≡_};
 ghost use Rattle.arch.specs.Entry.{entryOf, targeted};

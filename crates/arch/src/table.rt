@@ -1,8 +1,8 @@
 // A table of relocation records.
 use macho::list::MOST_RECORDS;
+use macho::mach_rel::MachRel;
 use macho::refusal::Check;
 use macho::refusal::Refusal;
-use macho::mach_rel::MachRel;
 use macho::reloc::Reloc;
 ghost use mathlib.Core.Path.{_≡_};
 ghost use mathlib.Core.Bool.{false};

@@ -1,6 +1,6 @@
 // What a relocation record refers to: a symbol or a section.
-use macho::refusal::Refusal;
 use macho::mach_rel::MachRel;
+use macho::refusal::Refusal;
 use macho::reloc::TARGET_SECTION;
 use util::wrapping_sub;
 ghost use mathlib.Core.Path.{_≡_};
