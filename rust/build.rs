@@ -7,7 +7,7 @@
 
 use std::io::ErrorKind;
 use std::path::{Path, PathBuf};
-use std::{env, fs};
+use std::{env, fs, iter};
 
 #[path = "src/version.rs"]
 mod version;
@@ -50,14 +50,15 @@ fn check(library: &Path, target: &str) {
         },
     };
     println!(
-        "cargo::{level}={} {found}; this crate is for version {VERSION}: make it by `tools/library {target}` in the \
-         repository that this crate is of, or let HAUKLIVO_LIB_DIR name the folder of one",
+        "cargo::{level}={} {found}: make it by `tools/library {target}` in the repository that this crate is of, where rt \
+         runs (Linux), and carry it over, or let HAUKLIVO_LIB_DIR name the folder of one",
         library.display()
     );
 }
 
 /// Why an archive cannot be linked for a target, if so.
 fn fault(archive: &[u8], target: &str) -> Option<String> {
+    let other = |found: &str| Some(format!("{found}; this crate is for version {VERSION}"));
     if archive.starts_with(&[0xca, 0xfe, 0xba, 0xbe]) {
         return Some("is universal, where cargo needs the archive of one machine".into());
     }
@@ -65,12 +66,13 @@ fn fault(archive: &[u8], target: &str) -> Option<String> {
     let table = members.first().and_then(|&(name, table)| symbols(name, table));
     match table.map(versions).as_deref() {
         None => return Some("is no archive with a table of symbols".into()),
-        Some([]) => return Some("has no symbol hauklivo_version_N, so it is older than any version".into()),
+        Some([]) => return other("has no symbol hauklivo_version_N, so it is older than any version"),
         Some([found]) if *found == VERSION.to_string() => {}
-        Some(found) => return Some(format!("is of version {}", found.join(" and "))),
+        Some(found) => return other(&format!("is of version {}", found.join(" and "))),
     }
     let objects = members.iter().skip(1).filter(|member| member.0 != b"//"); // that one has long names
-    objects.map(|member| made_for(member.1)).find(|&own| own != target).map(|own| format!("is for {own}"))
+    let own = objects.map(|member| made_for(member.1)).find(|&own| own != target)?;
+    Some(format!("is for {own}, not for {target}"))
 }
 
 /// The versions that symbols name. On a Mac each name has one more `_`.
@@ -79,15 +81,26 @@ fn versions(symbols: Vec<&[u8]>) -> Vec<String> {
     symbols.iter().filter_map(|&name| plain(name)).map(|number| number.escape_ascii().to_string()).collect()
 }
 
-/// The target that an object is for, by the first bytes of an ELF or Mach-O file.
+/// The target that an object is for, by the first bytes of an ELF or Mach-O file and a Mach-O file's commands.
 fn made_for(object: &[u8]) -> &'static str {
     match object.get(..20).unwrap_or_default() {
         [0x7f, b'E', b'L', b'F', .., 62, 0] => "x86_64-linux",
         [0x7f, b'E', b'L', b'F', .., 183, 0] => "aarch64-linux",
+        [0xcf, 0xfa, 0xed, 0xfe, ..] if !for_macos(object) => "another system of Apple's",
         [0xcf, 0xfa, 0xed, 0xfe, 12, 0, 0, 1, ..] => "arm64-macos",
         [0xcf, 0xfa, 0xed, 0xfe, 7, 0, 0, 1, ..] => "x86_64-macos",
         _ => "another machine",
     }
+}
+
+/// Whether a Mach-O file says that it is for macOS: by LC_VERSION_MIN_MACOSX (0x24), or LC_BUILD_VERSION (0x32) with
+/// platform 1. A command has its kind, its size and what it says; their number stands at 16, the first at 32.
+fn for_macos(object: &[u8]) -> bool {
+    let field = |bytes: &[u8], at: usize| Some(u32::from_le_bytes(bytes.get(at..at + 4)?.try_into().ok()?));
+    let count = field(object, 16).unwrap_or(0) as usize;
+    let commands = iter::successors(object.get(32..), |&command| command.get(field(command, 4)?.max(8) as usize..));
+    let mut said = commands.take(count).map_while(|command| Some((field(command, 0)?, field(command, 8)?)));
+    said.any(|command| matches!(command, (0x24, _) | (0x32, 1)))
 }
 
 /// The members of an archive with their names. A name `#1/N` stands in the first N bytes of the member itself.

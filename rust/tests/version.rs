@@ -89,53 +89,74 @@ fn the_build_script() {
     }
     // What does not link goes on without an archive.
     let (goes_on, text) = checked("none", None);
-    assert!(goes_on && text.contains("warning: hauklivo@") && text.contains("libhauklivo.a is not there;"), "{text}");
+    assert!(
+        goes_on && text.contains("warning: hauklivo@") && text.contains("libhauklivo.a is not there: make it by"),
+        "{text}"
+    );
     for (name, bytes) in [("good", with(&[&this])), ("good wide", archive(8, &[&this]))] {
         let (goes_on, text) = checked(name, Some(&bytes));
         assert!(goes_on && !text.contains("libhauklivo.a"), "{name}: {text}");
     }
 }
 
-/// The first bytes of an object for each target, beside cargo's name for that and the repository's.
-const OBJECTS: [(&str, &str, &[u8; 20]); 4] = [
+/// The first bytes of an object for each target, beside cargo's name for that and the repository's. Those of macOS have one
+/// command, which says so: of arm64 LC_BUILD_VERSION, of x86-64 the older LC_VERSION_MIN_MACOSX.
+const OBJECTS: [(&str, &str, &[u8]); 4] = [
     ("x86_64-unknown-linux-gnu", "x86_64-linux", b"\x7fELF\x02\x01\x01\0\0\0\0\0\0\0\0\0\x01\0\x3e\0"),
     ("aarch64-unknown-linux-gnu", "aarch64-linux", b"\x7fELF\x02\x01\x01\0\0\0\0\0\0\0\0\0\x01\0\xb7\0"),
-    ("aarch64-apple-darwin", "arm64-macos", b"\xcf\xfa\xed\xfe\x0c\0\0\x01\0\0\0\0\x01\0\0\0\0\0\0\0"),
-    ("x86_64-apple-darwin", "x86_64-macos", b"\xcf\xfa\xed\xfe\x07\0\0\x01\x03\0\0\0\x01\0\0\0\0\0\0\0"),
+    (
+        "aarch64-apple-darwin",
+        "arm64-macos",
+        b"\xcf\xfa\xed\xfe\x0c\0\0\x01\0\0\0\0\x01\0\0\0\x01\0\0\0\x18\0\0\0\0\0\0\0\0\0\0\0\x32\0\0\0\x18\0\0\0\x01\0\0\0",
+    ),
+    (
+        "x86_64-apple-darwin",
+        "x86_64-macos",
+        b"\xcf\xfa\xed\xfe\x07\0\0\x01\x03\0\0\0\x01\0\0\0\x01\0\0\0\x10\0\0\0\0\0\0\0\0\0\0\0\x24\0\0\0\x10\0\0\0\0\x0c\x0a\0",
+    ),
 ];
 
-/// Whether Rust's library for a target is installed, without which nothing compiles for it.
-fn has_std(target: &str) -> bool {
-    let rustc = env::var_os("RUSTC").unwrap_or("rustc".into());
-    let done = Command::new(rustc).args(["--print", "target-libdir", "--target", target]).output().unwrap();
-    fs::exists(str::from_utf8(&done.stdout).unwrap().trim()).unwrap()
-}
-
+/// Here only what the build script says of made-up archives: tests/targets has it look at the real ones, and compiles the
+/// crate for the targets whose library of Rust's is installed.
 #[test]
 fn the_targets() {
     let this = format!("hauklivo_version_{VERSION}");
     for (k, (target, own, object)) in OBJECTS.iter().enumerate() {
         let words = ["--target", target];
         let (_, other, foreign) = OBJECTS[(k + 1) % 4];
-        let command = format!("make it by `tools/library {own}`");
+        let command = format!(": make it by `tools/library {own}`");
         let (_, text) = checked_for(&words, &format!("no {own}"), None);
-        assert!(text.contains("libhauklivo.a is not there;") && text.contains(&command), "{target}: {text}");
+        assert!(text.contains("libhauklivo.a is not there") && text.contains(&command), "{target}: {text}");
+        assert!(text.contains("where rt runs (Linux)"), "{target}: {text}");
         let (goes_on, text) = checked_for(&words, &format!("foreign {own}"), Some(&mac_archive(&[&this], foreign)));
-        assert!(!goes_on && text.contains(&format!("libhauklivo.a is for {other};")), "{target}: {text}");
-        assert!(text.contains(&command), "{target}: {text}");
-        let (goes_on, text) = checked_for(&words, &format!("own {own}"), Some(&mac_archive(&[&this], *object)));
+        assert!(
+            !goes_on && text.contains(&format!("libhauklivo.a is for {other}, not for {own}{command}")),
+            "{target}: {text}"
+        );
+        let (_, text) = checked_for(&words, &format!("own {own}"), Some(&mac_archive(&[&this], object)));
         assert!(!text.contains("libhauklivo.a"), "{target}: {text}");
-        match has_std(target) {
-            true => assert!(goes_on, "{target}: {text}"),
-            false => println!("{target}: Rust's library for it is not installed, only the build script was tried"),
-        }
     }
     let universal = [&[0xca, 0xfe, 0xba, 0xbe][..], &mac_archive(&[&this], OBJECTS[2].2)].concat();
     let (goes_on, text) = checked("universal", Some(&universal));
     assert!(!goes_on && text.contains("libhauklivo.a is universal, where cargo needs"), "{text}");
     let after = format!("hauklivo_version_{}", VERSION + 1);
     let (goes_on, text) = checked("later", Some(&mac_archive(&[&after], OBJECTS[0].2)));
-    assert!(!goes_on && text.contains(&format!("is of version {};", VERSION + 1)), "{text}");
+    assert!(!goes_on && text.contains(&format!("is of version {}; this crate is for version", VERSION + 1)), "{text}");
+}
+
+/// An object for iOS is for the machine of a Mac, but not for macOS; nor is one that does not say what it is for.
+#[test]
+fn other_systems() {
+    let symbols = [&*format!("hauklivo_version_{VERSION}")];
+    let (target, _, object) = OBJECTS[2];
+    // the platform, the kind of command, the number of commands, all of it with a size that leads nowhere
+    for (at, bytes) in [(40, &[2][..]), (32, &[0x25]), (16, &[0]), (32, &[0; 8]), (32, &[0xff; 8]), (16, &[0xff; 28])] {
+        let mut other = object.to_vec();
+        other[at..at + bytes.len()].copy_from_slice(bytes);
+        let name = format!("system {at} {}", bytes[0]);
+        let (goes_on, text) = checked_for(&["--target", target], &name, Some(&mac_archive(&symbols, &other)));
+        assert!(!goes_on && text.contains("is for another system of Apple's, not for arm64-macos"), "{name}: {text}");
+    }
 }
 
 /// No count or place in an archive ends the build script by a panic.
