@@ -27,7 +27,8 @@ static const char *why;
 
 /*
  * Results by the whole register: a library for a Mac must leave nothing above the byte, and that for Arm Linux is compiled
- * from the same module. The one for x86-64 Linux may leave anything there.
+ * from the same module. The one for x86-64 Linux may leave anything there. This sees bits that a call does leave; that none
+ * may, `zeroext`, is held by tests/targets alone, against what clang reads in the header.
  */
 #ifdef __aarch64__
 typedef uint32_t result;
