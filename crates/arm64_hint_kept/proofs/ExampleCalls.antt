@@ -70,8 +70,16 @@ last-call c = record {
       let e : 0 ≡ j = omega arith in
       subst (λ (i : ℕ). SameHint 16 pair (hintOf (lent beside) (i + 2)) pair (hintOf (lent (besideLast 0)) i)) e
       (record { kind = refl; n = refl; start = refl; offsets = refl; addresses = refl; names = refl });
-  objects-rise = λ i j hi hj l. let a : i < 1 = hi in let b : j < 1 = hj in let e : i ≡ j = omega arith in absurd (omega (arith, ap (λ (k : ℕ). hintOf (lent beside) (k + 2) .object) e, l));
-  objects-same = λ i j hi hj q. let a : i < 1 = hi in let b : j < 1 = hj in let e : i ≡ j = omega arith in ap (λ (k : ℕ). hintOf (lent (besideLast 0)) k .object) e;
+  objects-rise = λ i j hi hj l.
+      let a : i < 1 = hi in
+      let b : j < 1 = hj in
+      let e : i ≡ j = omega arith in
+      absurd (omega (arith, ap (λ (k : ℕ). hintOf (lent beside) (k + 2) .object) e, l));
+  objects-same = λ i j hi hj q.
+      let a : i < 1 = hi in
+      let b : j < 1 = hj in
+      let e : i ≡ j = omega arith in
+      ap (λ (k : ℕ). hintOf (lent (besideLast 0)) k .object) e;
   others = λ k h away.
       let l : k < 3 = h in
       same-or k 2 (λ e. absurd (away 0 (lit< tt) (sym e)))

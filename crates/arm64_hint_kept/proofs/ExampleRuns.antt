@@ -39,7 +39,7 @@ pub one-of-each : runOf fourWords (lent four) pair ≡ Done (counts 1 1 1 1)
 unfolding runs
 one-of-each = refl
 
-left : imageOf fourWords (lent four) pair ≡ fourAfter
+pub left : imageOf fourWords (lent four) pair ≡ fourAfter
 unfolding runs
 left = refl
 
@@ -141,11 +141,11 @@ all-end = (
 
 -- ---- a hint whose places fall: its first word stands after its second
 
-fall-done : runOf (words (0xf9400401 ∷ 0x90000000 ∷ [])) (lent falling) pair ≡ Done (counts 1 0 0 0)
+pub fall-done : runOf (words (0xf9400401 ∷ 0x90000000 ∷ [])) (lent falling) pair ≡ Done (counts 1 0 0 0)
 unfolding runs
 fall-done = refl
 
-fall-leaves : worked (words (0xf9400401 ∷ 0x90000000 ∷ [])) (lent falling) pair (0 ∷ []) .image ≡ words (0x58000041 ∷ 0xd503201f ∷ [])
+pub fall-leaves : worked (words (0xf9400401 ∷ 0x90000000 ∷ [])) (lent falling) pair (0 ∷ []) .image ≡ words (0x58000041 ∷ 0xd503201f ∷ [])
 unfolding runs
 fall-leaves = refl
 
@@ -196,5 +196,14 @@ pub not-kept : KeepsOrder (lent late) (0 ∷ 1 ∷ []) → ⊥
 unfolding records
 not-kept k =
     let e : _≡_ {A = List ℕ} (0 ∷ 1 ∷ []) (1 ∷ 0 ∷ []) = k 0 in
+    let z : _≡_ {A = ℕ} 0 1 = cc in
+    omega arith
+
+-- ---- a list that breaks the order of an object
+
+pub order-broken : KeepsOrder (lent beside) (1 ∷ 0 ∷ 2 ∷ []) → ⊥
+unfolding records
+order-broken k =
+    let e : _≡_ {A = List ℕ} (1 ∷ 0 ∷ []) (0 ∷ 1 ∷ []) = k 1 in
     let z : _≡_ {A = ℕ} 0 1 = cc in
     omega arith

@@ -86,7 +86,7 @@ pub record Shows (entries : List ℕ) (kind p : ℕ) (ws : List ℕ) (r : Rewrit
   pub leaves : imageOf (words ws) (lent (single kind p (length ws))) entries ≡ words new
   pub same : Same (hintOf (lent (single kind p (length ws))) 0) (words ws) (words new)
 
--- what a decision of a kind ends in, a hint of the kind shows it where that is a rewrite
+-- where a decision of a kind is a rewrite, a hint of the kind shows it
 abbrev pub Shown : ℕ → Decision → Type 0
 Shown kind Declined = Unit {0}
 Shown kind Nine = Unit {0}

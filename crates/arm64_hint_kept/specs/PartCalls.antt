@@ -16,7 +16,7 @@ use Rattle.arm64_hint_run.specs.Run.{zeros, runOf}
 use Rattle.arm64_hint_run.specs.declared.run.RunAnswer.the-variants.{Done}
 use Rattle.arm64_hint_kept.specs.HintsKept.{wordBytes}
 
--- hint g with its entries is hint h with its own, but that its part begins a bytes earlier
+-- hint g with its entries is hint h with its own, but that its part begins a bytes earlier; object number and length of the part may be others
 pub record SameHint (a : ℕ) (entries : List ℕ) (h : HintRecord) (entries′ : List ℕ) (g : HintRecord) : Type 0 where
   pub kind : h .kind ≡ g .kind
   pub n : h .n ≡ g .n
@@ -37,8 +37,8 @@ pub record Call : Type 0 where
 abbrev pub partOf : Call → List ℕ → List ℕ
 partOf c image = part image (c .start) (c .len)
 
--- the call's hints are hints of the run, in the run's list order; its object numbers rise and are equal where the run's are; no other hint of the run has a
--- word in its bytes
+-- the call's hints are hints of the run, in the run's list order; its object numbers rise where the run's rise, and are equal where the run's are
+-- equal; no other hint of the run has a word in its bytes
 pub record PartCall (hints entries : List ℕ) (c : Call) : Type 0 where
   pub inside : (j : ℕ) → j < hintCount (c .hints) → c .at j < hintCount hints
   pub rises : (i j : ℕ) → i < j → j < hintCount (c .hints) → c .at i < c .at j

@@ -19,7 +19,7 @@ use Rattle.arm64_insn.proofs.Manual.{encode-lt}
 use Rattle.arm64_hint_terms.specs.Answer.{decisionNumber}
 use Rattle.arm64_hint_terms.specs.Plans.{folded}
 use Rattle.arm64_hint_laws.specs.Decide.{decide}
-use Rattle.arm64_hint_laws.specs.Written.{SecondAccess, SecondAdd, ThirdAccess, Written, declines, nine-2, nine-3, nine-4, nine-5, nine-6, nine-8}
+use Rattle.arm64_hint_laws.specs.Written.{OnePage, SecondAccess, SecondAdd, ThirdAccess, Written, declines, nine-2, nine-3, nine-4, nine-5, nine-6, nine-8}
 use Rattle.arm64_hint_laws.specs.Written.{drop-1, literal-2, literal-3, adr-3, fold-3, slot-4, literal-4, adr-4, fold-4, adr-5, fold-5}
 use Rattle.arm64_hint_laws.specs.Written.{slot-6, adr-6, fold-6, adr-7, slot-8, adr-8}
 use Rattle.arm64_hint_terms.specs.declared.answer.Insns.{Insns}
@@ -37,16 +37,20 @@ use Rattle.arm64_hint_laws.proofs.Cases.{EachRule, by-kind}
 
 -- what the cases of the rules say of the words that stand there
 
+one-page : {s : Insns} → Cases.Pages s → OnePage s
+one-page p = record { a = p .a; b = p .b; first = p .first; second = p .second; register = p .register; page = p .page }
+
 second : {s : Insns} (ls : LoadStore) (target : ℕ) → Cases.Literal s ls target → SecondAccess s ls target
-second ls target l = record { adrp = l .adrp; first = l .first; second = l .second; reached = l .made }
+second ls target l = record { adrp = l .adrp; first = l .first; second = l .second; base = l .base; reached = l .made }
 
 added : {s : Insns} (d : Add) (addr : ℕ) → Makes s addr d → SecondAdd s d addr
-added d addr m = record { adrp = m .adrp; first = m .first; second = m .second; made = m .made }
+added d addr m = record { adrp = m .adrp; first = m .first; second = m .second; source = m .source; made = m .made }
 
 third : {s : Insns} (d : Add) (ls : LoadStore) (addr target : ℕ) → Adds s addr d ls → target ≡ addr + ls .offset → ThirdAccess s d addr ls target
 third d ls addr target t e = record {
-  through = record { adrp = t .adrp; first = t .first; second = t .second; made = t .made };
+  through = record { adrp = t .adrp; first = t .first; second = t .second; source = t .source; made = t .made };
   third = t .third;
+  base = t .base;
   reached = e;
 }
 
@@ -60,7 +64,7 @@ each-writes : (s : Insns) (r : Rels) → EachRule s r (Written s)
 each-writes s r =
     record {
       declined = λ kind. declines;
-      adrp-adrp = λ pages _. Cases.adrp-adrp s (Written s MCLOH-AdrpAdrp) declines (λ p. drop-1) pages;
+      adrp-adrp = λ pages _. Cases.adrp-adrp s (Written s MCLOH-AdrpAdrp) declines (λ p. drop-1 (one-page p)) pages;
       adrp-ldr = λ pair _.
           Cases.adrp-ldr s (Written s MCLOH-AdrpLdr) declines nine-2 (λ ls target l. literal-2 ls target (second ls target l)) pair;
       adrp-add-ldr = λ pair _.

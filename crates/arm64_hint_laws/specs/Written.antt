@@ -20,24 +20,36 @@ use Rattle.arm64_hint_terms.specs.declared.answer.Rewrite.the-variants.{Literal
 use Rattle.arm64_hint_terms.specs.declared.answer.Decision.{Decision}
 use Rattle.arm64_hint_terms.specs.declared.answer.Decision.the-variants.{Declined, Nine}
 
--- the first word is an ADRP, and the second the access ls of target: the ADRP's page plus the access's offset
+-- the first two words are ADRPs of one register and one page
+pub record OnePage (s : Insns) : Type 0 where
+  pub a : Adrp
+  pub b : Adrp
+  pub first : adrpOf (s .w0) ≡ A.Adrp a
+  pub second : adrpOf (s .w1) ≡ A.Adrp b
+  pub register : a .rd ≡ b .rd
+  pub page : adrpPage (a .imm) (s .p0) ≡ adrpPage (b .imm) (s .p1)
+
+-- the first word is an ADRP, and the second the access ls of target through its register: the ADRP's page plus the access's offset
 pub record SecondAccess (s : Insns) (ls : LoadStore) (target : ℕ) : Type 0 where
   pub adrp : Adrp
   pub first : adrpOf (s .w0) ≡ A.Adrp adrp
   pub second : loadStoreOf (s .w1) ≡ L.LoadStore ls
+  pub base : ls .base ≡ adrp .rd
   pub reached : target ≡ adrpPage (adrp .imm) (s .p0) + ls .offset
 
--- the first word is an ADRP, and the second the ADD d that makes addr: the ADRP's page plus the ADD's immediate
+-- the first word is an ADRP, and the second the ADD d to its register that makes addr: the ADRP's page plus the ADD's immediate
 pub record SecondAdd (s : Insns) (d : Add) (addr : ℕ) : Type 0 where
   pub adrp : Adrp
   pub first : adrpOf (s .w0) ≡ A.Adrp adrp
   pub second : addOf (s .w1) ≡ D.Add d
+  pub source : d .rn ≡ adrp .rd
   pub made : addr ≡ adrpPage (adrp .imm) (s .p0) + d .imm
 
--- and the third is the access ls of target: addr plus the access's offset
+-- and the third is the access ls of target through the ADD's register: addr plus the access's offset
 pub record ThirdAccess (s : Insns) (d : Add) (addr : ℕ) (ls : LoadStore) (target : ℕ) : Type 0 where
   pub through : SecondAdd s d addr
   pub third : loadStoreOf (s .w2) ≡ L.LoadStore ls
+  pub base : ls .base ≡ d .rd
   pub reached : target ≡ addr + ls .offset
 
 -- a decision of each kind. A kind with no row for Nine has no sum that may pass 2^64 - 1
@@ -49,7 +61,7 @@ pub data Written (s : Insns) : ℕ → Decision → Type 0 where
   nine-5 : Written s MCLOH-AdrpAddStr Nine
   nine-6 : Written s MCLOH-AdrpLdrGotStr Nine
   nine-8 : Written s MCLOH-AdrpLdrGot Nine
-  drop-1 : Written s MCLOH-AdrpAdrp dropped
+  drop-1 : OnePage s → Written s MCLOH-AdrpAdrp dropped
   literal-2 : (ls : LoadStore) (target : ℕ) → SecondAccess s ls target → Written s MCLOH-AdrpLdr (literalSecond Literal s ls target)
   literal-3 : (d : Add) (addr : ℕ) (ls : LoadStore) (target : ℕ) → ThirdAccess s d addr ls target
       → Written s MCLOH-AdrpAddLdr (literalThird s ls target)

@@ -65,7 +65,8 @@ module _ (entries entries′ : List ℕ) (sized : length entries ≡ length entr
   same-at (more {k = m} h rest) zero = same-rel m h
   same-at (more h rest) (suc i) = same-at rest i
 
-  same-outcome : (h : HintRecord) (words : List ℕ) → (isSkipped h ≡ false → Named h (length entries)) → hintOutcome entries h words ≡ hintOutcome entries′ h words
+  same-outcome : (h : HintRecord) (words : List ℕ) → (isSkipped h ≡ false → Named h (length entries))
+      → hintOutcome entries h words ≡ hintOutcome entries′ h words
   unfolding hintOutcome relsOf
   same-outcome h words named = go (isSkipped h) refl
     where

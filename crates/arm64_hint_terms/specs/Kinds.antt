@@ -1,5 +1,5 @@
 -- LLVM's linker optimization hint kinds (llvm/MC/MCLinkerOptimizationHint.h, `MCLOHType`; RULES 8.2, 8.4). Numbers and names are macho's; each kind has
--- a row of words, as "Adrp _v@Page -> Add _v@PageOff -> Ldr" for AdrpAddLdr: which instructions stand there, and which entries.
+-- a row of words, as "Adrp _v@PAGE -> Add _v@PAGEOFF -> Ldr" for AdrpAddLdr: which instructions stand there, and which entries.
 use Prim.Native.Nat.{ℕ}
 use mathlib.Core.Path.{_≡_}
 use mathlib.Core.Logic.{_⊎_}

@@ -60,9 +60,9 @@ kept =
       decided = λ kind s r a b c. decided kind s r (record { first = a; second = b; third = c });
       each-rewrite = Examples.each-rewrite;
       each-shown = Examples.each-shown;
-      one-of-each = (Runs.own-order, Runs.one-of-each, Runs.other-list, Runs.other-ends);
-      all-end = (Runs.all-done .0, Runs.all-done .1, Runs.all-end .0, Runs.all-end .1);
-      falls = Runs.falling-ends;
+      one-of-each = (Runs.own-order, Runs.one-of-each, Runs.left, Runs.other-list, Runs.other-ends);
+      all-end = (Runs.all-done .0, Runs.all-done .1, Runs.all-end .0, Runs.all-end .1, Runs.order-broken);
+      falls = (Runs.fall-done, Runs.fall-leaves, Runs.falling-ends);
       kind-1-last = (Runs.late-order, Runs.late-run .0, Runs.late-run .1, Runs.by-position, Runs.not-kept);
       needs-disjoint = Needed.one-word-twice;
       needs-allocated = Needed.unallocated;

@@ -54,7 +54,7 @@ pub record Hints : Type 2 where
       → (a .addend ≡ b .addend → ⊥) → decide n s r ≡ Declined
   -- RULES 8.4: what is rewritten has entries that refer to what the kind says, one v with one addend but for kind 1, or one of the exceptions
   pub references : (n : ℕ) (s : Insns) (r : Rels) (p : Plan) → decide n s r ≡ Rewritten p → Refers n r
-  -- each exception occurs: whatever entries refer so, there are words with which the hint is rewritten
+  -- each exception of the entries occurs: whatever entries refer so, there are words with which the hint is rewritten
   pub exceptions : (n : ℕ) (r : Rels) → (wordsOf n ≡ [] → ⊥) → Refers n r → Occurs n r
   -- what is rewritten has the kind's words, by the manual's forms, or what may stand there instead
   pub words : (n : ℕ) (s : Insns) (r : Rels) (p : Plan) → decide n s r ≡ Rewritten p → AreWords (wordsOf n) (s .w0 ∷ s .w1 ∷ s .w2 ∷ [])

@@ -120,9 +120,10 @@ pub record Kept : Type 0 where
   -- decision of the kind ends in
   pub each-rewrite : EachRewrite
   pub each-shown : (kind : ℕ) (s : Insns) (r : Rels) → Shown kind (decide kind s r)
-  -- one hint of each count, in the order 1, 2, 3, 0; the list 0, 1, 2, 3 leaves the same
+  -- one hint of each count, in the order 1, 2, 3, 0; the list 0, 1, 2, 3 leaves the same, and the words of position 0 run there as before
   pub one-of-each : (orderOf (lent four) ≡ 1 ∷ 2 ∷ 3 ∷ 0 ∷ [])
       × (runOf fourWords (lent four) pair ≡ Done (counts 1 1 1 1))
+      × (imageOf fourWords (lent four) pair ≡ fourAfter)
       × (worked fourWords (lent four) pair (0 ∷ 1 ∷ 2 ∷ 3 ∷ []) ≡ record { image = fourAfter; tally = counts 1 1 1 1 })
       × Same (hintOf (lent four) 0) fourWords fourAfter
   -- three hints that meet every premise are all rewritten, and the words of each run in the last image as in the first: by the run's own list, and by
@@ -131,15 +132,18 @@ pub record Kept : Type 0 where
       × (runOf besideWords (lent beside) pair ≡ Done (counts 3 0 0 0))
       × AllEnd besideWords (lent beside) pair (2 ∷ 0 ∷ 1 ∷ []) besideAfter idle start
       × AllEnd besideWords (lent beside) pair (1 ∷ 0 ∷ 2 ∷ []) besideAfter idle start
+      × (Order.KeepsOrder (lent beside) (1 ∷ 0 ∷ 2 ∷ []) → ⊥)
   -- a hint whose places fall
-  pub falls : Same (hintOf (lent falling) 0) (words (0xf9400401 ∷ 0x90000000 ∷ [])) (words (0x58000041 ∷ 0xd503201f ∷ []))
+  pub falls : (runOf (words (0xf9400401 ∷ 0x90000000 ∷ [])) (lent falling) pair ≡ Done (counts 1 0 0 0))
+      × (imageOf (words (0xf9400401 ∷ 0x90000000 ∷ [])) (lent falling) pair ≡ words (0x58000041 ∷ 0xd503201f ∷ []))
+      × Same (hintOf (lent falling) 0) (words (0xf9400401 ∷ 0x90000000 ∷ [])) (words (0x58000041 ∷ 0xd503201f ∷ []))
   -- kind 1 is worked last: the literal load is made, and ADRP_ADRP then declines; by list position the image would be another
   pub kind-1-last : (orderOf (lent late) ≡ 1 ∷ 0 ∷ [])
       × (runOf lateWords (lent late) pair ≡ Done (counts 1 0 1 0))
       × (imageOf lateWords (lent late) pair ≡ lateAfter)
       × (worked lateWords (lent late) pair (0 ∷ 1 ∷ []) ≡ record { image = words (0x90000000 ∷ 0xd503201f ∷ 0xf9400401 ∷ []); tally = counts 1 0 1 0 })
       × (Order.KeepsOrder (lent late) (0 ∷ 1 ∷ []) → ⊥)
-  -- RULES 9.21: without one premise, and with all the others, a rewrite need not run alike (Fails: arm64_hint_kept/specs/Needed). Disjoint
+  -- RULES 9.21: without one premise, and with all the others of 9.12 to 9.17, a rewrite need not run alike (Fails: arm64_hint_kept/specs/Needed). Disjoint
   pub needs-disjoint : Fails pair (hintIn 1 0 0 4 (place 0 0 0x1000) (place 0 0 0x1000) none-at) (0x90000000 ∷ [])
       (false ∷ true ∷ true ∷ true ∷ true ∷ true ∷ []) (0xd503201f ∷ [])
   -- allocated

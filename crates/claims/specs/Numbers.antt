@@ -1,4 +1,5 @@
--- Which number a refused call answers (RULES 3.1 to 3.11): the examples of RULES 3.1, which comes first where several apply, and the lengths.
+-- Which number a refused call answers (RULES 3.1, 3.3 to 3.6, 3.9 to 3.11): the examples of RULES 3.1, which comes first where several apply, and the
+-- lengths. That a refused call leaves all is in Calls, the numbers of stub and thunk entries in Fixup, those of the lister in Lister.
 use mathlib.Core.Path.{_≡_}
 use mathlib.Core.List.{List, [], _++_}
 use Prim.Native.Nat.{ℕ, _-_, _*_, _/_, _%_, _^_, _≤_, _<_}
@@ -84,8 +85,8 @@ pub record Numbers : Type 0 where
       × (fixUp (bytes 8 0) 0 (entry ARM64-RELOC-UNSIGNED 0 0) (bytes 47 0 ++ bytes 1 1) (bytes 24 0) ≡ 11)
   -- entry 1 of a list of 1
   pub number-12 : hintRun 8 entryOne (half ARM64-RELOC-PAGE21) ≡ 12
-  -- RULES 3.4: 9 bytes and no slot; past the contents and 23 bytes; past the contents, ADDEND the last; past the contents, a form of no type; ADDEND the last,
-  -- of a form of no type; a form of no type, and no word there; the same, and no pointer there; the same, and ordinal 0; no pointer there, and ordinal 0;
+  -- RULES 3.4: 9 bytes and no slot; past the contents and 23 bytes; past the contents, ADDEND the last; past the contents, a form that its type does not take;
+  -- ADDEND the last, of such a form; such a form, and no word there; the same, and no pointer there; the same, and ordinal 0; no pointer there, and ordinal 0;
   -- ordinal 0, and after it a record past the contents
   pub reader-first : (reader [] (zeros 9) [] ≡ 1)
       × (reader [] (machRel 1 0x3d000000) (zeros 23) ≡ 2)

@@ -12,6 +12,6 @@ numberTo image hints entries = runNumber (runOf image hints entries)
 abbrev pub tallyTo : List ℕ → List ℕ → List ℕ → Tally → Tally
 tallyTo image hints entries tally = tallyAfter tally (runOf image hints entries)
 
--- the image
+-- the image: as the run leaves it; a refusal leaves the old one
 abbrev pub imageTo : List ℕ → List ℕ → List ℕ → List ℕ
 imageTo image hints entries = imageOf image hints entries

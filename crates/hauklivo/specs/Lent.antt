@@ -9,6 +9,6 @@ use Rattle.macho.specs.declared.refusal.Answer.{Answer}
 unfoldable pub lentNumber : ℕ → ℕ → ℕ → ℕ
 lentNumber number new old = choose (eqb number 0) new old
 
--- a lent count: how many slots an answer filled, else the old one
+-- a lent count: how much an answer filled, slots or bytes, else the old one
 unfoldable pub lentCount : Answer → ℕ → ℕ
 lentCount a old = lentNumber (answerNumber a) (filledOf a) old
