@@ -1,4 +1,4 @@
--- What is proved: the records of claims, in the order of RULES 1.
+-- What is proved: the records of claims.
 use Rattle.claims.specs.Calls.{Calls}
 use Rattle.claims.specs.Numbers.{Numbers}
 use Rattle.claims.specs.Ignored.{Ignored}
