@@ -145,9 +145,13 @@ pub fall-done : runOf (words (0xf9400401 ∷ 0x90000000 ∷ [])) (lent falling) 
 unfolding runs
 fall-done = refl
 
-pub fall-leaves : worked (words (0xf9400401 ∷ 0x90000000 ∷ [])) (lent falling) pair (0 ∷ []) .image ≡ words (0x58000041 ∷ 0xd503201f ∷ [])
+fall-leaves : worked (words (0xf9400401 ∷ 0x90000000 ∷ [])) (lent falling) pair (0 ∷ []) .image ≡ words (0x58000041 ∷ 0xd503201f ∷ [])
 unfolding runs
 fall-leaves = refl
+
+pub fall-left : imageOf (words (0xf9400401 ∷ 0x90000000 ∷ [])) (lent falling) pair ≡ words (0x58000041 ∷ 0xd503201f ∷ [])
+unfolding runs
+fall-left = refl
 
 pub falling-ends : Same (hintOf (lent falling) 0) (words (0xf9400401 ∷ 0x90000000 ∷ [])) (words (0x58000041 ∷ 0xd503201f ∷ []))
 unfolding runs machine
