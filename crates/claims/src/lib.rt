@@ -1,1 +1,1 @@
-// What is proved, in one place: a record for each demand of RULES 1, a field for each sentence; statements and their proofs, no code.
+// What is proved, in one place: records by subject, a field for each sentence; statements and their proofs, no code.
