@@ -1,9 +1,7 @@
 -- Every decision of the hint rules keeps what a program does: each rewrite under the tests that its rule passed, by one law of the machine's words.
 -- Declined and nine leave the words.
 use mathlib.Core.Path.{_≡_, sym, ap, _∙_}
-use mathlib.Core.List.{List, [], _∷_}
 use Prim.Native.Nat.{ℕ, _+_, _%_, _^_, _<_}
-use lib.ListN.{take}
 use Rattle.util.specs.Choice.{choose}
 use Rattle.macho.specs.Hint.{wordCount}
 use Rattle.arm64_insn.specs.Page.{adrpPage}
@@ -11,50 +9,24 @@ use Rattle.arm64_insn.specs.declared.add.Add.{Add}
 use Rattle.arm64_insn.specs.declared.ldst.LoadStore.{LoadStore}
 use Rattle.arm64_hint_laws.specs.Decide.{decide}
 use Rattle.arm64_hint_terms.specs.declared.answer.Insns.{Insns}
-use Rattle.arm64_hint_terms.specs.declared.answer.NewWord.{NewWord}
-use Rattle.arm64_hint_terms.specs.declared.answer.NewWord.the-variants.{Keep, Set}
 use Rattle.arm64_hint_terms.specs.declared.answer.Rewrite.{Rewrite}
 use Rattle.arm64_hint_terms.specs.declared.answer.Rewrite.the-variants as R
 use Rattle.arm64_hint_terms.specs.declared.answer.Decision.{Decision}
-use Rattle.arm64_hint_terms.specs.declared.answer.Decision.the-variants.{Declined, Nine, Rewritten}
 use Rattle.arm64_hint_terms.specs.declared.rels.Rels.{Rels}
 use Rattle.arm64_hint_adrp.proofs.Adds.{Adds}
 use Rattle.arm64_hint_laws.proofs.Cases as Cases
 use Rattle.arm64_hint_laws.proofs.Cases.{EachRule}
-use Rattle.arm64_machine.specs.Machine.{Placed, placed}
 use Rattle.arm64_machine.specs.SameRun.{SameRun}
 use Rattle.arm64_machine.specs.Premises.{FairWords}
 use Rattle.arm64_machine.proofs.Rewrites.{unchanged}
 use Rattle.arm64_machine.proofs.Words as Words
-
--- the first n words, each with its address
-abbrev pub placedOf : ℕ → Insns → List Placed
-placedOf n s = take n (placed (s .w0) (s .p0) ∷ placed (s .w1) (s .p1) ∷ placed (s .w2) (s .p2) ∷ [])
+use Rattle.arm64_hint_kept.specs.Decided.{placedOf, after}
 
 -- the addresses have 64 bits
 pub record Addressed (s : Insns) : Type 0 where
   pub first : s .p0 < 2 ^ 64
   pub second : s .p1 < 2 ^ 64
   pub third : s .p2 < 2 ^ 64
-
--- a place's word after a decision
-abbrev pub wordAfter : NewWord → ℕ → ℕ
-wordAfter Keep w = w
-wordAfter (Set u) w = u
-
--- the words after a decision
-abbrev pub after : Decision → Insns → Insns
-after Declined s = s
-after Nine s = s
-after (Rewritten p) s =
-    record {
-      w0 = wordAfter (p .w0) (s .w0);
-      w1 = wordAfter (p .w1) (s .w1);
-      w2 = wordAfter (p .w2) (s .w2);
-      p0 = s .p0;
-      p1 = s .p1;
-      p2 = s .p2;
-    }
 
 -- the words that a decision leaves, of a hint of n words, run as those that it was asked of
 abbrev pub Keeps : ℕ → Insns → Decision → Type 0

@@ -19,7 +19,7 @@ use Rattle.arm64_hint_laws.proofs.Written.{Fits}
 use Rattle.arm64_machine.specs.Premises.{Each}
 use Rattle.arm64_hint_words.specs.Place.{newOf}
 use Rattle.arm64_hint_kept.specs.HintsKept.{Disjoint}
-use Rattle.arm64_hint_kept.proofs.Decisions.{wordAfter}
+use Rattle.arm64_hint_kept.specs.Decided.{wordAfter}
 
 -- the words after new ones are stored, place by place
 abbrev pub wordsAfter : List NewWord → List ℕ → List ℕ

@@ -28,7 +28,8 @@ use Rattle.arm64_hint_places.proofs.Places.{count-is, count-two, insns-three, i
 use Rattle.arm64_hint_rules.specs.Rule.{ruled, hintOutcome, newsIn, newsOf}
 use Rattle.arm64_hint_work.specs.Step.{placesOf}
 use Rattle.arm64_hint_kept.specs.HintsKept.{codes, Disjoint, Fair, Same}
-use Rattle.arm64_hint_kept.proofs.Decisions.{placedOf, Addressed, after, decided}
+use Rattle.arm64_hint_kept.specs.Decided.{placedOf, after}
+use Rattle.arm64_hint_kept.proofs.Decisions.{Addressed, decided}
 use Rattle.arm64_hint_kept.proofs.Image.{wordsAfter, reads-back}
 
 -- ---- a hint's words as a list of words and one of addresses

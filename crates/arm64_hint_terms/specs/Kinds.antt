@@ -119,7 +119,7 @@ abbrev pub HasType : ℕ → Rel → Type 0
 HasType ty Absent = ⊥
 HasType ty (Entry e) = e .ty ≡ ty
 
--- an entry is what its word carries: LLVM's @Page is a PAGE21, @PageOff a PAGEOFF12, @GotPage a GOT_LOAD_PAGE21, @GotPageOff a GOT_LOAD_PAGEOFF12;
+-- an entry is what its word carries: LLVM's @PAGE is a PAGE21, @PAGEOFF a PAGEOFF12, @GOTPAGE a GOT_LOAD_PAGE21, @GOTPAGEOFF a GOT_LOAD_PAGEOFF12;
 -- a bare Ldr or Str has no entry
 abbrev pub IsCarried : Word → Rel → Type 0
 IsCarried Adrp-Page r = HasType ARM64-RELOC-PAGE21 r

@@ -213,17 +213,19 @@ module _ (section : List ℕ) (b : Bases) (entries targets : List ℕ) (f : Fixe
 
 -- ---- "adrp x0, 0" and "add x0, x0, #0" at 0x1000, under PAGE21 and PAGEOFF12 to 0x5678
 
--- the words, and what the fix-up makes of them
+-- the words
 abbrev pub pairWords : List ℕ
 pairWords = bytes 4 0x90000000 ++ bytes 4 0x91000000
 
+-- what the fix-up makes of them
 abbrev pub pairFixed : Fixed
 pairFixed = record { section = bytes 4 0x90000020 ++ bytes 4 0x9119e000; reports = [] }
 
--- the entries and their targets
+-- the entries
 abbrev pub pairEntries : List ℕ
 pairEntries = Lent.entry ARM64-RELOC-PAGE21 0 0 ++ Lent.entry ARM64-RELOC-PAGEOFF12 4 0
 
+-- their targets
 abbrev pub pairTargets : List ℕ
 pairTargets = resolved 0x5678 has-address ++ resolved 0x5678 has-address
 

@@ -5,7 +5,7 @@ use mathlib.Core.Logic.{_≢_}
 use mathlib.Core.Bool.{true, false}
 use mathlib.Core.List.{List, [], _∷_}
 use Prim.Native.Nat.{ℕ, _+_, _^_, _≤_, _<_}
-use lib.ListN.{length, getD, take}
+use lib.ListN.{length, getD}
 use Rattle.macho.specs.Hint.{noEntry, wordCount, hintCount, hintOf}
 use Rattle.macho.specs.declared.hint.HintRecord.{HintRecord}
 use Rattle.image.specs.Words.{span}
@@ -18,10 +18,6 @@ use Rattle.arm64_machine.specs.Examples.{start, high, logged, idle, placing, co
 use Rattle.arm64_machine.specs.SameRun.{SameRun}
 use Rattle.arm64_machine.specs.Premises as Machine
 use Rattle.arm64_hint_terms.specs.declared.answer.Insns.{Insns}
-use Rattle.arm64_hint_terms.specs.declared.answer.NewWord.{NewWord}
-use Rattle.arm64_hint_terms.specs.declared.answer.NewWord.the-variants.{Keep, Set}
-use Rattle.arm64_hint_terms.specs.declared.answer.Decision.{Decision}
-use Rattle.arm64_hint_terms.specs.declared.answer.Decision.the-variants.{Declined, Nine, Rewritten}
 use Rattle.arm64_hint_terms.specs.declared.rels.Rels.{Rels}
 use Rattle.arm64_hint_laws.specs.Decide.{decide}
 use Rattle.arm64_hint_order.specs.Lists.{Once}
@@ -33,35 +29,13 @@ use Rattle.arm64_hint_run.specs.declared.run.RunAnswer.{RunAnswer}
 use Rattle.arm64_hint_run.specs.declared.run.RunAnswer.the-variants.{Done}
 use Rattle.arm64_hint_kept.specs.HintsKept.{Fair, Same, HintsKept, Premises, Literally}
 use Rattle.arm64_hint_kept.specs.HintsKept as Order
+use Rattle.arm64_hint_kept.specs.Decided.{placedOf, after}
 use Rattle.arm64_hint_kept.specs.PartCalls.{Call, partOf, PartCall, PartCalls, added}
 use Rattle.arm64_hint_kept.specs.Examples.{words, place, none-at, hintIn, lent, pair, gotPair, counts, EachRewrite, Shown}
 use Rattle.arm64_hint_kept.specs.ExampleRuns.{four, fourWords, fourAfter, beside, besideCalls, besideCounts, besideWords, besideAfter}
 use Rattle.arm64_hint_kept.specs.ExampleRuns.{falling, late, lateWords, lateAfter, AllEnd}
 use Rattle.arm64_hint_kept.specs.Needed.{Fails, Shared, Meeting}
 use Rattle.hauklivo.specs.Hints as HintsCall
-
--- the first n words of a hint with their addresses
-abbrev pub placedOf : ℕ → Insns → List Placed
-placedOf n s = take n (placed (s .w0) (s .p0) ∷ placed (s .w1) (s .p1) ∷ placed (s .w2) (s .p2) ∷ [])
-
--- a word after a decision
-abbrev pub wordAfter : NewWord → ℕ → ℕ
-wordAfter Keep w = w
-wordAfter (Set u) w = u
-
--- the words after a decision
-abbrev pub after : Decision → Insns → Insns
-after Declined s = s
-after Nine s = s
-after (Rewritten p) s =
-    record {
-      w0 = wordAfter (p .w0) (s .w0);
-      w1 = wordAfter (p .w1) (s .w1);
-      w2 = wordAfter (p .w2) (s .w2);
-      p0 = s .p0;
-      p1 = s .p1;
-      p2 = s .p2;
-    }
 
 -- one word at an address
 abbrev pub one : (p w : ℕ) → List Placed
