@@ -9,7 +9,7 @@
 //! records, also of a linker's own type, as such bytes without copying.
 //!
 //! A [`Refusal`] is an error with a number. A refused call has changed nothing that it was lent.
-//! [`position`] finds the record that it was refused for.
+//! [`position_of_refusal`] finds the record that it was refused for.
 //!
 //! The crate builds for Linux and macOS, on x86-64 and on Arm. `tools/library TARGET` of the repository
 //! makes the archive, for `x86_64-linux`, `aarch64-linux`, `arm64-macos` or `x86_64-macos`; the build
@@ -51,7 +51,7 @@ compile_error!("libhauklivo.a is made for Linux and macOS, on x86-64 and Arm wit
 struct Readme;
 
 mod calls;
-pub mod position;
+pub mod position_of_refusal;
 pub mod raw;
 pub mod records;
 mod refusal;

@@ -1,6 +1,6 @@
 //! A call's refusal as a fault, with the record that it is for.
 
-use hauklivo::{HintRecord, MachRel, Record, Refusal, Reloc, Resolved, position, ty};
+use hauklivo::{HintRecord, MachRel, Record, Refusal, Reloc, Resolved, position_of_refusal, ty};
 
 use crate::Fault;
 use crate::link::LinkedSection;
@@ -9,7 +9,7 @@ use crate::object::Section;
 /// The reader's, of a section's records, with the addresses of all sections.
 pub fn reading(section: &Section, addresses: &[u64], refusal: Refusal) -> Fault {
     let records = MachRel::bytes(&section.records);
-    let at = position::in_records(refusal, section.contents, records, addresses);
+    let at = position_of_refusal::in_records(refusal, section.contents, records, addresses);
     let what = format!("the relocation records of section {}", section.name);
     Fault::refused(&what, refusal, at.and_then(|number| record(section, number)))
 }
@@ -17,14 +17,14 @@ pub fn reading(section: &Section, addresses: &[u64], refusal: Refusal) -> Fault 
 /// The fix-up's, of a section's entries.
 pub fn fixing(section: &Section, linked: &LinkedSection, refusal: Refusal) -> Fault {
     let (entries, targets) = (Reloc::bytes(&linked.entries), Resolved::bytes(&linked.targets));
-    let at = position::in_entries(refusal, section.contents, linked.address, entries, targets);
+    let at = position_of_refusal::in_entries(refusal, section.contents, linked.address, entries, targets);
     let words = |entry| Some(format!("entry {entry}, {}", record(section, own_record(&section.records, entry))?));
     Fault::refused(&format!("the fix-up of section {}", section.name), refusal, at.and_then(words))
 }
 
 /// The hint run's, of hints with these numbers in the object.
 pub fn working(image: &[u8], hints: &[HintRecord], numbers: &[usize], entries: &[Reloc], refusal: Refusal) -> Fault {
-    let at = position::in_hints(refusal, image, HintRecord::bytes(hints), Reloc::bytes(entries));
+    let at = position_of_refusal::in_hints(refusal, image, HintRecord::bytes(hints), Reloc::bytes(entries));
     Fault::refused("the hints", refusal, at.map(|at| format!("hint {}", numbers[at])))
 }
 

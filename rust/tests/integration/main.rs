@@ -7,7 +7,7 @@ use std::collections::BTreeMap;
 use std::ops::Range;
 use std::path::Path;
 
-use hauklivo::{HintInsn, HintRecord, Record, Report, Resolved, flag, position, ty};
+use hauklivo::{HintInsn, HintRecord, Record, Report, Resolved, flag, position_of_refusal, ty};
 use linker::*;
 
 /// A relocation record of a mapped file.
@@ -49,7 +49,7 @@ fn read_relocs(
     match hauklivo::read_relocs(contents, MachRel::bytes(rels), &addrs, slots) {
         Ok(n) => entries.truncate(n),
         Err(refusal) => {
-            let at = position::in_records(refusal, contents, MachRel::bytes(rels), &addrs);
+            let at = position_of_refusal::in_records(refusal, contents, MachRel::bytes(rels), &addrs);
             let at = at.map(|i| format!(": record {i} at 0x{:x}", rels[i].offset)).unwrap_or_default();
             fatal!("{}: {}: {refusal}{at}", file_name.display(), hdr.sectname().escape_ascii())
         }
@@ -125,7 +125,7 @@ fn apply_reloc_alloc(ctx: &Context<Arm64>, rels: &[Reloc], isec_id: usize, base:
             }
         }
         Err(refusal) => {
-            let at = position::in_entries(refusal, buf, base, entries, targets);
+            let at = position_of_refusal::in_entries(refusal, buf, base, entries, targets);
             let at = at.map(|i| format!(": relocation {i} at 0x{:x}", rels[i].offset)).unwrap_or_default();
             fatal!("{}: {refusal}{at}", ctx.objs[isec.file as usize].mf.name.display())
         }

@@ -22,13 +22,13 @@
 //! of n, and no number is looked for in a taken entry, so that the refusal is the SUBTRACTOR's own.
 //!
 //! ```
-//! use hauklivo::{MachRel, Record, Refusal, Reloc, position, ty, typed};
+//! use hauklivo::{MachRel, Record, Refusal, Reloc, position_of_refusal, ty, typed};
 //!
 //! // A branch, and a record whose type there is none of.
 //! let records = [MachRel::new(0, 5, true, 2, true, ty::BRANCH26), MachRel::new(4, 5, true, 2, true, 15)];
 //! let refused = typed::read_relocs(&[0; 8], &records, &[], &mut [Reloc::default(); 2]);
 //! assert_eq!(refused, Err(Refusal::Unsupported));
-//! let position = position::in_records(Refusal::Unsupported, &[0; 8], MachRel::bytes(&records), &[]);
+//! let position = position_of_refusal::in_records(Refusal::Unsupported, &[0; 8], MachRel::bytes(&records), &[]);
 //! assert_eq!(position, Some(1));
 //! ```
 

@@ -3,7 +3,8 @@
 use std::collections::BTreeSet;
 
 use hauklivo::{
-    HintInsn, HintRecord, MachRel, Record, Refusal, Reloc, Report, Resolved, Target, flag, kind, position, ty, typed,
+    HintInsn, HintRecord, MachRel, Record, Refusal, Reloc, Report, Resolved, Target, flag, kind, position_of_refusal,
+    ty, typed,
 };
 
 const NOP: u32 = 0xd503201f;
@@ -134,7 +135,7 @@ fn records() {
         let done = typed::read_relocs(&contents, list, &SECTIONS, &mut vec![Reloc::default(); list.len()]);
         assert_eq!(done.err(), due.map(|(_, refusal)| refusal), "{list:x?}");
         for refusal in Refusal::ALL {
-            let found = position::in_records(*refusal, &contents, MachRel::bytes(list), &SECTIONS);
+            let found = position_of_refusal::in_records(*refusal, &contents, MachRel::bytes(list), &SECTIONS);
             assert_eq!(found, due.filter(|due| due.1 == *refusal).map(|due| due.0), "{refusal}: {list:x?}");
         }
         met.note(list.len(), due);
@@ -227,7 +228,7 @@ fn entries() {
             assert_eq!(done.err(), due.map(|(_, refusal)| refusal), "{list:x?}");
             let (entries, targets) = (Reloc::bytes(&entries), Resolved::bytes(&targets));
             for refusal in Refusal::ALL {
-                let found = position::in_entries(*refusal, &[0; 16], base, entries, targets);
+                let found = position_of_refusal::in_entries(*refusal, &[0; 16], base, entries, targets);
                 assert_eq!(found, due.filter(|due| due.1 == *refusal).map(|due| due.0), "{refusal}: {list:x?}");
             }
             met.note(list.len(), due);
@@ -291,7 +292,8 @@ fn hints() {
         let done = typed::apply_hints(&mut image.clone(), list, &entries);
         assert_eq!(done.err(), due.map(|(_, refusal)| refusal), "{list:x?}");
         for refusal in Refusal::ALL {
-            let found = position::in_hints(*refusal, &image, HintRecord::bytes(list), Reloc::bytes(&entries));
+            let found =
+                position_of_refusal::in_hints(*refusal, &image, HintRecord::bytes(list), Reloc::bytes(&entries));
             assert_eq!(found, due.filter(|due| due.1 == *refusal).map(|due| due.0), "{refusal}: {list:x?}");
         }
         met.note(list.len(), due);
@@ -303,14 +305,14 @@ fn hints() {
 #[test]
 fn whole_lists() {
     let bad = [0xff; 64];
-    assert_eq!(position::in_records(Refusal::Lengths, &[], &bad[..7], &[]), None);
-    assert_eq!(position::in_records(Refusal::Slots, &[], &bad[..8], &[]), None);
-    assert_eq!(position::in_records(Refusal::Bounds, &[], &bad[..7], &[]), None);
-    assert_eq!(position::in_records(Refusal::Bounds, &[], &bad[..8], &[]), Some(0));
-    assert_eq!(position::in_entries(Refusal::Bounds, &[], 0, &bad[..48], &bad[..48]), None);
-    assert_eq!(position::in_entries(Refusal::Bounds, &[], 0, &bad[..24], &bad[..48]), Some(0));
-    assert_eq!(position::in_entries(Refusal::Bounds, &[], 0, &bad[..25], &bad[..48]), None);
-    assert_eq!(position::in_hints(Refusal::Bounds, &[], &bad[..63], &[]), None);
+    assert_eq!(position_of_refusal::in_records(Refusal::Lengths, &[], &bad[..7], &[]), None);
+    assert_eq!(position_of_refusal::in_records(Refusal::Slots, &[], &bad[..8], &[]), None);
+    assert_eq!(position_of_refusal::in_records(Refusal::Bounds, &[], &bad[..7], &[]), None);
+    assert_eq!(position_of_refusal::in_records(Refusal::Bounds, &[], &bad[..8], &[]), Some(0));
+    assert_eq!(position_of_refusal::in_entries(Refusal::Bounds, &[], 0, &bad[..48], &bad[..48]), None);
+    assert_eq!(position_of_refusal::in_entries(Refusal::Bounds, &[], 0, &bad[..24], &bad[..48]), Some(0));
+    assert_eq!(position_of_refusal::in_entries(Refusal::Bounds, &[], 0, &bad[..25], &bad[..48]), None);
+    assert_eq!(position_of_refusal::in_hints(Refusal::Bounds, &[], &bad[..63], &[]), None);
 }
 
 /// In a long list, too.
@@ -319,7 +321,7 @@ fn a_long_list() {
     let mut records = vec![MachRel::new(0, 5, true, 2, true, ty::BRANCH26); 10_000];
     for at in [0, 1, 4_999, 5_000, 9_998, 9_999] {
         let good = std::mem::replace(&mut records[at], MachRel::new(0, 5, true, 2, true, 15));
-        let found = position::in_records(Refusal::Unsupported, &[0; 4], MachRel::bytes(&records), &[]);
+        let found = position_of_refusal::in_records(Refusal::Unsupported, &[0; 4], MachRel::bytes(&records), &[]);
         assert_eq!(found, Some(at));
         records[at] = good;
     }
@@ -333,5 +335,5 @@ fn falling_hints() {
         |object| HintRecord { kind: kind::ADRP_ADD, words: 2, object, length: 8, places, ..HintRecord::default() };
     let mut hints: Vec<HintRecord> = (0..40_000).rev().map(hint).collect();
     hints[39_990].length = 7;
-    assert_eq!(position::in_hints(Refusal::Bounds, &[0; 8], HintRecord::bytes(&hints), &[]), Some(39_990));
+    assert_eq!(position_of_refusal::in_hints(Refusal::Bounds, &[0; 8], HintRecord::bytes(&hints), &[]), Some(39_990));
 }
