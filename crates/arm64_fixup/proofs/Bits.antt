@@ -1,4 +1,4 @@
--- On any word, of whatever form: which of its bits an entry changes, and to what. For entry k of any accepted list that no SUBTRACTOR
+-- On any word, of whatever class: which of its bits an entry changes, and to what. For entry k of any accepted list that no SUBTRACTOR
 -- consumes and whose bytes no other entry writes. The new word is a sum of fields, which are read off by arithmetic.
 use mathlib.Core.Path.{_≡_}
 use mathlib.Core.List.{List}

@@ -1,5 +1,5 @@
--- The decoders (RULES 1.6, 7.16 to 7.19): what each decoder and each test of a word answers, against the manual's form of the word. A diagram that
--- asks more than a class's says which fields it fixes besides; the rest is the class's form.
+-- The decoders (RULES 1.6, 7.16 to 7.19): what each decoder and each test of a word answers, against the manual's instruction of the word. A diagram that
+-- asks more than a class's says which fields it fixes besides; the rest is the class's.
 use mathlib.Core.Path.{_≡_, refl, sym, ap, _∙_}
 use mathlib.Core.Bool.{Bool, true, false, _&&_, _||_, not, false≢true}
 use mathlib.Core.List.{[], _∷_}

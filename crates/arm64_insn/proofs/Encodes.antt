@@ -1,5 +1,5 @@
--- The encoders (RULES 1.6, 7.22 to 7.31): each word that is made is the manual's encoding of the form meant, and each word that is patched is the old
--- form with one field replaced. A word that has a form is its encoding, and the fields of an encoding are read off by arithmetic.
+-- The encoders (RULES 1.6, 7.22 to 7.31): each word that is made is the manual's encoding of the instruction meant, and each word that is patched is the
+-- old instruction with one field replaced. A word that has an instruction is its encoding, and the fields of an encoding are read off by arithmetic.
 use mathlib.Core.Path.{_≡_, refl, sym, ap, _∙_, subst}
 use mathlib.Core.Bool.{Bool, true, false, _&&_, not}
 use mathlib.Core.List.{[], _∷_}

@@ -1,4 +1,4 @@
--- What the immediates of the forms in scope mean (Arm Architecture Reference Manual, C6.2, the operations of ADR, LDR (literal), B, BL,
+-- What the immediates of the instructions in scope mean (Arm Architecture Reference Manual, C6.2, the operations of ADR, LDR (literal), B, BL,
 -- ADD (immediate), MOVZ, and of loads and stores with an unsigned offset, of vector registers in C7.2; that of ADRP is `adrpPage`; RULES 7.12).
 use Prim.Native.Nat.{ℕ, _+_, _*_, _%_, _^_}
 use lib.Dec.{eqb}

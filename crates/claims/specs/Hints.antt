@@ -56,7 +56,7 @@ pub record Hints : Type 2 where
   pub references : (n : ℕ) (s : Insns) (r : Rels) (p : Plan) → decide n s r ≡ Rewritten p → Refers n r
   -- each exception of the entries occurs: whatever entries refer so, there are words with which the hint is rewritten
   pub exceptions : (n : ℕ) (r : Rels) → (wordsOf n ≡ [] → ⊥) → Refers n r → Occurs n r
-  -- what is rewritten has the kind's words, by the manual's forms, or what may stand there instead
+  -- what is rewritten has the kind's words, by the manual's instructions, or what may stand there instead
   pub words : (n : ℕ) (s : Insns) (r : Rels) (p : Plan) → decide n s r ≡ Rewritten p → AreWords (wordsOf n) (s .w0 ∷ s .w1 ∷ s .w2 ∷ [])
   -- RULES 8.12, 8.14: what each rewrite writes at each place, and which kinds may answer nine: the table Written (arm64_hint_laws/specs/Written)
   pub written : (kind : ℕ) (s : Insns) (r : Rels) → Written s kind (decide kind s r)

@@ -1,4 +1,4 @@
--- The Arm manual (RULES 1.5, 1.6, 7): forms and words, the code's masks, what a disassembler prints.
+-- The Arm manual (RULES 1.5, 1.6, 7): instructions and words, the code's masks, what a disassembler prints.
 use mathlib.Core.Path.{_≡_}
 use mathlib.Core.Bool.{true, false}
 use mathlib.Core.Logic.{_≢_}
@@ -23,7 +23,7 @@ diagramAt k = getD classes k (class [] (λ w. none)) .diagram
 abbrev pub Tests : (diagram : List Part) (mask value : ℕ) → Type 0
 Tests diagram mask value = (w : ℕ) → eqb (bitAnd w mask) value ≡ matches diagram w
 
--- the forms of the Arm manual
+-- the instructions of the Arm manual
 pub record Manual : Type 0 where
   -- RULES 1.6, 7.8: decoding undoes encoding, and encoding decoding
   pub decode-encode : (i : Insn) → InRange i → decode (encode i) ≡ instruction i
@@ -54,7 +54,7 @@ pub record Manual : Type 0 where
       × Tests br 0xffff_fc1f 0xd61f_0000
       × Tests nop 0xffff_ffff 0xd503_201f
       × Tests movz 0x7f80_0000 0x5280_0000
-  -- RULES 11.14: forms encode as llvm-mc assembles them, and decode back (the list: arm64_insn/specs/ManualAssembled)
+  -- RULES 11.14: instructions encode as llvm-mc assembles them, and decode back (the list: arm64_insn/specs/ManualAssembled)
   pub assembled-encodes : map (λ (m : Made). encode (m .insn)) assembled ≡ map (λ (m : Made). m .word) assembled
   pub assembled-decodes : map (λ (m : Made). decode (m .word)) assembled ≡ map (λ (m : Made). instruction (m .insn)) assembled
   -- the tables of loads and stores, and of literal loads, are what llvm-objdump prints (the lines: arm64_insn/specs/ManualLines)
