@@ -19,7 +19,8 @@ use Rattle.arm64_insn.proofs.Manual.{encode-lt}
 use Rattle.arm64_hint_terms.specs.Answer.{decisionNumber}
 use Rattle.arm64_hint_terms.specs.Plans.{folded}
 use Rattle.arm64_hint_laws.specs.Decide.{decide}
-use Rattle.arm64_hint_laws.specs.Written.{OnePage, SecondAccess, SecondAdd, ThirdAccess, Written, declines, nine-2, nine-3, nine-4, nine-5, nine-6, nine-8}
+use Rattle.arm64_hint_laws.specs.Written.{OnePage, SecondAccess, SecondAdd, ThirdAccess, Written}
+use Rattle.arm64_hint_laws.specs.Written.{declines, nine-2, nine-3, nine-4, nine-5, nine-6, nine-8}
 use Rattle.arm64_hint_laws.specs.Written.{drop-1, literal-2, literal-3, adr-3, fold-3, slot-4, literal-4, adr-4, fold-4, adr-5, fold-5}
 use Rattle.arm64_hint_laws.specs.Written.{slot-6, adr-6, fold-6, adr-7, slot-8, adr-8}
 use Rattle.arm64_hint_terms.specs.declared.answer.Insns.{Insns}
