@@ -12,7 +12,7 @@ use lib.Pow as Pow
 use Rattle.util.specs.Choice.{choose}
 use Rattle.util.specs.Bits.{field}
 use Rattle.util.specs.Diagram.{matches, fill}
-use Rattle.util.proofs.Choice.{choose-true, choose-false, choose-first, both}
+use Rattle.util.proofs.Choice.{choose-true, choose-false, choose-first, both, agree, agree-is}
 use Rattle.util.proofs.Below.{every}
 use Rattle.util.proofs.Diagram.{finer, fixed-field, matches-fill, matches-fields}
 use Rattle.arm64_insn.specs.Encoding.{adrp, add, addUnshifted, addImmediate, loadStore, ldrImmediate}
@@ -68,16 +68,6 @@ decodes-add w rd rn imm l e =
     let m : matches add w ≡ true =
     ap (matches add) (sym (encode-decode w (ADD 1 0 rd rn imm) l e)) ∙ matches-fill add (rd ∷ rn ∷ imm ∷ []) refl (r .2, (r .3, (r .4, tt))) in
     choose-true (matches add w) _ _ m ∙ cc (by-class w 2 (lit< tt) (h .matched), e)
-
--- two tests that agree
-abbrev agree : Bool → Bool → Bool
-agree true b = b
-agree false b = not b
-
-agree-is : (a b : Bool) → agree a b ≡ true → a ≡ b
-agree-is true b e = sym e
-agree-is false false e = refl
-agree-is false true e = e
 
 module _ (size v opc : ℕ) (hs : size < 4) (hv : v < 2) (ho : opc < 4) where
   ldrsw-cell : eqb (size * 8 + v * 4 + opc) 0b10_0_10 ≡ isLdrsw (rowOf size v opc)

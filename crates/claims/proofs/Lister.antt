@@ -37,7 +37,8 @@ use Rattle.arm64_insn.specs.declared.ldst.LoadStoreWord.{LoadStoreWord}
 use Rattle.arm64_insn.specs.declared.ldst.LoadStoreWord.the-variants as LoadStoreWord
 use Rattle.arm64_insn.proofs.Cells.{each-cell}
 use Rattle.lister_text.specs.Class.{classBy, classOf}
-use Rattle.lister_text.specs.Text.{digitOf, hexOf, className, lineOf, linesOf, textOf}
+use Rattle.text.specs.Digits.{codes, digitOf}
+use Rattle.lister_text.specs.Text.{hexOf, className, lineOf, linesOf, textOf}
 use Rattle.lister_text.specs.Listing.{lines, outAfter}
 use Rattle.lister_text.specs.declared.class.Class.{Class}
 use Rattle.lister_text.specs.declared.class.Class.the-variants.{Adrp, Add, Load, Store, Other}
@@ -48,7 +49,7 @@ use Rattle.lister_text.proofs.Answers.{Leaves, list-long, list-narrow, list-odd
 use Rattle.hauklivo.specs.Lent.{lentNumber, lentCount}
 use Rattle.hauklivo.specs.Lister.{numberTo, countTo}
 use Rattle.arm64_hint_kept.specs.Examples.{words}
-use Rattle.claims.specs.Lister.{codes, digit, hex, linesFrom, Lister}
+use Rattle.claims.specs.Lister.{digit, hex, linesFrom, Lister}
 
 -- ---- a line for each word
 

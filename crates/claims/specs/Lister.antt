@@ -5,8 +5,6 @@ use mathlib.Core.Bool.{true, false, _||_}
 use mathlib.Core.Logic.{_⊎_}
 use mathlib.Core.List.{List, [], _∷_, _++_}
 use Prim.Native.Nat.{ℕ, _+_, _*_, _/_, _%_, _^_, _≤_, _<_}
-use Prim.Native.Char.{code}
-use Prim.Native.String.{String, [] as []ˢ, _∷_ as _∷ˢ_}
 use lib.Dec.{eqb}
 use lib.ListN.{length, getD, take, drop}
 use Rattle.util.specs.All.{All}
@@ -20,17 +18,13 @@ use Rattle.arm64_insn.specs.declared.add.Add as D
 use Rattle.arm64_insn.specs.declared.add.AddWord.the-variants as AddWord
 use Rattle.arm64_insn.specs.declared.ldst.LoadStore as L
 use Rattle.arm64_insn.specs.declared.ldst.LoadStoreWord.the-variants as LoadStoreWord
+use Rattle.text.specs.Digits.{codes}
 use Rattle.lister_text.specs.Class.{classOf}
 use Rattle.lister_text.specs.Text.{className, lineOf, textOf}
 use Rattle.lister_text.specs.Listing.{outAfter}
 use Rattle.lister_text.specs.declared.class.Class.the-variants.{Adrp, Add, Load, Store, Other}
 use Rattle.hauklivo.specs.Lister.{numberTo, countTo}
 use Rattle.arm64_hint_kept.specs.Examples.{words}
-
--- the ASCII codes of a text
-abbrev pub codes : String → List ℕ
-codes []ˢ = []
-codes (c ∷ˢ s) = code c ∷ codes s
 
 -- a hexadecimal digit
 abbrev pub digit : ℕ → ℕ

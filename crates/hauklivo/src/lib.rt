@@ -2,6 +2,7 @@
 pub mod counted;
 pub mod fixup;
 pub mod hints;
+pub mod ldst;
 pub mod lister;
 pub mod reader;
 pub mod stub;

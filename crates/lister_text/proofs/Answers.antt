@@ -14,7 +14,7 @@ use Rattle.macho.specs.declared.refusal.Refusal.the-variants.{Lengths, Slots}
 use Rattle.macho.specs.declared.refusal.Answer.{Answer}
 use Rattle.macho.specs.declared.refusal.Answer.the-variants.{Refused, Filled}
 use Rattle.lister_text.specs.Text.{refused, textOf}
-use Rattle.lister_text.specs.Puts.{Puts}
+use Rattle.text.specs.Puts.{Puts}
 use Rattle.lister_text.specs.Listing.{lines, listOf, outAfter, outBy}
 use Rattle.lister_text.proofs.Printed.{too-long, odd-length, whole-words}
 

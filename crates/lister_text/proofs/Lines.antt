@@ -4,23 +4,20 @@ use mathlib.Core.List.{List}
 use Prim.Native.Nat.{ℕ, zero, suc, _+_, _*_, _≤_}
 use native.Mathlib.Omega.{arith}
 use native.Mathlib.Numerals.{add-one}
-use lib.Dec.{ltb, lit≤}
+use lib.Dec.{lit≤}
 use lib.ListN.{length, length-append}
 use Rattle.util.specs.Word.{le}
-use Rattle.util.proofs.Choice.{chosen}
 use Rattle.lister_text.specs.Class.{classOf}
-use Rattle.lister_text.specs.Text.{digits, hexOf, decimal, className, lineOf, linesOf}
-use Rattle.lister_text.specs.Puts.{Puts}
-use Rattle.lister_text.proofs.Stores.{put-then}
+use Rattle.text.proofs.Decimal.{decimal-length}
+use Rattle.lister_text.specs.Text.{hexOf, className, lineOf, linesOf}
+use Rattle.text.specs.Puts.{Puts}
+use Rattle.text.proofs.Stores.{put-then}
 use Rattle.lister_text.specs.declared.class.Class.{Class}
 use Rattle.lister_text.specs.declared.class.Class.the-variants.{Adrp, Add, Load, Store, Other}
 
 hex-length : (x : ℕ) → length (hexOf x) ≡ 9
 unfolding hexOf
 hex-length x = refl
-
-decimal-length : (x : ℕ) → length (decimal x) ≤ 2
-decimal-length x = chosen (λ (l : List ℕ). length l ≤ 2) (ltb x 10) (digits 10 1 x) (digits 10 2 x) (lit≤ tt) (lit≤ tt)
 
 class-length : (c : Class) → length (className c) ≤ 8
 unfolding className

@@ -1,5 +1,4 @@
 -- What the lister's contracts cite.
 pub mod Class
 pub mod Text
-pub mod Puts
 pub mod Listing

@@ -1,30 +1,18 @@
 -- The text that the lister prints (RULES 10.1 to 10.4), as ASCII codes.
-use Prim.Native.Nat.{ℕ, zero, suc, _+_, _*_, _/_, _%_, _^_}
+use Prim.Native.Nat.{ℕ, zero, suc, _+_, _*_, _/_, _%_}
 use mathlib.Core.List.{List, [], _∷_, _++_}
 use lib.Dec.{ltb, eqb}
 use lib.ListN.{length}
 use Rattle.util.specs.Choice.{choose}
 use Rattle.util.specs.Word.{le}
+use Rattle.text.specs.Digits.{digits, decimal}
 use Rattle.lister_text.specs.Class.{classOf}
 use Rattle.lister_text.specs.declared.class.Class.{Class}
 use Rattle.lister_text.specs.declared.class.Class.the-variants.{Adrp, Add, Load, Store, Other}
 
--- a digit below 16: `0` to `9`, then `a` to `f`
-abbrev pub digitOf : ℕ → ℕ
-digitOf d = choose (ltb d 10) (48 + d) (87 + d)
-
--- the last n digits of x in base b, the most significant first
-abbrev pub digits : ℕ → ℕ → ℕ → List ℕ
-digits b zero x = []
-digits b (suc n) x = digitOf (x / b ^ n % b) ∷ digits b n x
-
 -- 8 hexadecimal digits and a space
 unfoldable pub hexOf : ℕ → List ℕ
 hexOf x = digits 16 8 x ++ (32 ∷ [])
-
--- a number below 100 in decimal, without leading zero
-abbrev pub decimal : ℕ → List ℕ
-decimal x = choose (ltb x 10) (digits 10 1 x) (digits 10 2 x)
 
 -- `adrp`, `add`, `load N`, `store N`, `other`
 unfoldable pub className : Class → List ℕ

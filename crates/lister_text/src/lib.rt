@@ -5,37 +5,17 @@ use class::Class;
 use class::class_of;
 use macho::refusal::Answer;
 use macho::refusal::Refusal;
+use text::digit;
+use text::put;
+use text::put_decimal;
 ghost use mathlib.Core.Path.{_≡_};
 ghost use mathlib.Core.List.{_∷_, [], _++_};
 ghost use Prim.Native.Nat.{_+_, _*_, _/_, _≤_, _<_};
 ghost use lib.ListN.{length};
-ghost use Rattle.lister_text.specs.Text.{digitOf, hexOf, decimal, className, lineOf, linesOf, refused, textOf};
-ghost use Rattle.lister_text.specs.Puts.{Puts};
+ghost use Rattle.text.specs.Digits.{decimal};
+ghost use Rattle.text.specs.Puts.{Puts};
+ghost use Rattle.lister_text.specs.Text.{hexOf, className, lineOf, linesOf, refused, textOf};
 ghost use Rattle.lister_text.specs.Listing.{listOf, outAfter};
-
-// Puts a text at `at`, and answers where it ends.
-fn put(out: &mut [u8], at: usize, text: &[u8]) -> usize
-    requires { ⌜ at + length (now text) ≤ length (now out) ⌝ }
-    ensures { λ r. ⌜ Puts (now (out .entry)) at (now (text .entry)) r (now (out .exit)) ⌝ }
-{
-    let mut i = 0;
-    while i < text.len() {
-        out[at + i] = text[i];
-        i += 1;
-    }
-    at + i
-}
-
-// The ASCII code of a digit.
-fn digit(d: u32) -> u8
-    requires { ⌜ d < 16 ⌝ }
-    ensures { λ r. ⌜ r ≡ digitOf d ⌝ }
-{
-    if d < 10 {
-        return (48 + d) as u8;
-    }
-    (87 + d) as u8
-}
 
 // A word in hexadecimal, and a space.
 fn hex(x: u32) -> [u8; 9]
@@ -59,16 +39,8 @@ fn put_size(out: &mut [u8], at: usize, size: u64) -> usize
     requires { ⌜ at + 3 ≤ length (now out) ⌝ }
     ensures { λ r. ⌜ Puts (now (out .entry)) at (decimal size ++ (10 ∷ [])) r (now (out .exit)) ⌝ }
 {
-    if size < 10 {
-        let text = [digit((size % 10) as u32), b'\n'];
-        return put(out, at, &text);
-    }
-    let text = [
-        digit((size / 10 % 10) as u32),
-        digit((size % 10) as u32),
-        b'\n',
-    ];
-    put(out, at, &text)
+    let next = put_decimal(out, at, size);
+    put(out, next, b"\n")
 }
 
 // Puts a class and a newline.

@@ -1,6 +1,6 @@
 -- What holds of both ways of a choice holds of the choice.
-use mathlib.Core.Path.{_≡_, refl}
-use mathlib.Core.Bool.{Bool, true, false, _&&_, false≢true}
+use mathlib.Core.Path.{_≡_, refl, sym}
+use mathlib.Core.Bool.{Bool, true, false, _&&_, not, false≢true}
 use Rattle.util.specs.Choice.{choose}
 
 -- by the test
@@ -38,3 +38,13 @@ pub choose-first : {A : Type 0} (t : Bool) (a b c : A) → choose t a b ≡ c �
 unfolding choose
 choose-first true a b c e f = (refl, e)
 choose-first false a b c e f = absurd (f e)
+
+-- whether two tests agree
+abbrev pub agree : Bool → Bool → Bool
+agree true b = b
+agree false b = not b
+
+pub agree-is : (a b : Bool) → agree a b ≡ true → a ≡ b
+agree-is true b e = sym e
+agree-is false false e = refl
+agree-is false true e = e

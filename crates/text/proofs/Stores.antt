@@ -7,7 +7,7 @@ use native.Mathlib.Numerals.{add-one}
 use lib.ListN.{length, getD, set, take, length-append}
 use lib.Seq.{sets, take-suc, take-length, length-take-le}
 use Rattle.util.proofs.Bytes.{sets-append}
-use Rattle.lister_text.specs.Puts.{Puts}
+use Rattle.text.specs.Puts.{Puts}
 
 -- one byte more
 pub put-next : (l t : List ℕ) (at i : ℕ) → i < length t → set (sets l at (take i t)) (at + i) (getD t i 0) ≡ sets l at (take (i + 1) t)

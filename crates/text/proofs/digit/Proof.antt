@@ -2,8 +2,8 @@
 use borrow.Author.Tests.{lt-ltb, le-ltb}
 use Rattle.util.specs.Choice.{choose}
 use borrow.Author.Needs.{needs}
-use Rattle.lister_text.proofs.digit.Statement.{statement}
-use Rattle.lister_text.proofs.digit.Tie as tie
+use Rattle.text.proofs.digit.Statement.{statement}
+use Rattle.text.proofs.digit.Tie as tie
 
 add-result : tie.Need-add-result
 add-result c = search needs

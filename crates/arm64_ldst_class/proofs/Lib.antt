@@ -1,0 +1,4 @@
+-- Laws.
+pub mod Back
+pub mod High
+pub mod Manual

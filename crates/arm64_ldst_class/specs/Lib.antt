@@ -1,0 +1,3 @@
+-- What the contracts and laws cite.
+pub mod Class
+pub mod Row

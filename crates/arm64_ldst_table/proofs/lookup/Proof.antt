@@ -1,0 +1,28 @@
+-- `lookup`: the table is the list of the entries of all 1,024 indices, by one computed comparison, and a word's class is that of its index.
+use mathlib.Core.Path.{refl, ap, sym, _∙_}
+use Prim.Native.Nat.{ℕ, _/_, _^_}
+use native.Mathlib.Omega.{arith}
+use Rattle.util.specs.Choice.{choose}
+use Rattle.arm64_insn.specs.LoadStoreTable.{rowOf}
+use Rattle.arm64_ldst_class.specs.Class.{entryOf}
+use Rattle.arm64_ldst_class.specs.Row.{classAt}
+use Rattle.arm64_ldst_class.proofs.High.{class-high}
+use Rattle.arm64_ldst_table.proofs.Listed.{listed}
+use borrow.Author.Needs.{needs}
+use Rattle.arm64_ldst_table.proofs.lookup.Statement.{statement}
+use Rattle.arm64_ldst_table.proofs.lookup.Tie as tie
+
+cast-result : tie.Need-cast-result
+cast-result c = search needs
+
+array-read-result : tie.Need-array-read-result
+array-read-result c = search needs
+
+returns : tie.Need-returns
+unfolding classAt rowOf choose
+returns c =
+    let w = c .args .insn in
+    listed (λ k. entryOf (classAt k)) 1024 _ refl (w / 2 ^ 22) (omega arith) ∙ ap entryOf (sym (class-high w))
+
+pub lookup-spec : {M : Type 1} → statement M
+lookup-spec = tie.close (tie.spec cast-result array-read-result returns)
