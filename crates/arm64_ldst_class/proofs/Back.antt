@@ -1,13 +1,13 @@
--- An entry says the whole class: the fields of the number, one by one.
+-- An entry says the whole class: the fields of the number, one by one. Two classes with the same fields are the same.
 use mathlib.Core.Path.{_≡_, refl, ap, sym, _∙_}
-use mathlib.Core.Bool.{Bool, true, false}
+use mathlib.Core.Bool.{Bool, true, false, _&&_}
 use Prim.Native.Nat.{ℕ, _+_, _*_, _/_, _%_, _≤_, _<_}
 use native.Mathlib.Omega.{arith}
 use borrow.Author.Tests.{ne-eqb, eq-eqb, eqb-true, eqb-false}
 use lib.Dec.{eqb}
 use lib.Pow.{shr-shr}
 use Rattle.util.specs.Choice.{choose, flag}
-use Rattle.util.proofs.Choice.{choose-false}
+use Rattle.util.proofs.Choice.{choose-false, both, agree, agree-is}
 use Rattle.arm64_ldst_class.specs.Class.{entryOf, classIn}
 use Rattle.arm64_ldst_class.specs.declared.LoadStoreClass.{LoadStoreClass}
 use Rattle.arm64_ldst_class.specs.declared.LoadStoreClass.the-variants.{Moves, Neither}
@@ -57,3 +57,20 @@ entry-back e h =
         let a : e / 4 / 2 ≡ e / 8 = shr-shr e 2 1 in
         let b : e / 2 / 2 ≡ e / 4 = shr-shr e 1 1 in
         omega (arith, a, b)
+
+-- whether two classes are the same
+abbrev pub same : LoadStoreClass → LoadStoreClass → Bool
+same (Moves m s v l) (Moves n t w k) = eqb m n && (agree s t && (agree v w && agree l k))
+same (Moves m s v l) Neither = false
+same Neither (Moves n t w k) = false
+same Neither Neither = true
+
+pub same-is : (a b : LoadStoreClass) → same a b ≡ true → a ≡ b
+same-is (Moves m s v l) (Moves n t w k) e =
+    let p = both (eqb m n) (agree s t && (agree v w && agree l k)) e in
+    let q = both (agree s t) (agree v w && agree l k) (p .1) in
+    let r = both (agree v w) (agree l k) (q .1) in
+    cc (eqb-true m n (p .0), agree-is s t (q .0), agree-is v w (r .0), agree-is l k (r .1))
+same-is (Moves m s v l) Neither e = let z : _≡_ {A = ℕ} 0 1 = cc in absurd (omega arith)
+same-is Neither (Moves n t w k) e = let z : _≡_ {A = ℕ} 0 1 = cc in absurd (omega arith)
+same-is Neither Neither e = refl

@@ -1,16 +1,15 @@
 -- What the decoder sees of a load or store goes by bits 31 to 22, as the rows say: 32 cells by one computed test.
-use mathlib.Core.Path.{_≡_, refl, sym, ap, _∙_}
-use mathlib.Core.Bool.{Bool, true, false, _&&_}
+use mathlib.Core.Path.{_≡_, refl, sym, ap, _∙_, subst⁻¹}
+use mathlib.Core.Bool.{_&&_}
 use Prim.Native.Nat.{ℕ, _+_, _*_, _/_, _%_, _^_, _<_}
 use native.Mathlib.Nat.{div-one}
 use native.Mathlib.Omega.{arith}
-use borrow.Author.Tests.{eqb-true}
 use lib.Dec.{eqb}
 use lib.Pow.{shr-shr}
 use Rattle.util.specs.Choice.{choose}
 use Rattle.util.specs.Diagram.{matches}
 use Rattle.util.proofs.Below.{every}
-use Rattle.util.proofs.Choice.{choose-ap, both, agree, agree-is}
+use Rattle.util.proofs.Choice.{choose-ap, chosen}
 use Rattle.arm64_insn.specs.Encoding.{loadStore}
 use Rattle.arm64_insn.specs.LoadStoreTable.{rowOf}
 use Rattle.arm64_insn.specs.LoadStore.{takenAsLoad, accessOf, loadStoreWith, loadStoreOf, takenWord}
@@ -19,8 +18,9 @@ use Rattle.arm64_insn.specs.declared.ldst.Moved as M
 use Rattle.arm64_insn.specs.declared.ldst.Moved.the-variants as Moved
 use Rattle.arm64_insn.specs.declared.ldst.LoadStoreWord.the-variants.{Other}
 use Rattle.arm64_insn.proofs.Cells.{each-cell}
-use Rattle.arm64_ldst_class.specs.Class.{classOfWord}
+use Rattle.arm64_ldst_class.specs.Class.{entryOf, classIn, classOfWord}
 use Rattle.arm64_ldst_class.specs.Row.{highFields, sizeAt, vAt, opcAt, classBy, classAt}
+use Rattle.arm64_ldst_class.proofs.Back.{same, same-is, neither-back}
 use Rattle.arm64_ldst_class.specs.declared.LoadStoreClass.{LoadStoreClass}
 use Rattle.arm64_ldst_class.specs.declared.LoadStoreClass.the-variants.{Moves, Neither}
 
@@ -33,27 +33,15 @@ with-access : (x : ℕ) (a : M.Moved) → classOfWord (loadStoreWith x a) ≡ se
 with-access x (Moved.Of n s) = refl
 with-access x Moved.Neither = refl
 
--- whether two classes are the same
-abbrev same : LoadStoreClass → LoadStoreClass → Bool
-same (Moves m s v l) (Moves n t w k) = eqb m n && (agree s t && (agree v w && agree l k))
-same (Moves m s v l) Neither = false
-same Neither (Moves n t w k) = false
-same Neither Neither = true
-
-same-is : (a b : LoadStoreClass) → same a b ≡ true → a ≡ b
-same-is (Moves m s v l) (Moves n t w k) e =
-    let p = both (eqb m n) (agree s t && (agree v w && agree l k)) e in
-    let q = both (agree s t) (agree v w && agree l k) (p .1) in
-    let r = both (agree v w) (agree l k) (q .1) in
-    cc (eqb-true m n (p .0), agree-is s t (q .0), agree-is v w (r .0), agree-is l k (r .1))
-same-is (Moves m s v l) Neither e = let z : _≡_ {A = ℕ} 0 1 = cc in absurd (omega arith)
-same-is Neither (Moves n t w k) e = let z : _≡_ {A = ℕ} 0 1 = cc in absurd (omega arith)
-same-is Neither Neither e = refl
-
 cell : (size v opc : ℕ) → size < 4 → v < 2 → opc < 4 → seen size v opc (accessOf size v opc) ≡ classBy size v opc
 unfolding accessOf rowOf choose every
 cell size v opc hs hv ho =
     same-is _ _ (each-cell (λ s v o. same (seen s v o (accessOf s v o)) (classBy s v o)) refl size v opc hs hv ho)
+
+back-cell : (size v opc : ℕ) → size < 4 → v < 2 → opc < 4 → classIn (entryOf (classBy size v opc)) ≡ classBy size v opc
+unfolding rowOf choose every
+back-cell size v opc hs hv ho =
+    same-is _ _ (each-cell (λ s v o. same (classIn (entryOf (classBy s v o))) (classBy s v o)) refl size v opc hs hv ho)
 
 -- the diagram from bit 22 on
 match-high : (w : ℕ) → matches loadStore w ≡ matches highFields (w / 2 ^ 22)
@@ -76,6 +64,13 @@ module _ (w : ℕ) where
       choose-ap classOfWord (matches loadStore w) (loadStoreWith w (accessOf (sizeIn w) (vIn w) (opcIn w))) Other
       ∙ ap (λ (c : LoadStoreClass). choose (matches loadStore w) c Neither)
       (with-access w (accessOf (sizeIn w) (vIn w) (opcIn w)) ∙ cell (sizeIn w) (vIn w) (opcIn w) (omega arith) (omega arith) (omega arith))
+
+  -- an entry says all of it
+  pub class-back : classIn (entryOf (classOfWord (loadStoreOf w))) ≡ classOfWord (loadStoreOf w)
+  class-back =
+      subst⁻¹ (λ (c : LoadStoreClass). classIn (entryOf c) ≡ c) class-fields
+      (chosen (λ (c : LoadStoreClass). classIn (entryOf c) ≡ c) (matches loadStore w) (classBy (sizeIn w) (vIn w) (opcIn w)) Neither
+      (back-cell (sizeIn w) (vIn w) (opcIn w) (omega arith) (omega arith) (omega arith)) neither-back)
 
   -- and by its index
   pub class-high : classOfWord (loadStoreOf w) ≡ classAt (w / 2 ^ 22)

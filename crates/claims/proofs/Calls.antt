@@ -36,6 +36,7 @@ use Rattle.hauklivo.proofs.stub.hauklivo_write_stub.Met as WriteStub
 use Rattle.hauklivo.proofs.stub.hauklivo_write_thunk.Met as WriteThunk
 use Rattle.hauklivo.proofs.hints.hauklivo_apply_hints.Met as ApplyHints
 use Rattle.hauklivo.proofs.lister.hauklivo_list.Met as List′
+use Rattle.hauklivo.proofs.ldst.hauklivo_load_store_class.Met as LoadStoreClass
 use Rattle.hauklivo.proofs.version.hauklivo_version.Met as Version
 use Rattle.hauklivo.proofs.version.hauklivo_version_1.Met as Version1
 use Rattle.claims.specs.Calls.{Calls}
@@ -88,6 +89,7 @@ calls =
       write-thunk = λ M. WriteThunk.met;
       apply-hints = λ M. ApplyHints.met;
       list = λ M. List′.met;
+      load-store-class = λ M. LoadStoreClass.met;
       version = λ M. Version.met;
       version-1 = λ M. Version1.met;
       numbered = numbered;

@@ -5,6 +5,7 @@ use Rattle.claims.proofs.Numbers.{numbers}
 use Rattle.claims.proofs.Ignored.{ignored}
 use Rattle.claims.proofs.Manual.{manual}
 use Rattle.claims.proofs.Words.{words}
+use Rattle.claims.proofs.Classes.{classes}
 use Rattle.claims.proofs.Header.{header}
 use Rattle.claims.proofs.Fixup.{fixup}
 use Rattle.claims.proofs.Hints.{hints}
@@ -20,6 +21,7 @@ claims =
       ignored = ignored;
       manual = manual;
       words = words;
+      classes = classes;
       header = header;
       fixup = fixup;
       hints = hints;

@@ -19,6 +19,7 @@ use Rattle.hauklivo.proofs.stub.hauklivo_write_stub.Statement as WriteStub
 use Rattle.hauklivo.proofs.stub.hauklivo_write_thunk.Statement as WriteThunk
 use Rattle.hauklivo.proofs.hints.hauklivo_apply_hints.Statement as ApplyHints
 use Rattle.hauklivo.proofs.lister.hauklivo_list.Statement as List′
+use Rattle.hauklivo.proofs.ldst.hauklivo_load_store_class.Statement as LoadStoreClass
 use Rattle.hauklivo.proofs.version.hauklivo_version.Statement as Version
 use Rattle.hauklivo.proofs.version.hauklivo_version_1.Statement as Version1
 
@@ -37,6 +38,8 @@ pub record Calls : Type 2 where
   pub apply-hints : (M : Type 1) → ApplyHints.statement M
   -- the lister (hauklivo/src/lister.rt)
   pub list : (M : Type 1) → List′.statement M
+  -- a word's entry in the table of load and store classes (hauklivo/src/ldst.rt)
+  pub load-store-class : (M : Type 1) → LoadStoreClass.statement M
   -- the version of the calls, by either name (hauklivo/src/version.rt)
   pub version : (M : Type 1) → Version.statement M
   pub version-1 : (M : Type 1) → Version1.statement M

@@ -4,6 +4,7 @@ use Rattle.claims.specs.Numbers.{Numbers}
 use Rattle.claims.specs.Ignored.{Ignored}
 use Rattle.claims.specs.Manual.{Manual}
 use Rattle.claims.specs.Words.{Words}
+use Rattle.claims.specs.Classes.{Classes}
 use Rattle.claims.specs.Header.{Header}
 use Rattle.claims.specs.Fixup.{Fixup}
 use Rattle.claims.specs.Hints.{Hints}
@@ -20,6 +21,7 @@ pub record Claims : Type 2 where
   -- public documents (RULES 1.5 to 1.8); the nine of RULES 1.4 is among the hints
   pub manual : Manual
   pub words : Words
+  pub classes : Classes
   pub header : Header
   pub fixup : Fixup
   pub hints : Hints

@@ -5,6 +5,7 @@ pub mod Numbers
 pub mod Ignored
 pub mod Manual
 pub mod Words
+pub mod Classes
 pub mod Header
 pub mod Fixup
 pub mod Hints

@@ -7,6 +7,7 @@ use arm64_insn::fix::OffsetWord;
 use arm64_insn::ldst::LoadStore;
 use arm64_insn::ldst::LoadStoreWord;
 use arm64_insn::stub::Words3;
+use arm64_ldst_table::lookup;
 use libc::STDOUT_FILENO;
 ghost use Prim.Native.Nat.{_≤_, _<_};
 
@@ -220,6 +221,32 @@ fn class_of(word: u32, class: u64, bytes: u64) -> u64 {
     }
 }
 
+// The same by the table of classes.
+fn table_class_of(word: u32, class: u64, bytes: u64) -> u64 {
+    let entry = lookup(word) as u64;
+    if is_taken_as_load(word) {
+        if class == 0 && bytes == 0 && entry == 16 * ((word / 0x4000_0000) as u64) + 2 {
+            return 0;
+        }
+        return DIFFERS;
+    }
+    if entry == 0 {
+        if class == other_class(word) && bytes == 0 {
+            return 0;
+        }
+        return DIFFERS;
+    }
+    if class != 1 + entry / 4 % 2 || bytes != entry / 8 {
+        return DIFFERS;
+    }
+    entry / 2 % 2 + entry % 2 * 2
+}
+
+// An answer that two have.
+fn common(a: u64, b: u64) -> u64 {
+    if a == b { a } else { DIFFERS }
+}
+
 // Two letters as a number.
 fn letters(a: u8, b: u8) -> u32 {
     (a as u32) * 0x100 + (b as u32)
@@ -248,7 +275,7 @@ fn answer(kind: u32, word: u32, x: u64, y: u64) -> u64 {
                 arm64_insn::fix::IS_ENABLED as u64
             }
         }
-        CL => class_of(word, x, y),
+        CL => common(class_of(word, x, y), table_class_of(word, x, y)),
         _ => DIFFERS,
     }
 }

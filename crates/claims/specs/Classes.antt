@@ -1,0 +1,47 @@
+-- The table of load and store classes (RULES 7.32, 7.33): what an entry holds, that the table is the manual's rows, where the two part, and the file that the
+-- generator prints. That the exported call answers the entry of what the decoder sees is `Calls.load-store-class`.
+use mathlib.Core.Path.{_≡_}
+use mathlib.Core.Bool.{false, _&&_, _||_, not}
+use mathlib.Core.List.{List, [], _∷_, _++_}
+use Prim.Native.Nat.{ℕ, zero, suc, _/_, _^_, _≤_, _<_}
+use lib.Dec.{eqb}
+use Rattle.util.specs.Choice.{choose}
+use Rattle.text.specs.Digits.{codes}
+use Rattle.arm64_insn.specs.LoadStore.{loadStoreOf, takenWord}
+use Rattle.arm64_insn.specs.Manual.{decode, allocated}
+use Rattle.arm64_ldst_class.specs.Class.{entryOf, classIn, classOfWord}
+use Rattle.arm64_ldst_class.specs.Row.{classOfInsn, classAt, isAccess, marksLdrsw}
+use Rattle.arm64_ldst_class.specs.declared.LoadStoreClass.the-variants.{Neither}
+use Rattle.arm64_ldst_table.proofs.lookup.Statement as Lookup
+
+-- the indices below n that are loads or stores, the least first, each with its entry
+abbrev pub accessesBelow : ℕ → List (ℕ × ℕ)
+accessesBelow zero = []
+accessesBelow (suc n) = accessesBelow n ++ choose (isAccess (classAt n)) ((n, entryOf (classAt n)) ∷ []) []
+
+-- the class of a load or store by bits 31 to 22
+pub record Classes : Type 2 where
+  -- RULES 7.32: the table's entry of a word is that of the class which the decoder sees in it
+  pub lookup : (M : Type 1) → Lookup.statement M
+  -- it is the class of bits 31 to 22, by the manual's rows
+  pub by-index : (w : ℕ) → classOfWord (loadStoreOf w) ≡ classAt (w / 2 ^ 22)
+  -- every index that is a load or store, with its entry
+  pub entries : accessesBelow 1024
+      ≡ (0x0e4, 12) ∷ (0x0e5, 8) ∷ (0x0e6, 8) ∷ (0x0e7, 8) ∷ (0x0f4, 14) ∷ (0x0f5, 10) ∷ (0x0f6, 134) ∷ (0x0f7, 130)
+      ∷ (0x1e4, 20) ∷ (0x1e5, 16) ∷ (0x1e6, 16) ∷ (0x1e7, 16) ∷ (0x1f4, 22) ∷ (0x1f5, 18) ∷ (0x1f6, 18) ∷ (0x1f7, 18)
+      ∷ (0x2e4, 36) ∷ (0x2e5, 32) ∷ (0x2e6, 33) ∷ (0x2f4, 38) ∷ (0x2f5, 34) ∷ (0x2f6, 34)
+      ∷ (0x3e4, 68) ∷ (0x3e5, 64) ∷ (0x3f4, 70) ∷ (0x3f5, 66)
+      ∷ []
+  -- an entry says the whole class
+  pub back : (w : ℕ) → classIn (entryOf (classOfWord (loadStoreOf w))) ≡ classOfWord (loadStoreOf w)
+  -- 0 is no load or store, and each number from 8 on is the entry of its class
+  pub none-back : classIn 0 ≡ Neither
+  pub entry-back : (e : ℕ) → 8 ≤ e → entryOf (classIn e) ≡ e
+  -- but for the words that RULES 7.19 takes as loads, the class is what the manual's instruction moves
+  pub manual : (w : ℕ) → takenWord w ≡ false → classOfWord (loadStoreOf w) ≡ classOfInsn (decode w)
+  -- those are the words that the manual leaves unallocated and that have an entry
+  pub taken : (w : ℕ) → (not (allocated w) && isAccess (classOfWord (loadStoreOf w))) ≡ takenWord w
+  -- they have three indices
+  pub taken-at : (w : ℕ) → w < 2 ^ 32 → takenWord w ≡ (eqb (w / 2 ^ 22) 0x1f6 || (eqb (w / 2 ^ 22) 0x1f7 || eqb (w / 2 ^ 22) 0x2f6))
+  -- RULES 7.20: LDRSW is marked at one index, of general registers
+  pub ldrsw-at : (w : ℕ) → w < 2 ^ 32 → marksLdrsw (classOfWord (loadStoreOf w)) ≡ eqb (w / 2 ^ 22) 0x2e6
