@@ -1,6 +1,6 @@
 -- `lookup`: the table is the list of the entries of all 1,024 indices, by one computed comparison, and a word's class is that of its index.
 use mathlib.Core.Path.{refl, ap, sym, _∙_}
-use Prim.Native.Nat.{ℕ, _/_, _^_}
+use Prim.Native.Nat.{_/_, _^_}
 use native.Mathlib.Omega.{arith}
 use Rattle.util.specs.Choice.{choose}
 use Rattle.arm64_insn.specs.LoadStoreTable.{rowOf}

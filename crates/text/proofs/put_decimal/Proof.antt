@@ -1,5 +1,4 @@
 -- `put_decimal` meets its contract: one digit below 10, else two. Assumes nothing.
-use mathlib.Core.List.{[], _∷_}
 use Rattle.text.proofs.Decimal.{one-digit, two-digits}
 use borrow.Author.Needs.{needs}
 use Rattle.text.proofs.put_decimal.Statement.{statement}
