@@ -1,9 +1,11 @@
 /*
  * Hauklivo: the calls that a Mach-O linker makes for arm64.
  *
- * For every input whose pieces don't overlap, a call touches nothing but what it is lent, and returns
- * 0 or the number of a refusal (enum hauklivo_number). A refused call changes nothing that it was
- * lent: no byte, no slot, no count, no tally.
+ * For every input whose pieces don't overlap, a call touches nothing but what it is lent. A call that
+ * is lent something returns 0 or the number of a refusal (enum hauklivo_number). A refused call changes
+ * nothing that it was lent: no byte, no slot, no count, no tally. The calls that are lent nothing
+ * (hauklivo_version, hauklivo_version_1, hauklivo_load_store_class) refuse nothing, and what they return
+ * is no such number.
  *
  * Pieces that don't overlap: what a call may write (a section, an image, slots, bytes, a count, a
  * tally) may not share a byte with anything else that is lent to the same call. Nothing is promised of
@@ -29,7 +31,9 @@ extern "C" {
 #define HAUKLIVO_ASSERT _Static_assert
 #endif
 
-/* The version of these calls. It rises by one where a call, a record or a number changes. */
+/* The version of these calls. It rises by one where a call, a record or a number that was there
+ * changes. A call that is added leaves it: a program that makes the call does not link with a library
+ * that was made before it, and any other program links with both. */
 #define HAUKLIVO_VERSION 1
 
 /* The version of the library that is linked: HAUKLIVO_VERSION, unless it and this header are of
@@ -39,7 +43,7 @@ uint32_t hauklivo_version(void);
 /* The same. Only a library of this version has the name: a program that calls it links with no other. */
 uint32_t hauklivo_version_1(void);
 
-/* What a call returns. */
+/* What a call that is lent something returns. */
 enum hauklivo_number {
     /* The call did its work. */
     HAUKLIVO_DONE = 0,
@@ -350,6 +354,29 @@ uint8_t hauklivo_apply_hints(uint8_t *image, size_t image_len, const void *hints
  */
 uint8_t hauklivo_list(const uint8_t *words, size_t words_len, uint8_t *out, size_t out_len,
                       size_t *count);
+
+/* Bits of a load's or store's class. The class divided by 8 is how many bytes are moved: 1, 2, 4, 8 or
+ * 16. */
+enum hauklivo_class {
+    /* LDRSW: 4 bytes, sign-extended into 8 of a general register. */
+    HAUKLIVO_CLASS_LDRSW = 1,
+    /* Of a vector register; where clear, of a general one. */
+    HAUKLIVO_CLASS_VECTOR = 2,
+    /* A store; where clear, a load. */
+    HAUKLIVO_CLASS_STORE = 4
+};
+
+/*
+ * The class of a load or store with a scaled unsigned offset: 8 times the bytes that it moves, plus the
+ * bits of enum hauklivo_class. 0 for any other word, also a prefetch. Bits 31 to 22 of the word decide,
+ * and no other counts.
+ *
+ *   insn  the word as a number: four bytes of a section, little-endian
+ *
+ * Words that the Arm manual leaves unallocated are classed as the hint decoders take them: those of a
+ * vector register whose bits 31 to 22 are 1f6 or 1f7 as loads of 2 bytes, 2f6 of 4, any other as 0.
+ */
+uint8_t hauklivo_load_store_class(uint32_t insn);
 
 #undef HAUKLIVO_ASSERT
 #ifdef __cplusplus

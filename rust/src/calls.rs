@@ -1,10 +1,10 @@
 //! The calls of libhauklivo.a, as safe functions.
 
 use crate::raw::{
-    hauklivo_apply_hints, hauklivo_apply_reloc_alloc, hauklivo_list, hauklivo_read_relocs, hauklivo_version,
-    hauklivo_write_stub, hauklivo_write_thunk,
+    hauklivo_apply_hints, hauklivo_apply_reloc_alloc, hauklivo_list, hauklivo_load_store_class, hauklivo_read_relocs,
+    hauklivo_version, hauklivo_write_stub, hauklivo_write_thunk,
 };
-use crate::{Refusal, Tally};
+use crate::{LoadStoreClass, Refusal, Tally};
 
 /// `answer` where the number is 0, else the refusal.
 fn settled<T>(number: u8, answer: T) -> Result<T, Refusal> {
@@ -254,6 +254,25 @@ pub fn list(words: &[u8], out: &mut [u8]) -> Result<usize, Refusal> {
     // SAFETY: as in read_relocs.
     let number = unsafe { hauklivo_list(words.as_ptr(), words.len(), out.as_mut_ptr(), out.len(), &mut count) };
     settled(number, count)
+}
+
+/// The class of a word that is a load or store with a scaled unsigned offset; None for any other, also a
+/// prefetch. Bits 31 to 22 decide, and no other counts.
+///
+/// Words that the Arm manual leaves unallocated are classed as the hint decoders take them: those of a
+/// vector register whose bits 31 to 22 are 1f6 or 1f7 as loads of 2 bytes, 2f6 of 4, any other as None.
+///
+/// ```
+/// use hauklivo::{LoadStoreClass, load_store_class};
+///
+/// let load = LoadStoreClass { bytes: 8, is_store: false, is_vector: false, is_ldrsw: false };
+/// assert_eq!(load_store_class(0xf9400001), Some(load)); // ldr x1, [x0]
+/// let store = LoadStoreClass { bytes: 16, is_store: true, is_vector: true, is_ldrsw: false };
+/// assert_eq!(load_store_class(0x3d800421), Some(store)); // str q1, [x1, #16]
+/// assert_eq!(load_store_class(0xd503201f), None); // nop
+/// ```
+pub fn load_store_class(insn: u32) -> Option<LoadStoreClass> {
+    LoadStoreClass::from_entry(hauklivo_load_store_class(insn))
 }
 
 #[cfg(test)]

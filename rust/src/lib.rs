@@ -1,6 +1,6 @@
 //! The last step of a Mach-O linker for arm64: relocation records into entries, entries into a
-//! section's bytes, single stub and thunk entries, linker optimization hints, and a listing of a
-//! section's words. Each function calls one function of the static
+//! section's bytes, single stub and thunk entries, linker optimization hints, a listing of a
+//! section's words, and the class of a load or store. Each function calls one function of the static
 //! library `libhauklivo.a`, which is proved to do what the project's definitions say, to touch
 //! nothing outside what it is lent, and to return.
 //!
@@ -51,6 +51,7 @@ compile_error!("libhauklivo.a is made for Linux and macOS, on x86-64 and Arm wit
 struct Readme;
 
 mod calls;
+mod class;
 pub mod position_of_refusal;
 pub mod raw;
 pub mod records;
@@ -58,7 +59,10 @@ mod refusal;
 pub mod typed;
 mod version;
 
-pub use calls::{LINE, apply_hints, apply_reloc_alloc, list, read_relocs, version, write_stub, write_thunk};
+pub use calls::{
+    LINE, apply_hints, apply_reloc_alloc, list, load_store_class, read_relocs, version, write_stub, write_thunk,
+};
+pub use class::LoadStoreClass;
 pub use records::{
     HintInsn, HintRecord, MachRel, Record, Reloc, Report, ReportKind, Resolved, Tally, Target, flag, kind, ty,
 };

@@ -1,5 +1,6 @@
-//! The functions of libhauklivo.a as they stand: a slice is lent as a pointer and a length. Each
-//! returns 0 or a [`Refusal`](crate::Refusal)'s number.
+//! The functions of libhauklivo.a as they stand: a slice is lent as a pointer and a length. Each that
+//! is lent something returns 0 or a [`Refusal`](crate::Refusal)'s number; the others, which are safe,
+//! refuse nothing.
 //!
 //! A pointer must be one that a slice of the length may have. What a call may write may not share a
 //! byte with anything else that is lent to it, or nothing is promised: a section that contains its own
@@ -67,4 +68,8 @@ unsafe extern "C" {
 
     /// See [`list`](crate::list()).
     pub fn hauklivo_list(words: *const u8, words_len: usize, out: *mut u8, out_len: usize, count: *mut usize) -> u8;
+
+    /// See [`load_store_class`](crate::load_store_class), and
+    /// [`LoadStoreClass::from_entry`](crate::LoadStoreClass::from_entry) for what the number is made of.
+    pub safe fn hauklivo_load_store_class(insn: u32) -> u8;
 }

@@ -3,8 +3,8 @@
 use std::mem::MaybeUninit;
 
 use hauklivo::{
-    HintInsn, HintRecord, MachRel, Record, Refusal, Reloc, Report, ReportKind, Resolved, Tally, Target, flag, kind, ty,
-    typed,
+    HintInsn, HintRecord, LoadStoreClass, MachRel, Record, Refusal, Reloc, Report, ReportKind, Resolved, Tally, Target,
+    flag, kind, load_store_class, ty, typed,
 };
 
 const FILL: u8 = 0xa5;
@@ -374,6 +374,61 @@ fn lister_refuses() {
     // 2 goes first.
     assert_eq!(listed(&[0; 16385], 5000 * hauklivo::LINE), Err(Refusal::Slots));
     assert_eq!(listed(&[0; 9], 0), Err(Refusal::Slots));
+}
+
+/// The class of these bytes moved; `bits` has 4 for a store, 2 for a vector register, 1 for LDRSW.
+fn class(bytes: u8, bits: u8) -> Option<LoadStoreClass> {
+    let [is_store, is_vector, is_ldrsw] = [4, 2, 1].map(|bit| bits & bit != 0);
+    Some(LoadStoreClass { bytes, is_store, is_vector, is_ldrsw })
+}
+
+#[test]
+fn classes() {
+    for (word, due) in [
+        (0x39000000, class(1, 4)),  // strb
+        (0x39c00000, class(1, 0)),  // ldrsb w
+        (0x3d400000, class(1, 2)),  // ldr b
+        (0x3d800000, class(16, 6)), // str q
+        (0x3dc00000, class(16, 2)), // ldr q
+        (0x79800000, class(2, 0)),  // ldrsh x
+        (0xb9000000, class(4, 4)),  // str w
+        (0xb9800000, class(4, 1)),  // ldrsw
+        (LDR_X, class(8, 0)),
+        (0xfd000000, class(8, 6)), // str d
+        (0x7d800000, class(2, 2)), // unallocated, as are the next two
+        (0x7dc00000, class(2, 2)),
+        (0xbd800000, class(4, 2)), // the size and opc of ldrsw, but of a vector register
+        (0xbdc00000, None),        // unallocated, too, but no load of the hint decoders
+        (0xf9800000, None),        // prfm
+        (0xb8404400, None),        // ldr w0, [x0], #4, without a scaled offset
+        (NOP, None),
+    ] {
+        assert_eq!(load_store_class(word), due, "{word:08x}");
+    }
+}
+
+/// Bits 31 to 22 decide: 26 of their values are a load or store, one of them LDRSW.
+#[test]
+fn low_bits_do_not_matter() {
+    let (mut count, mut ldrsw) = (0, 0);
+    for high in (0..1024).map(|i: u32| i << 22) {
+        let due = load_store_class(high);
+        for low in [1, 0x1f, 0x3e0, 0x15_5555, 0x20_0000, 0x3f_ffff] {
+            assert_eq!(load_store_class(high | low), due, "{high:08x}, {low:x}");
+        }
+        count += u32::from(due.is_some());
+        ldrsw += u32::from(due.is_some_and(|c| c.is_ldrsw));
+    }
+    assert_eq!((count, ldrsw), (26, 1));
+}
+
+#[test]
+fn entries_of_classes() {
+    assert_eq!(LoadStoreClass::from_entry(0), None);
+    assert_eq!(LoadStoreClass::from_entry(12), class(1, 4));
+    assert_eq!(LoadStoreClass::from_entry(33), class(4, 1));
+    assert_eq!(LoadStoreClass::from_entry(134), class(16, 6));
+    assert_eq!(hauklivo::raw::hauklivo_load_store_class(0xb9800000), 33);
 }
 
 #[test]

@@ -8,12 +8,13 @@
  * tried with a changed number and, where it has bytes of an answer, with one of those changed, and must be refused.
  */
 #include "hauklivo.h"
+#include "result.h"
 
 #include <stdio.h>
 #include <stdlib.h>
 #include <string.h>
 
-enum { TITLE = 0, READ = 1, FIX = 2, STUB = 3, THUNK = 4, HINTS = 5 };
+enum { TITLE = 0, READ = 1, FIX = 2, STUB = 3, THUNK = 4, HINTS = 5, CLASS = 6 };
 enum { GUARD = 32, GUARD_BYTE = 0xc3, MOST = 1 << 17 };
 
 /* A record: what it is, the answer's number, the body's length, and values. */
@@ -25,18 +26,6 @@ struct head {
 /* Why the last row did not hold. */
 static const char *why;
 
-/*
- * Results by the whole register: a library for a Mac must leave nothing above the byte, and that for Arm Linux is compiled
- * from the same module. The one for x86-64 Linux may leave anything there. This sees bits that a call does leave; that none
- * may, `zeroext`, is held by tests/targets alone, against what clang reads in the header.
- */
-#ifdef __aarch64__
-typedef uint32_t result;
-#else
-typedef uint8_t result;
-#endif
-#define CALL(name) __asm__("hauklivo_" #name)
-
 result read_relocs(const uint8_t *, size_t, const void *, size_t, const uint64_t *, size_t, void *, size_t, size_t *)
     CALL(read_relocs);
 result apply_reloc_alloc(uint8_t *, size_t, uint64_t, uint64_t, const void *, size_t, const void *, size_t, void *, size_t,
@@ -44,6 +33,7 @@ result apply_reloc_alloc(uint8_t *, size_t, uint64_t, uint64_t, const void *, si
 result write_stub(uint8_t *, size_t, uint64_t, uint64_t, uint8_t *) CALL(write_stub);
 result write_thunk(uint8_t *, size_t, uint64_t, uint64_t) CALL(write_thunk);
 result apply_hints(uint8_t *, size_t, const void *, size_t, const void *, size_t, struct hauklivo_tally *) CALL(apply_hints);
+result load_store_class(uint32_t) CALL(load_store_class);
 
 /* Bytes lent between guards. */
 struct lent {
@@ -182,6 +172,15 @@ static int holds_hints(const struct head *h, const uint8_t *body)
     return became(&first, after, h->v[0]) || fails("the image");
 }
 
+/* Here the number is a class. */
+static int holds_class(const struct head *h, const uint8_t *body)
+{
+    if (h->len != 4)
+        return fails("the record's lengths");
+    uint32_t word = body[0] | body[1] << 8 | body[2] << 16 | (uint32_t)body[3] << 24;
+    return load_store_class(word) == h->number || fails("the class");
+}
+
 static int holds(const struct head *h, const uint8_t *body)
 {
     turn++;
@@ -191,6 +190,7 @@ static int holds(const struct head *h, const uint8_t *body)
     case STUB:
     case THUNK: return holds_stub(h, body);
     case HINTS: return holds_hints(h, body);
+    case CLASS: return holds_class(h, body);
     default: return fails("no such call is known here: tests/arm.d/replay.c must learn it");
     }
 }

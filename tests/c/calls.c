@@ -297,6 +297,32 @@ static void lister(void)
     CHECK(count == 0);
 }
 
+static void classes(void)
+{
+    int count = 0;
+
+    CHECK(hauklivo_load_store_class(0x39000000) == 8 + HAUKLIVO_CLASS_STORE);  /* strb */
+    CHECK(hauklivo_load_store_class(0xb9800000) == 32 + HAUKLIVO_CLASS_LDRSW); /* ldrsw */
+    CHECK(hauklivo_load_store_class(0xf9400001) == 64);                        /* ldr x1, [x0] */
+    uint8_t q = hauklivo_load_store_class(0x3d800421);                         /* str q1, [x1, #16] */
+    CHECK(q / 8 == 16 && q % 8 == HAUKLIVO_CLASS_STORE + HAUKLIVO_CLASS_VECTOR);
+    CHECK(hauklivo_load_store_class(0xf9800000) == 0); /* prfm */
+    CHECK(hauklivo_load_store_class(0xd503201f) == 0); /* nop */
+
+    /* Unallocated words that are taken as loads; the last has the size and opc of LDRSW. */
+    CHECK(hauklivo_load_store_class(0x7d800000) == 16 + HAUKLIVO_CLASS_VECTOR);
+    CHECK(hauklivo_load_store_class(0x7dc00000) == 16 + HAUKLIVO_CLASS_VECTOR);
+    CHECK(hauklivo_load_store_class(0xbd800000) == 32 + HAUKLIVO_CLASS_VECTOR);
+
+    /* Bits 31 to 22 decide, and 26 of their values are a load or store. */
+    for (uint32_t high = 0; high < 1024; high++) {
+        uint8_t entry = hauklivo_load_store_class(high << 22);
+        CHECK(hauklivo_load_store_class(high << 22 | 0x3fffff) == entry);
+        count += entry != 0;
+    }
+    CHECK(count == 26);
+}
+
 static void version(void)
 {
     CHECK(hauklivo_version() == HAUKLIVO_VERSION);
@@ -311,6 +337,7 @@ int main(void)
     stub_and_thunk();
     hints();
     lister();
+    classes();
     if (failures == 0)
         puts("the C calls answer as they should");
     return failures != 0;

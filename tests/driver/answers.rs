@@ -13,6 +13,8 @@
 //! - 4, write_thunk. Values: bytes lent, 1. Body: address and target (u64), bytes after.
 //! - 5, apply_hints. Values: bytes of the image, of hints, of entries. Body: tally (four u32), image, hints, entries, image
 //!   after.
+//! - 6, load_store_class. The number is the class. Body: the word (u32). In the list of every case alone: that the classes
+//!   are those of the decoders is proved.
 //!
 //! After a refusal the bytes are those before it and the tally is zeros, which nobody reads. Slots after those filled
 //! keep the pattern of `lent.rs`, and so do the bytes of a stub or thunk that is refused.
@@ -32,6 +34,7 @@ pub const FIX: u8 = 2;
 pub const STUB: u8 = 3;
 pub const THUNK: u8 = 4;
 pub const HINTS: u8 = 5;
+pub const CLASS: u8 = 6;
 
 const FILES: [(&str, &[u8]); 3] =
     [("replay_reader", &[READ]), ("replay_fixup", &[FIX, STUB, THUNK]), ("replay_hints", &[HINTS])];

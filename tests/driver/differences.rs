@@ -10,7 +10,7 @@ use std::sync::atomic::{AtomicU64, Ordering};
 use hauklivo::{Record, Reloc, Resolved, Target, flag};
 
 use crate::fixup::{self, is_section, steps};
-use crate::{Difference, World, hints, reader, stub};
+use crate::{Difference, World, class, hints, reader, stub};
 
 /// How a row changes what is expected of a case.
 enum Change<C: Call> {
@@ -75,6 +75,17 @@ impl Call for hints::Case {
     }
 }
 
+impl Call for class::Case {
+    type Answer = class::Answer;
+    const PREDICATES: &[(&str, fn(&Self) -> bool)] =
+        &[("vector_with_fields_of_ldrsw", class::Case::is_vector_with_fields_of_ldrsw)];
+    const CHANGES: &[(&str, Change<Self>)] = &[("no_ldrsw", Change::Answered(no_ldrsw))];
+
+    fn rust(&self, world: &World) -> Result<Self::Answer, Difference> {
+        Ok(class::rust(self, world))
+    }
+}
+
 /// The entries of types PAGE21 and PAGEOFF12 whose target, a section or a symbol, has no address.
 fn without_address(case: &fixup::Case, sections: bool) -> Vec<u32> {
     let pairs = case.pairs();
@@ -108,6 +119,13 @@ fn as_past_image(case: &mut hints::Case) {
         hint.start = u32::MAX;
     }
     case.set_list(&list);
+}
+
+/// A load into a vector register is not marked as LDRSW.
+fn no_ldrsw(_: &class::Case, answer: &mut class::Answer) {
+    if let Some(access) = answer {
+        access.is_ldrsw = false;
+    }
 }
 
 /// A row's name, in how many cases it held, and in how many it changed the answer.
@@ -169,6 +187,7 @@ pub struct Differences {
     fixup: Vec<Row<fixup::Case>>,
     stub: Vec<Row<stub::Case>>,
     hints: Vec<Row<hints::Case>>,
+    class: Vec<Row<class::Case>>,
 }
 
 /// Adds the row of these names to a call's rows, if the call has them.
@@ -196,7 +215,8 @@ impl Differences {
             let is_there = add(&mut rows.reader, names)
                 || add(&mut rows.fixup, names)
                 || add(&mut rows.stub, names)
-                || add(&mut rows.hints, names);
+                || add(&mut rows.hints, names)
+                || add(&mut rows.class, names);
             if !is_there {
                 return Err(format!("no call has both names of the row: {predicate}, {change}"));
             }
@@ -220,10 +240,15 @@ impl Differences {
         expected(&self.hints, case, world)
     }
 
+    pub fn class(&self, case: &class::Case, world: &World) -> Result<class::Answer, Difference> {
+        expected(&self.class, case, world)
+    }
+
     /// The rows' counts so far.
     pub fn counts(&self) -> Vec<Count<'_>> {
         let first = self.reader.iter().map(Row::count).chain(self.fixup.iter().map(Row::count));
-        first.chain(self.stub.iter().map(Row::count)).chain(self.hints.iter().map(Row::count)).collect()
+        let then = self.stub.iter().map(Row::count).chain(self.hints.iter().map(Row::count));
+        first.chain(then).chain(self.class.iter().map(Row::count)).collect()
     }
 
     /// A line for each row, and the names of those that changed nothing.

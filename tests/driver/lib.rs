@@ -5,6 +5,7 @@
 //! have: there each module's own model says what is expected. `main.rs` binds the Rust.
 
 mod answers;
+mod class;
 mod differences;
 mod fixup;
 mod fixup_groups;
@@ -43,6 +44,15 @@ pub struct HintRun {
     pub tally: [u32; 4],
 }
 
+/// What the Rust takes a load or store to be.
+#[derive(Clone, PartialEq, Debug)]
+pub struct Access {
+    pub bytes: u64,
+    pub is_store: bool,
+    pub is_vector: bool,
+    pub is_ldrsw: bool,
+}
+
 /// The calls of the Rust. Lists are whole.
 pub struct Oracle {
     pub read_relocs: fn(contents: &[u8], records: &[u8], sections: &[u64]) -> Result<Vec<u8>, Stop>,
@@ -53,6 +63,7 @@ pub struct Oracle {
     pub apply_hints_linked: fn(image: &mut [u8], hints: &[u8], entries: &[u8]) -> Option<Result<(), Stop>>,
     pub stub: fn(address: u64, pointer: u64) -> ([u8; 12], bool),
     pub thunk: fn(address: u64, target: u64) -> [u8; 12],
+    pub parse_ldst: fn(word: u32) -> Option<Access>,
 }
 
 /// What a case is judged with: the Rust, and the rows of expected differences.

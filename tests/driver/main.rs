@@ -2,7 +2,8 @@
 
 use std::process::ExitCode;
 
-use driver::{FixedUp, HintRun, Oracle, Stop};
+use driver::{Access, FixedUp, HintRun, Oracle, Stop};
+use oracle::{Arm64, Words};
 
 const ORACLE: Oracle = Oracle {
     read_relocs: |contents, records, sections| {
@@ -25,6 +26,10 @@ const ORACLE: Oracle = Oracle {
     },
     stub: oracle::stub,
     thunk: oracle::thunk,
+    parse_ldst: |word| {
+        let a = Arm64::parse_ldst(word)?;
+        Some(Access { bytes: a.size, is_store: a.is_store, is_vector: a.is_float, is_ldrsw: a.is_ldrsw })
+    },
 };
 
 fn main() -> ExitCode {

@@ -36,6 +36,8 @@ pub enum Rows {
     HintLimit,
     HintFold,
     HintEntry,
+    ClassKind,
+    ClassBits,
     Count,
 }
 
@@ -269,6 +271,16 @@ pub const HINT_BOUNDS: [&str; 10] = [
     "3 of an earlier hint before 12",
 ];
 
+const CLASSES: [&str; 7] = [
+    "no load or store",
+    "store of a general register",
+    "load into a general register, but LDRSW",
+    "LDRSW",
+    "store of a vector register",
+    "load into a vector register",
+    "vector register with LDRSW's size and opc: no LDRSW",
+];
+
 pub fn blocks() -> Vec<Block> {
     let with_rest = || TYPES[..10].iter().copied().chain(["types from 10 on"]);
     let all = |_, _| true;
@@ -310,6 +322,8 @@ pub fn blocks() -> Vec<Block> {
         ),
         Block::condensed("Hints, ADD immediates under folds into 1, 2, 4, 8 and 16 bytes", 5 * 4096),
         Block::condensed("Hints, types of the entries of each kind", 8 * 12 * 12),
+        Block::list("Load and store classes", CLASSES),
+        Block::condensed("Load and store classes, bits 31..22 over low bits all 0, all 1 and random", 3 * 1024),
     ];
     assert!(blocks.len() == Rows::Count as usize);
     blocks

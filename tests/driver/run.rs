@@ -14,7 +14,7 @@ use std::time::{Duration, Instant};
 use crate::differences::Differences;
 use crate::rows::blocks;
 use crate::table::Table;
-use crate::{Difference, Oracle, World, answers, fixup_groups, hint_groups, reader_groups, stub};
+use crate::{Difference, Oracle, World, answers, class, fixup_groups, hint_groups, reader_groups, stub};
 
 pub type Verdict = Result<(), Difference>;
 
@@ -238,7 +238,8 @@ pub fn main(oracle: &Oracle) -> ExitCode {
         }
     };
     let world = World { oracle, differences: &differences };
-    let groups = [reader_groups::groups(), fixup_groups::groups(), stub::groups(), hint_groups::groups()].concat();
+    let calls = [reader_groups::groups, fixup_groups::groups, stub::groups, hint_groups::groups, class::groups];
+    let groups = calls.map(|groups| groups()).concat();
     if let Some(folder) = &options.answers {
         return made(answers::write(&groups, &world, Path::new(folder)));
     }
