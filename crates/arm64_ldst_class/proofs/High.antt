@@ -19,7 +19,7 @@ use Rattle.arm64_insn.specs.declared.ldst.Moved.the-variants as Moved
 use Rattle.arm64_insn.specs.declared.ldst.LoadStoreWord.the-variants.{Other}
 use Rattle.arm64_insn.proofs.Cells.{each-cell}
 use Rattle.arm64_ldst_class.specs.Class.{entryOf, classIn, classOfWord}
-use Rattle.arm64_ldst_class.specs.Row.{highFields, sizeAt, vAt, opcAt, classBy, classAt}
+use Rattle.arm64_ldst_class.specs.Row.{highFields, sizeAt, vAt, opcAt, classBy, classOfIndex}
 use Rattle.arm64_ldst_class.proofs.Back.{same, same-is, neither-back}
 use Rattle.arm64_ldst_class.specs.declared.LoadStoreClass.{LoadStoreClass}
 use Rattle.arm64_ldst_class.specs.declared.LoadStoreClass.the-variants.{Moves, Neither}
@@ -73,8 +73,8 @@ module _ (w : ℕ) where
       (back-cell (sizeIn w) (vIn w) (opcIn w) (omega arith) (omega arith) (omega arith)) neither-back)
 
   -- and by its index
-  pub class-high : classOfWord (loadStoreOf w) ≡ classAt (w / 2 ^ 22)
-  unfolding classAt
+  pub class-high : classOfWord (loadStoreOf w) ≡ classOfIndex (w / 2 ^ 22)
+  unfolding classOfIndex
   class-high = class-fields ∙ cc (match-high w, size-high, v-high, opc-high)
 
   pub taken-high : takenWord w ≡ (matches highFields (w / 2 ^ 22) && takenAsLoad (sizeAt (w / 2 ^ 22)) (vAt (w / 2 ^ 22)) (opcAt (w / 2 ^ 22)))

@@ -17,7 +17,7 @@ use Rattle.arm64_insn.proofs.Cells.{each-cell}
 use Rattle.arm64_insn.proofs.Manual.{decode-has}
 use Rattle.arm64_insn.proofs.ManualClasses.{by-class}
 use Rattle.arm64_ldst_class.specs.Class.{classOfWord}
-use Rattle.arm64_ldst_class.specs.Row.{classOfRow, classOfInsn, highFields, sizeAt, vAt, opcAt, classBy, classAt, isAccess, marksLdrsw}
+use Rattle.arm64_ldst_class.specs.Row.{classOfRow, classOfInsn, highFields, sizeAt, vAt, opcAt, classBy, classOfIndex, isAccess, marksLdrsw}
 use Rattle.arm64_ldst_class.proofs.High.{class-fields, class-high, taken-high}
 use Rattle.arm64_ldst_class.specs.declared.LoadStoreClass.{LoadStoreClass}
 use Rattle.arm64_ldst_class.specs.declared.LoadStoreClass.the-variants.{Neither}
@@ -91,7 +91,7 @@ module _ (w : ℕ) (l : w < 2 ^ 32) where
 
   -- LDRSW is marked at one index
   pub ldrsw-at : marksLdrsw (classOfWord (loadStoreOf w)) ≡ eqb (w / 2 ^ 22) 0x2e6
-  unfolding every choose classAt rowOf
+  unfolding every choose classOfIndex rowOf
   ldrsw-at =
       ap marksLdrsw (class-high w)
-      ∙ agree-is _ _ (every-at (λ k. agree (marksLdrsw (classAt k)) (eqb k 0x2e6)) 1024 refl (w / 2 ^ 22) (omega arith))
+      ∙ agree-is _ _ (every-at (λ k. agree (marksLdrsw (classOfIndex k)) (eqb k 0x2e6)) 1024 refl (w / 2 ^ 22) (omega arith))

@@ -59,8 +59,8 @@ abbrev pub classBy : ℕ → ℕ → ℕ → LoadStoreClass
 classBy size v opc = choose (takenAsLoad size v opc) (Moves (2 ^ size) false true false) (classOfRow (rowOf size v opc))
 
 -- the class of an index: of one that has not the fixed fields none
-unfoldable pub classAt : ℕ → LoadStoreClass
-classAt k = choose (matches highFields k) (classBy (sizeAt k) (vAt k) (opcAt k)) Neither
+unfoldable pub classOfIndex : ℕ → LoadStoreClass
+classOfIndex k = choose (matches highFields k) (classBy (sizeAt k) (vAt k) (opcAt k)) Neither
 
 -- whether a class is that of a load or store
 abbrev pub isAccess : LoadStoreClass → Bool

@@ -1,18 +1,18 @@
 -- The table of classes: by the theorems of arm64_ldst_class, the contracts of the lookup and the generator, and computed lists.
-use mathlib.Core.Path.{_≡_, refl}
-use mathlib.Core.List.{[], _∷_}
-use Prim.Native.Nat.{ℕ}
+use mathlib.Core.Path.{refl}
 use Rattle.util.specs.Choice.{choose}
 use Rattle.arm64_insn.specs.LoadStoreTable.{rowOf}
-use Rattle.arm64_ldst_class.specs.Row.{classAt}
+use Rattle.arm64_ldst_class.specs.Row.{classOfIndex}
 use Rattle.arm64_ldst_class.proofs.Back.{neither-back, entry-back}
 use Rattle.arm64_ldst_class.proofs.High.{class-high, class-back}
 use Rattle.arm64_ldst_class.proofs.Manual.{class-manual, taken-class, taken-at, ldrsw-at}
 use Rattle.arm64_ldst_table.proofs.lookup.Met as Lookup
-use Rattle.claims.specs.Classes.{accessesBelow, Classes}
+use Rattle.ldst_table_text.specs.Text.{nameAt, classText, commentOf, entryLine}
+use Rattle.ldst_table_text.proofs.text.Met as Text
+use Rattle.claims.specs.Classes.{Classes}
 
 pub classes : Classes
-unfolding choose rowOf classAt
+unfolding choose rowOf classOfIndex nameAt classText commentOf entryLine
 classes =
     record {
       lookup = λ M. Lookup.met;
@@ -25,4 +25,6 @@ classes =
       taken = taken-class;
       taken-at = taken-at;
       ldrsw-at = ldrsw-at;
+      text = λ M. Text.met;
+      lines = (refl, refl, refl, refl, refl, refl, refl);
     }

@@ -10,21 +10,23 @@ use Rattle.text.specs.Digits.{codes}
 use Rattle.arm64_insn.specs.LoadStore.{loadStoreOf, takenWord}
 use Rattle.arm64_insn.specs.Manual.{decode, allocated}
 use Rattle.arm64_ldst_class.specs.Class.{entryOf, classIn, classOfWord}
-use Rattle.arm64_ldst_class.specs.Row.{classOfInsn, classAt, isAccess, marksLdrsw}
+use Rattle.arm64_ldst_class.specs.Row.{classOfInsn, classOfIndex, isAccess, marksLdrsw}
 use Rattle.arm64_ldst_class.specs.declared.LoadStoreClass.the-variants.{Neither}
+use Rattle.ldst_table_text.specs.Text.{entryLine}
 use Rattle.arm64_ldst_table.proofs.lookup.Statement as Lookup
+use Rattle.ldst_table_text.proofs.text.Statement as Text
 
 -- the indices below n that are loads or stores, the least first, each with its entry
 abbrev pub accessesBelow : ℕ → List (ℕ × ℕ)
 accessesBelow zero = []
-accessesBelow (suc n) = accessesBelow n ++ choose (isAccess (classAt n)) ((n, entryOf (classAt n)) ∷ []) []
+accessesBelow (suc n) = accessesBelow n ++ choose (isAccess (classOfIndex n)) ((n, entryOf (classOfIndex n)) ∷ []) []
 
 -- the class of a load or store by bits 31 to 22
 pub record Classes : Type 2 where
   -- RULES 7.32: the table's entry of a word is that of the class which the decoder sees in it
   pub lookup : (M : Type 1) → Lookup.statement M
   -- it is the class of bits 31 to 22, by the manual's rows
-  pub by-index : (w : ℕ) → classOfWord (loadStoreOf w) ≡ classAt (w / 2 ^ 22)
+  pub by-index : (w : ℕ) → classOfWord (loadStoreOf w) ≡ classOfIndex (w / 2 ^ 22)
   -- every index that is a load or store, with its entry
   pub entries : accessesBelow 1024
       ≡ (0x0e4, 12) ∷ (0x0e5, 8) ∷ (0x0e6, 8) ∷ (0x0e7, 8) ∷ (0x0f4, 14) ∷ (0x0f5, 10) ∷ (0x0f6, 134) ∷ (0x0f7, 130)
@@ -45,3 +47,13 @@ pub record Classes : Type 2 where
   pub taken-at : (w : ℕ) → w < 2 ^ 32 → takenWord w ≡ (eqb (w / 2 ^ 22) 0x1f6 || (eqb (w / 2 ^ 22) 0x1f7 || eqb (w / 2 ^ 22) 0x2f6))
   -- RULES 7.20: LDRSW is marked at one index, of general registers
   pub ldrsw-at : (w : ℕ) → w < 2 ^ 32 → marksLdrsw (classOfWord (loadStoreOf w)) ≡ eqb (w / 2 ^ 22) 0x2e6
+  -- RULES 7.33: the generator puts the file of the table
+  pub text : (M : Type 1) → Text.statement M
+  -- lines of it: a store, 16 bytes, LDRSW, one taken as a load, the prefetch, an unallocated one, any other
+  pub lines : (entryLine 0x0e4 ≡ codes "    12, // 0e4 STRB: store 1 general\n")
+      × (entryLine 0x0f6 ≡ codes "    134, // 0f6 STR: store 16 vector\n")
+      × (entryLine 0x2e6 ≡ codes "    33, // 2e6 LDRSW: load 4 general\n")
+      × (entryLine 0x1f6 ≡ codes "    18, // 1f6 unallocated: load 2 vector\n")
+      × (entryLine 0x3e6 ≡ codes "    0, // 3e6 PRFM: no load or store\n")
+      × (entryLine 0x2e7 ≡ codes "    0, // 2e7 unallocated: no load or store\n")
+      × (entryLine 0x3ff ≡ codes "    0, // 3ff no load or store\n")

@@ -10,13 +10,6 @@ pub struct Listed {
     pub text: usize,
 }
 
-// Writes the first n bytes.
-fn write_first(out: &[u8], n: usize)
-    requires { ⌜ n ≤ length (now out) ⌝ }
-{
-    io::write_all(libc::STDOUT_FILENO, &out[..n]);
-}
-
 // Reads into `input`, puts the text of what was read into `out`, and writes it. What reaches the two ends of the program is outside
 // every contract.
 pub fn run(input: &mut [u8], out: &mut [u8; 110592]) -> Listed
@@ -25,7 +18,7 @@ pub fn run(input: &mut [u8], out: &mut [u8; 110592]) -> Listed
 {
     let got = io::read_full(libc::STDIN_FILENO, input);
     let n = lister_text::text(&input[..got], out);
-    write_first(out, n);
+    text_io::write_first(out, n);
     Listed {
         input: got,
         text: n,

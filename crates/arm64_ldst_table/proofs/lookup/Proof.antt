@@ -5,7 +5,7 @@ use native.Mathlib.Omega.{arith}
 use Rattle.util.specs.Choice.{choose}
 use Rattle.arm64_insn.specs.LoadStoreTable.{rowOf}
 use Rattle.arm64_ldst_class.specs.Class.{entryOf}
-use Rattle.arm64_ldst_class.specs.Row.{classAt}
+use Rattle.arm64_ldst_class.specs.Row.{classOfIndex}
 use Rattle.arm64_ldst_class.proofs.High.{class-high}
 use Rattle.arm64_ldst_table.proofs.Listed.{listed}
 use borrow.Author.Needs.{needs}
@@ -19,10 +19,10 @@ array-read-result : tie.Need-array-read-result
 array-read-result c = search needs
 
 returns : tie.Need-returns
-unfolding classAt rowOf choose
+unfolding classOfIndex rowOf choose
 returns c =
     let w = c .args .insn in
-    listed (λ k. entryOf (classAt k)) 1024 _ refl (w / 2 ^ 22) (omega arith) ∙ ap entryOf (sym (class-high w))
+    listed (λ k. entryOf (classOfIndex k)) 1024 _ refl (w / 2 ^ 22) (omega arith) ∙ ap entryOf (sym (class-high w))
 
 pub lookup-spec : {M : Type 1} → statement M
 lookup-spec = tie.close (tie.spec cast-result array-read-result returns)

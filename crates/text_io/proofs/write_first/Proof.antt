@@ -2,8 +2,8 @@
 use mathlib.Core.Path.{sym}
 use lib.Seq.{length-take-le}
 use borrow.Author.Needs.{needs}
-use Rattle.lister_io.proofs.write_first.Statement.{statement}
-use Rattle.lister_io.proofs.write_first.Tie as tie
+use Rattle.text_io.proofs.write_first.Statement.{statement}
+use Rattle.text_io.proofs.write_first.Tie as tie
 
 slice-aggregate-write-all : tie.Need-slice-aggregate-write-all
 slice-aggregate-write-all c =

@@ -1,0 +1,83 @@
+-- `class_by` meets its contract: what RULES 7.19 takes as loads, else the row by its mnemonic. Assumes nothing.
+use Rattle.ldst_table_rows.proofs.ClassLaws.{class-taken, class-row}
+use borrow.Author.Needs.{needs}
+use Rattle.ldst_table_rows.proofs.class.class_by.Statement.{statement}
+use Rattle.ldst_table_rows.proofs.class.class_by.Tie as tie
+
+is-taken-as-load-requires : tie.Need-is-taken-as-load-requires
+is-taken-as-load-requires c κs = search needs
+
+cast-t10 : tie.Need-cast-t10
+cast-t10 c = search needs
+
+shl-t11 : tie.Need-shl-t11
+shl-t11 c = search needs
+
+returns : tie.Need-returns
+returns c = class-taken _ _ _ (c .before .before .pre) _ (c .before .is-taken-as-load .ensures) (c .if1 .taken)
+
+row-of-requires : tie.Need-row-of-requires
+row-of-requires c κs = search needs
+
+enum-known-mnemonic : tie.Need-enum-known-mnemonic
+enum-known-mnemonic c = search needs
+
+is-ldrsw-requires : tie.Need-is-ldrsw-requires
+is-ldrsw-requires c κs = search needs
+
+enum-known-vector : tie.Need-enum-known-vector
+enum-known-vector c = search needs
+
+enum-told : tie.Need-enum-told
+enum-told c = search needs
+
+enum-told-2 : tie.Need-enum-told-2
+enum-told-2 c = search needs
+
+returns-2 : tie.Need-returns-2
+returns-2 c =
+    let row-of = c .before .before .before .before in
+    let test = row-of .before .before in
+    rw (c .is-ldrsw .ensures)
+    (class-row _ _ _ (test .before .pre) _ (test .is-taken-as-load .ensures) (row-of .before .if1 .left) _ _ (row-of .row-of .ensures)
+    (c .before .before .mnemonic .given .1))
+
+returns-3 : tie.Need-returns-3
+returns-3 c =
+    let row-of = c .before .before .before in
+    let test = row-of .before .before in
+    class-row _ _ _ (test .before .pre) _ (test .is-taken-as-load .ensures) (row-of .before .if1 .left) _ _ (row-of .row-of .ensures)
+    (c .before .vector .given .1)
+
+returns-4 : tie.Need-returns-4
+returns-4 c =
+    let row-of = c .before .before in
+    let test = row-of .before .before in
+    class-row _ _ _ (test .before .pre) _ (test .is-taken-as-load .ensures) (row-of .before .if1 .left) _ _ (row-of .row-of .ensures)
+    (c .enum-told .given .1)
+
+returns-5 : tie.Need-returns-5
+returns-5 c =
+    let row-of = c .before .before in
+    let test = row-of .before .before in
+    class-row _ _ _ (test .before .pre) _ (test .is-taken-as-load .ensures) (row-of .before .if1 .left) _ _ (row-of .row-of .ensures)
+    (c .enum-told2 .given .1)
+
+pub class-by-spec : {M : Type 1} → statement M
+class-by-spec =
+    tie.close
+    (tie.spec
+    is-taken-as-load-requires
+    cast-t10
+    shl-t11
+    returns
+    row-of-requires
+    enum-known-mnemonic
+    is-ldrsw-requires
+    enum-known-vector
+    enum-told
+    enum-told-2
+    returns-2
+    returns-3
+    returns-4
+    returns-5)

@@ -1,0 +1,78 @@
+// The class of an index, bits 31 to 22 of a word, from the manual's rows and the unallocated ones that RULES 7.19 takes as loads.
+use crate::rows::Mnemonic;
+use crate::rows::Row;
+use crate::rows::row_of;
+use arm64_ldst_class::LoadStoreClass;
+ghost use mathlib.Core.Path.{_≡_};
+ghost use Prim.Native.Nat.{_<_};
+ghost use Rattle.util.specs.Diagram.{matches};
+ghost use Rattle.arm64_insn.specs.LoadStore.{takenAsLoad};
+ghost use Rattle.arm64_ldst_class.specs.Row.{highFields, classBy, classOfIndex};
+ghost use Rattle.ldst_table_rows.specs.Rows.{isLdrswName};
+
+// Whether size, V and opc are unallocated and taken as a load: a vector register, 2 bytes with opc 1x or 4 bytes with opc 10.
+fn is_taken_as_load(size: u32, v: u32, opc: u32) -> bool
+    ensures { λ r. ⌜ r ≡ takenAsLoad size v opc ⌝ }
+{
+    if v != 1 {
+        return false;
+    }
+    if size == 1 {
+        return opc >= 2;
+    }
+    size == 2 && opc == 2
+}
+
+// Whether a mnemonic is LDRSW.
+fn is_ldrsw(mnemonic: Mnemonic) -> bool
+    ensures { λ r. ⌜ r ≡ isLdrswName mnemonic ⌝ }
+{
+    match mnemonic {
+        Mnemonic::Strb => false,
+        Mnemonic::Ldrb => false,
+        Mnemonic::Ldrsb => false,
+        Mnemonic::Strh => false,
+        Mnemonic::Ldrh => false,
+        Mnemonic::Ldrsh => false,
+        Mnemonic::Str => false,
+        Mnemonic::Ldr => false,
+        Mnemonic::Ldrsw => true,
+        Mnemonic::Prfm => false,
+    }
+}
+
+// What size, V and opc move.
+fn class_by(size: u32, v: u32, opc: u32) -> LoadStoreClass
+    requires { ⌜ (size < 4) × (v < 2) × (opc < 4) ⌝ }
+    ensures { λ r. ⌜ r ≡ classBy size v opc ⌝ }
+{
+    if is_taken_as_load(size, v, opc) {
+        return LoadStoreClass::Moves(1u8 << size, false, true, false);
+    }
+    match row_of(size, v, opc) {
+        Row::Load(mnemonic, vector, bytes) => {
+            LoadStoreClass::Moves(bytes, false, vector, is_ldrsw(mnemonic))
+        }
+        Row::Store(_, vector, bytes) => LoadStoreClass::Moves(bytes, true, vector, false),
+        Row::Prefetch(_) => LoadStoreClass::Neither,
+        Row::Unallocated => LoadStoreClass::Neither,
+    }
+}
+
+// Whether an index has the fixed fields of a load or store: 111 in bits 29 to 27 of the word, 01 in bits 25 and 24.
+pub fn is_load_store(k: u32) -> bool
+    ensures { λ r. ⌜ r ≡ matches highFields k ⌝ }
+{
+    k / 4 % 4 == 0b01 && k / 32 % 8 == 0b111
+}
+
+// The class of an index.
+pub fn class_of_index(k: u32) -> LoadStoreClass
+    ensures { λ r. ⌜ r ≡ classOfIndex k ⌝ }
+{
+    if is_load_store(k) {
+        class_by(k / 256 % 4, k / 16 % 2, k % 4)
+    } else {
+        LoadStoreClass::Neither
+    }
+}

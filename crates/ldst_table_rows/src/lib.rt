@@ -1,0 +1,3 @@
+// The generator's own rows of loads and stores (RULES 7.33), written out after the manual, and the class of each index by them.
+pub mod class;
+pub mod rows;
