@@ -1,5 +1,4 @@
 -- Laws that belong to no one function.
-pub mod Flags
 pub mod Forms
 pub mod Records
 pub mod Targets

@@ -1,17 +1,11 @@
 // Forms of a relocation record as sets of bits (macho/arch/mod.rs).
 use macho::mach_rel::MachRel;
+use util::bit;
 ghost use mathlib.Core.Path.{_≡_};
 ghost use Prim.Native.Nat.{_<_};
 ghost use Rattle.util.specs.Choice.{flag};
 ghost use Rattle.macho.specs.MachRel.{formOf};
 ghost use Rattle.arch.specs.Form.{form, bitOf, hasBit};
-
-// A field of one bit.
-fn bit(set: bool) -> u32
-    ensures { λ r. ⌜ (r ≡ flag set) × (r < 2) ⌝ }
-{
-    set as u32
-}
 
 // One form of a record, its pcrel, p2size and extern fields, as a bit in a set of forms.
 pub fn reloc_form(pcrel: bool, p2size: u32, ext: bool) -> u16

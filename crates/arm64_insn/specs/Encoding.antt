@@ -22,9 +22,13 @@ add = free 5 ∷ free 5 ∷ free 12 ∷ fixed 1 0 ∷ fixed 6 0b100010 ∷ fixed
 abbrev pub addUnshifted : List Part
 addUnshifted = free 5 ∷ free 5 ∷ free 12 ∷ fixed 1 0 ∷ fixed 6 0b100010 ∷ fixed 1 0 ∷ fixed 1 0 ∷ free 1 ∷ []
 
--- Load/store register (unsigned immediate): Rt, Rn, imm12, opc, 01, V, 111, size
+-- bits 31 to 22 of a load/store register (unsigned immediate): opc, 01, V, 111, size
+abbrev pub loadStoreHigh : List Part
+loadStoreHigh = free 2 ∷ fixed 2 0b01 ∷ free 1 ∷ fixed 3 0b111 ∷ free 2 ∷ []
+
+-- Load/store register (unsigned immediate): Rt, Rn, imm12, and those
 abbrev pub loadStore : List Part
-loadStore = free 5 ∷ free 5 ∷ free 12 ∷ free 2 ∷ fixed 2 0b01 ∷ free 1 ∷ fixed 3 0b111 ∷ free 2 ∷ []
+loadStore = free 5 ∷ free 5 ∷ free 12 ∷ loadStoreHigh
 
 -- LDR (immediate, unsigned offset) of Wt or Xt: Rt, Rn, imm12, opc 01, 01, V 0, 111, size 1x
 abbrev pub ldrImmediate : List Part

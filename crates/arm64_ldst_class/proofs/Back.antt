@@ -7,8 +7,9 @@ use borrow.Author.Tests.{ne-eqb, eq-eqb, eqb-true, eqb-false}
 use lib.Dec.{eqb}
 use lib.Pow.{shr-shr}
 use Rattle.util.specs.Choice.{choose, flag}
-use Rattle.util.proofs.Choice.{choose-false, both, agree, agree-is}
-use Rattle.arm64_ldst_class.specs.Class.{entryOf, classIn}
+use Rattle.util.proofs.Choice.{split, choose-false, both, agree, agree-is}
+use Rattle.util.proofs.Flags.{cast-flag}
+use Rattle.arm64_ldst_class.specs.Entry.{entryOf, classIn}
 use Rattle.arm64_ldst_class.specs.declared.LoadStoreClass.{LoadStoreClass}
 use Rattle.arm64_ldst_class.specs.declared.LoadStoreClass.the-variants.{Moves, Neither}
 
@@ -17,17 +18,13 @@ flag-back : (b : Bool) (n : ℕ) → n ≡ flag b → eqb n 1 ≡ b
 flag-back true n e = eq-eqb n 1 e
 flag-back false n e = ne-eqb n 1 (λ (f : n ≡ 1). omega arith)
 
-flag-small : (b : Bool) → flag b ≤ 1
-flag-small true = omega arith
-flag-small false = omega arith
-
 -- a class that moves bytes
 pub moves-back : (n : ℕ) (s v l : Bool) → 1 ≤ n → classIn (entryOf (Moves n s v l)) ≡ Moves n s v l
 moves-back n s v l h =
     let e = n * 8 + flag s * 4 + flag v * 2 + flag l in
-    let a = flag-small s in
-    let b = flag-small v in
-    let c = flag-small l in
+    let a = cast-flag s .1 in
+    let b = cast-flag v .1 in
+    let c = cast-flag l .1 in
     let bytes : e / 8 ≡ n = omega arith in
     let stores : eqb (e / 4 % 2) 1 ≡ s = flag-back s (e / 4 % 2) (omega arith) in
     let vector : eqb (e / 2 % 2) 1 ≡ v = flag-back v (e / 2 % 2) (omega arith) in
@@ -46,17 +43,18 @@ flag-is n h = go (eqb n 1) refl
     go true e = sym (eqb-true n 1 e)
     go false e = let f = eqb-false n 1 e in omega arith
 
--- and every number from 8 on is an entry
-pub entry-back : (e : ℕ) → 8 ≤ e → entryOf (classIn e) ≡ e
-entry-back e h =
-    ap entryOf (choose-false (eqb e 0) _ _ (ne-eqb e 0 (λ (f : e ≡ 0). omega arith)))
-    ∙ rw (flag-is (e / 4 % 2) (omega arith), flag-is (e / 2 % 2) (omega arith), flag-is (e % 2) (omega arith)) (joined)
-  where
-    joined : e / 8 * 8 + e / 4 % 2 * 4 + e / 2 % 2 * 2 + e % 2 ≡ e
-    joined =
-        let a : e / 4 / 2 ≡ e / 8 = shr-shr e 2 1 in
-        let b : e / 2 / 2 ≡ e / 4 = shr-shr e 1 1 in
-        omega (arith, a, b)
+-- the fields of a number give it back
+joined : (e : ℕ) → entryOf (Moves (e / 8) (eqb (e / 4 % 2) 1) (eqb (e / 2 % 2) 1) (eqb (e % 2) 1)) ≡ e
+joined e =
+    let a : e / 4 / 2 ≡ e / 8 = shr-shr e 2 1 in
+    let b : e / 2 / 2 ≡ e / 4 = shr-shr e 1 1 in
+    rw (flag-is (e / 4 % 2) (omega arith), flag-is (e / 2 % 2) (omega arith), flag-is (e % 2) (omega arith)) (omega (arith, a, b))
+
+-- every number is the entry of its class
+pub entry-back : (e : ℕ) → entryOf (classIn e) ≡ e
+entry-back e =
+    split (λ (c : LoadStoreClass). entryOf c ≡ e) (eqb e 0) Neither (Moves (e / 8) (eqb (e / 4 % 2) 1) (eqb (e / 2 % 2) 1) (eqb (e % 2) 1))
+    (λ z. sym (eqb-true e 0 z)) (λ z. joined e)
 
 -- whether two classes are the same
 abbrev pub same : LoadStoreClass → LoadStoreClass → Bool

@@ -10,7 +10,7 @@ use Rattle.util.specs.Choice.{choose}
 use Rattle.util.specs.Diagram.{matches}
 use Rattle.util.proofs.Below.{every}
 use Rattle.util.proofs.Choice.{choose-ap, chosen}
-use Rattle.arm64_insn.specs.Encoding.{loadStore}
+use Rattle.arm64_insn.specs.Encoding.{loadStore, loadStoreHigh}
 use Rattle.arm64_insn.specs.LoadStoreTable.{rowOf}
 use Rattle.arm64_insn.specs.LoadStore.{takenAsLoad, accessOf, loadStoreWith, loadStoreOf, takenWord}
 use Rattle.arm64_insn.specs.Manual.{sizeIn, vIn, opcIn}
@@ -18,8 +18,8 @@ use Rattle.arm64_insn.specs.declared.ldst.Moved as M
 use Rattle.arm64_insn.specs.declared.ldst.Moved.the-variants as Moved
 use Rattle.arm64_insn.specs.declared.ldst.LoadStoreWord.the-variants.{Other}
 use Rattle.arm64_insn.proofs.Cells.{each-cell}
-use Rattle.arm64_ldst_class.specs.Class.{entryOf, classIn, classOfWord}
-use Rattle.arm64_ldst_class.specs.Row.{highFields, sizeAt, vAt, opcAt, classBy, classOfIndex}
+use Rattle.arm64_ldst_class.specs.Entry.{entryOf, classIn, classSeen}
+use Rattle.arm64_ldst_class.specs.Row.{sizeAt, vAt, opcAt, classOfFields, classOfIndex}
 use Rattle.arm64_ldst_class.proofs.Back.{same, same-is, neither-back}
 use Rattle.arm64_ldst_class.specs.declared.LoadStoreClass.{LoadStoreClass}
 use Rattle.arm64_ldst_class.specs.declared.LoadStoreClass.the-variants.{Moves, Neither}
@@ -29,23 +29,23 @@ abbrev seen : ℕ → ℕ → ℕ → M.Moved → LoadStoreClass
 seen size v opc (Moved.Of n s) = Moves n s (eqb v 1) (eqb (size * 8 + v * 4 + opc) 0b10_0_10)
 seen size v opc Moved.Neither = Neither
 
-with-access : (x : ℕ) (a : M.Moved) → classOfWord (loadStoreWith x a) ≡ seen (sizeIn x) (vIn x) (opcIn x) a
+with-access : (x : ℕ) (a : M.Moved) → classSeen (loadStoreWith x a) ≡ seen (sizeIn x) (vIn x) (opcIn x) a
 with-access x (Moved.Of n s) = refl
 with-access x Moved.Neither = refl
 
-cell : (size v opc : ℕ) → size < 4 → v < 2 → opc < 4 → seen size v opc (accessOf size v opc) ≡ classBy size v opc
+cell : (size v opc : ℕ) → size < 4 → v < 2 → opc < 4 → seen size v opc (accessOf size v opc) ≡ classOfFields size v opc
 unfolding accessOf rowOf choose every
 cell size v opc hs hv ho =
-    same-is _ _ (each-cell (λ s v o. same (seen s v o (accessOf s v o)) (classBy s v o)) refl size v opc hs hv ho)
+    same-is _ _ (each-cell (λ s v o. same (seen s v o (accessOf s v o)) (classOfFields s v o)) refl size v opc hs hv ho)
 
-back-cell : (size v opc : ℕ) → size < 4 → v < 2 → opc < 4 → classIn (entryOf (classBy size v opc)) ≡ classBy size v opc
+back-cell : (size v opc : ℕ) → size < 4 → v < 2 → opc < 4 → classIn (entryOf (classOfFields size v opc)) ≡ classOfFields size v opc
 unfolding rowOf choose every
 back-cell size v opc hs hv ho =
-    same-is _ _ (each-cell (λ s v o. same (classIn (entryOf (classBy s v o))) (classBy s v o)) refl size v opc hs hv ho)
+    same-is _ _ (each-cell (λ s v o. same (classIn (entryOf (classOfFields s v o))) (classOfFields s v o)) refl size v opc hs hv ho)
 
 -- the diagram from bit 22 on
-match-high : (w : ℕ) → matches loadStore w ≡ matches highFields (w / 2 ^ 22)
-match-high w = ap (matches highFields) (ap (λ (z : ℕ). z / 2 ^ 12) (shr-shr w 5 5) ∙ shr-shr w 10 12)
+match-high : (w : ℕ) → matches loadStore w ≡ matches loadStoreHigh (w / 2 ^ 22)
+match-high w = ap (matches loadStoreHigh) (ap (λ (z : ℕ). z / 2 ^ 12) (shr-shr w 5 5) ∙ shr-shr w 10 12)
 
 module _ (w : ℕ) where
   size-high : sizeIn w ≡ sizeAt (w / 2 ^ 22)
@@ -58,24 +58,24 @@ module _ (w : ℕ) where
   opc-high = ap (λ (z : ℕ). z % 4) (sym (div-one (w / 2 ^ 22)))
 
   -- the class that the decoder sees in a word, by the word's own fields
-  pub class-fields : classOfWord (loadStoreOf w) ≡ choose (matches loadStore w) (classBy (sizeIn w) (vIn w) (opcIn w)) Neither
+  pub class-fields : classSeen (loadStoreOf w) ≡ choose (matches loadStore w) (classOfFields (sizeIn w) (vIn w) (opcIn w)) Neither
   unfolding loadStoreOf
   class-fields =
-      choose-ap classOfWord (matches loadStore w) (loadStoreWith w (accessOf (sizeIn w) (vIn w) (opcIn w))) Other
+      choose-ap classSeen (matches loadStore w) (loadStoreWith w (accessOf (sizeIn w) (vIn w) (opcIn w))) Other
       ∙ ap (λ (c : LoadStoreClass). choose (matches loadStore w) c Neither)
       (with-access w (accessOf (sizeIn w) (vIn w) (opcIn w)) ∙ cell (sizeIn w) (vIn w) (opcIn w) (omega arith) (omega arith) (omega arith))
 
   -- an entry says all of it
-  pub class-back : classIn (entryOf (classOfWord (loadStoreOf w))) ≡ classOfWord (loadStoreOf w)
+  pub class-back : classIn (entryOf (classSeen (loadStoreOf w))) ≡ classSeen (loadStoreOf w)
   class-back =
       subst⁻¹ (λ (c : LoadStoreClass). classIn (entryOf c) ≡ c) class-fields
-      (chosen (λ (c : LoadStoreClass). classIn (entryOf c) ≡ c) (matches loadStore w) (classBy (sizeIn w) (vIn w) (opcIn w)) Neither
+      (chosen (λ (c : LoadStoreClass). classIn (entryOf c) ≡ c) (matches loadStore w) (classOfFields (sizeIn w) (vIn w) (opcIn w)) Neither
       (back-cell (sizeIn w) (vIn w) (opcIn w) (omega arith) (omega arith) (omega arith)) neither-back)
 
   -- and by its index
-  pub class-high : classOfWord (loadStoreOf w) ≡ classOfIndex (w / 2 ^ 22)
+  pub class-high : classSeen (loadStoreOf w) ≡ classOfIndex (w / 2 ^ 22)
   unfolding classOfIndex
   class-high = class-fields ∙ cc (match-high w, size-high, v-high, opc-high)
 
-  pub taken-high : takenWord w ≡ (matches highFields (w / 2 ^ 22) && takenAsLoad (sizeAt (w / 2 ^ 22)) (vAt (w / 2 ^ 22)) (opcAt (w / 2 ^ 22)))
+  pub taken-high : takenWord w ≡ (matches loadStoreHigh (w / 2 ^ 22) && takenAsLoad (sizeAt (w / 2 ^ 22)) (vAt (w / 2 ^ 22)) (opcAt (w / 2 ^ 22)))
   taken-high = cc (match-high w, size-high, v-high, opc-high)

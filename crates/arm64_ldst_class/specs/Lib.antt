@@ -1,3 +1,3 @@
 -- What the contracts and laws cite.
-pub mod Class
+pub mod Entry
 pub mod Row

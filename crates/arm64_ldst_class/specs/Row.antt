@@ -1,10 +1,10 @@
--- The class by the manual's rows (RULES 7.5, 7.18, 7.19): of a row, of an instruction, and of an index, bits 31 to 22 of a word.
+-- The class by the manual's rows (RULES 7.5, 7.18 to 7.20, 7.32): of a row, of an instruction, and of an index, bits 31 to 22 of a word.
 use Prim.Native.Nat.{ℕ, _^_}
 use mathlib.Core.Bool.{Bool, true, false}
-use mathlib.Core.List.{List, [], _∷_}
 use Rattle.util.specs.Choice.{choose}
 use Rattle.util.specs.Bits.{field}
-use Rattle.util.specs.Diagram.{Part, free, fixed, matches}
+use Rattle.util.specs.Diagram.{matches}
+use Rattle.arm64_insn.specs.Encoding.{loadStoreHigh}
 use Rattle.arm64_insn.specs.LoadStoreTable.{Row, load, store, prefetch, unallocated, Registers, general, vector, rowOf}
 use Rattle.arm64_insn.specs.LoadStore.{takenAsLoad, isLdrsw}
 use Rattle.arm64_insn.specs.Manual as M
@@ -38,10 +38,6 @@ classOfInsn (M.instruction (M.BR rn)) = Neither
 classOfInsn (M.instruction M.NOP) = Neither
 classOfInsn (M.instruction (M.MOVZ sf hw rd imm16)) = Neither
 
--- the load/store diagram from bit 22 on: opc, 01, V, 111, size
-abbrev pub highFields : List Part
-highFields = free 2 ∷ fixed 2 0b01 ∷ free 1 ∷ fixed 3 0b111 ∷ free 2 ∷ []
-
 -- size of an index
 abbrev pub sizeAt : ℕ → ℕ
 sizeAt k = field k 8 2
@@ -55,12 +51,12 @@ abbrev pub opcAt : ℕ → ℕ
 opcAt k = field k 0 2
 
 -- what size, V and opc move: a load of a vector register where RULES 7.19 takes them as one, else what their row moves
-abbrev pub classBy : ℕ → ℕ → ℕ → LoadStoreClass
-classBy size v opc = choose (takenAsLoad size v opc) (Moves (2 ^ size) false true false) (classOfRow (rowOf size v opc))
+abbrev pub classOfFields : ℕ → ℕ → ℕ → LoadStoreClass
+classOfFields size v opc = choose (takenAsLoad size v opc) (Moves (2 ^ size) false true false) (classOfRow (rowOf size v opc))
 
 -- the class of an index: of one that has not the fixed fields none
 unfoldable pub classOfIndex : ℕ → LoadStoreClass
-classOfIndex k = choose (matches highFields k) (classBy (sizeAt k) (vAt k) (opcAt k)) Neither
+classOfIndex k = choose (matches loadStoreHigh k) (classOfFields (sizeAt k) (vAt k) (opcAt k)) Neither
 
 -- whether a class is that of a load or store
 abbrev pub isAccess : LoadStoreClass → Bool

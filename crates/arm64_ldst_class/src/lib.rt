@@ -1,21 +1,13 @@
 // The class of a load or store, and its number: an entry of the table of classes (RULES 7.32).
+use util::bit;
 ghost use mathlib.Core.Path.{_≡_};
-ghost use Prim.Native.Nat.{_<_};
-ghost use Rattle.util.specs.Choice.{flag};
-ghost use Rattle.arm64_ldst_class.specs.Class.{entryOf};
+ghost use Rattle.arm64_ldst_class.specs.Entry.{entryOf};
 
-// What a word of bits 31 to 22 moves: the bytes, whether it stores them, whether its register is a vector one, whether it is LDRSW. Or it is neither
-// load nor store.
+// What the words with the same bits 31 to 22 move: how many bytes, whether they store them, whether the register is a vector one, whether they are LDRSW.
+// Or they are neither load nor store.
 pub enum LoadStoreClass {
     Moves(u8, bool, bool, bool),
     Neither,
-}
-
-// The value of a bit that is set, else 0.
-fn bit(is_set: bool) -> u32
-    ensures { λ r. ⌜ (r ≡ flag «is_set») × (r < 2) ⌝ }
-{
-    if is_set { 1 } else { 0 }
 }
 
 impl LoadStoreClass {

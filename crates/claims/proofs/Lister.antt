@@ -37,7 +37,7 @@ use Rattle.arm64_insn.specs.declared.ldst.LoadStoreWord.{LoadStoreWord}
 use Rattle.arm64_insn.specs.declared.ldst.LoadStoreWord.the-variants as LoadStoreWord
 use Rattle.arm64_insn.proofs.Cells.{each-cell}
 use Rattle.lister_text.specs.Class.{classBy, classOf}
-use Rattle.text.specs.Digits.{codes, digitOf}
+use Rattle.text.specs.Digits.{ascii, digitOf}
 use Rattle.lister_text.specs.Text.{hexOf, className, lineOf, linesOf, textOf}
 use Rattle.lister_text.specs.Listing.{lines, outAfter}
 use Rattle.lister_text.specs.declared.class.Class.{Class}
@@ -92,7 +92,7 @@ digit-is : (d : ℕ) → d < 16 → digitOf d ≡ digit d
 unfolding choose every
 digit-is d h = eqb-true (digitOf d) (digit d) (every-at (λ k. eqb (digitOf k) (digit k)) 16 refl d h)
 
-hex-is : (x : ℕ) → hexOf x ≡ hex x ++ codes " "
+hex-is : (x : ℕ) → hexOf x ≡ hex x ++ ascii " "
 unfolding hexOf
 hex-is x =
     rw (
@@ -106,10 +106,10 @@ hex-is x =
       digit-is (field x 0 4) (omega arith),
     )
 
-line : (offset word : ℕ) → lineOf offset word ≡ hex offset ++ (codes " " ++ (hex word ++ (codes " " ++ (className (classOf word) ++ codes "\n"))))
+line : (offset word : ℕ) → lineOf offset word ≡ hex offset ++ (ascii " " ++ (hex word ++ (ascii " " ++ (className (classOf word) ++ ascii "\n"))))
 unfolding lineOf
 line offset word =
-    ap₂ (λ (x y : List ℕ). x ++ (y ++ (className (classOf word) ++ codes "\n"))) (hex-is offset) (hex-is word)
+    ap₂ (λ (x y : List ℕ). x ++ (y ++ (className (classOf word) ++ ascii "\n"))) (hex-is offset) (hex-is word)
 
 -- ---- the bytes that are moved
 

@@ -6,10 +6,10 @@ use mathlib.Core.List.{List, [], _∷_, _++_}
 use Prim.Native.Nat.{ℕ, zero, suc, _/_, _^_, _≤_, _<_}
 use lib.Dec.{eqb}
 use Rattle.util.specs.Choice.{choose}
-use Rattle.text.specs.Digits.{codes}
+use Rattle.text.specs.Digits.{ascii}
 use Rattle.arm64_insn.specs.LoadStore.{loadStoreOf, takenWord}
 use Rattle.arm64_insn.specs.Manual.{decode, allocated}
-use Rattle.arm64_ldst_class.specs.Class.{entryOf, classIn, classOfWord}
+use Rattle.arm64_ldst_class.specs.Entry.{entryOf, classIn, classSeen}
 use Rattle.arm64_ldst_class.specs.Row.{classOfInsn, classOfIndex, isAccess, marksLdrsw}
 use Rattle.arm64_ldst_class.specs.declared.LoadStoreClass.the-variants.{Neither}
 use Rattle.ldst_table_text.specs.Text.{entryLine}
@@ -26,7 +26,7 @@ pub record Classes : Type 2 where
   -- RULES 7.32: the table's entry of a word is that of the class which the decoder sees in it
   pub lookup : (M : Type 1) → Lookup.statement M
   -- it is the class of bits 31 to 22, by the manual's rows
-  pub by-index : (w : ℕ) → classOfWord (loadStoreOf w) ≡ classOfIndex (w / 2 ^ 22)
+  pub by-index : (w : ℕ) → classSeen (loadStoreOf w) ≡ classOfIndex (w / 2 ^ 22)
   -- every index that is a load or store, with its entry
   pub entries : accessesBelow 1024
       ≡ (0x0e4, 12) ∷ (0x0e5, 8) ∷ (0x0e6, 8) ∷ (0x0e7, 8) ∷ (0x0f4, 14) ∷ (0x0f5, 10) ∷ (0x0f6, 134) ∷ (0x0f7, 130)
@@ -35,25 +35,25 @@ pub record Classes : Type 2 where
       ∷ (0x3e4, 68) ∷ (0x3e5, 64) ∷ (0x3f4, 70) ∷ (0x3f5, 66)
       ∷ []
   -- an entry says the whole class
-  pub back : (w : ℕ) → classIn (entryOf (classOfWord (loadStoreOf w))) ≡ classOfWord (loadStoreOf w)
+  pub back : (w : ℕ) → classIn (entryOf (classSeen (loadStoreOf w))) ≡ classSeen (loadStoreOf w)
   -- 0 is no load or store, and each number from 8 on is the entry of its class
   pub none-back : classIn 0 ≡ Neither
   pub entry-back : (e : ℕ) → 8 ≤ e → entryOf (classIn e) ≡ e
   -- but for the words that RULES 7.19 takes as loads, the class is what the manual's instruction moves
-  pub manual : (w : ℕ) → takenWord w ≡ false → classOfWord (loadStoreOf w) ≡ classOfInsn (decode w)
+  pub manual : (w : ℕ) → takenWord w ≡ false → classSeen (loadStoreOf w) ≡ classOfInsn (decode w)
   -- those are the words that the manual leaves unallocated and that have an entry
-  pub taken : (w : ℕ) → (not (allocated w) && isAccess (classOfWord (loadStoreOf w))) ≡ takenWord w
+  pub taken : (w : ℕ) → (not (allocated w) && isAccess (classSeen (loadStoreOf w))) ≡ takenWord w
   -- they have three indices
   pub taken-at : (w : ℕ) → w < 2 ^ 32 → takenWord w ≡ (eqb (w / 2 ^ 22) 0x1f6 || (eqb (w / 2 ^ 22) 0x1f7 || eqb (w / 2 ^ 22) 0x2f6))
   -- RULES 7.20: LDRSW is marked at one index, of general registers
-  pub ldrsw-at : (w : ℕ) → w < 2 ^ 32 → marksLdrsw (classOfWord (loadStoreOf w)) ≡ eqb (w / 2 ^ 22) 0x2e6
+  pub ldrsw-at : (w : ℕ) → w < 2 ^ 32 → marksLdrsw (classSeen (loadStoreOf w)) ≡ eqb (w / 2 ^ 22) 0x2e6
   -- RULES 7.33: the generator puts the file of the table
   pub text : (M : Type 1) → Text.statement M
   -- lines of it: a store, 16 bytes, LDRSW, one taken as a load, the prefetch, an unallocated one, any other
-  pub lines : (entryLine 0x0e4 ≡ codes "    12, // 0e4 STRB: store 1 general\n")
-      × (entryLine 0x0f6 ≡ codes "    134, // 0f6 STR: store 16 vector\n")
-      × (entryLine 0x2e6 ≡ codes "    33, // 2e6 LDRSW: load 4 general\n")
-      × (entryLine 0x1f6 ≡ codes "    18, // 1f6 unallocated: load 2 vector\n")
-      × (entryLine 0x3e6 ≡ codes "    0, // 3e6 PRFM: no load or store\n")
-      × (entryLine 0x2e7 ≡ codes "    0, // 2e7 unallocated: no load or store\n")
-      × (entryLine 0x3ff ≡ codes "    0, // 3ff no load or store\n")
+  pub lines : (entryLine 0x0e4 ≡ ascii "    12, // 0e4 STRB: store 1 general\n")
+      × (entryLine 0x0f6 ≡ ascii "    134, // 0f6 STR: store 16 vector\n")
+      × (entryLine 0x2e6 ≡ ascii "    33, // 2e6 LDRSW: load 4 general\n")
+      × (entryLine 0x1f6 ≡ ascii "    18, // 1f6 unallocated: load 2 vector\n")
+      × (entryLine 0x3e6 ≡ ascii "    0, // 3e6 PRFM: no load or store\n")
+      × (entryLine 0x2e7 ≡ ascii "    0, // 2e7 unallocated: no load or store\n")
+      × (entryLine 0x3ff ≡ ascii "    0, // 3ff no load or store\n")

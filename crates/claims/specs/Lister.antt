@@ -18,7 +18,7 @@ use Rattle.arm64_insn.specs.declared.add.Add as D
 use Rattle.arm64_insn.specs.declared.add.AddWord.the-variants as AddWord
 use Rattle.arm64_insn.specs.declared.ldst.LoadStore as L
 use Rattle.arm64_insn.specs.declared.ldst.LoadStoreWord.the-variants as LoadStoreWord
-use Rattle.text.specs.Digits.{codes}
+use Rattle.text.specs.Digits.{ascii}
 use Rattle.lister_text.specs.Class.{classOf}
 use Rattle.lister_text.specs.Text.{className, lineOf, textOf}
 use Rattle.lister_text.specs.Listing.{outAfter}
@@ -28,7 +28,7 @@ use Rattle.arm64_hint_kept.specs.Examples.{words}
 
 -- a hexadecimal digit
 abbrev pub digit : ℕ → ℕ
-digit d = getD (codes "0123456789abcdef") d 0
+digit d = getD (ascii "0123456789abcdef") d 0
 
 -- a number of 32 bits in 8 of them
 abbrev pub hex : ℕ → List ℕ
@@ -47,7 +47,7 @@ pub record Lister : Type 0 where
   -- RULES 10.1: of 4-byte words, lowest byte first, a line for each is printed, with the word's offset
   pub lists : (ws : List ℕ) → All (λ w. w < 2 ^ 32) ws → length ws ≤ 4096 → textOf (words ws) ≡ linesFrom 0 ws
   -- a line: offset and word in 8 lower-case digits each, then the class, with single spaces between and a newline at the end
-  pub line : (offset word : ℕ) → lineOf offset word ≡ hex offset ++ (codes " " ++ (hex word ++ (codes " " ++ (className (classOf word) ++ codes "\n"))))
+  pub line : (offset word : ℕ) → lineOf offset word ≡ hex offset ++ (ascii " " ++ (hex word ++ (ascii " " ++ (className (classOf word) ++ ascii "\n"))))
   -- RULES 10.2: the class is what the decoders of hints see, in this order: ADRP, ADD, loads and stores with the bytes that they move
   pub class-adrp : (w : ℕ) (a : A.Adrp) → adrpOf w ≡ AdrpWord.Adrp a → classOf w ≡ Adrp
   pub class-add : (w : ℕ) (a : D.Add) → adrpOf w ≡ AdrpWord.Other → addOf w ≡ AddWord.Add a → classOf w ≡ Add
@@ -57,27 +57,27 @@ pub record Lister : Type 0 where
       → l .«is_store» ≡ true → classOf w ≡ Store (l .size)
   pub class-other : (w : ℕ) → adrpOf w ≡ AdrpWord.Other → addOf w ≡ AddWord.Other → loadStoreOf w ≡ LoadStoreWord.Other → classOf w ≡ Other
   -- the names of the classes
-  pub names : (className Adrp ≡ codes "adrp") × (className Add ≡ codes "add") × (className Other ≡ codes "other")
-  pub load-names : (className (Load 1) ≡ codes "load 1")
-      × (className (Load 2) ≡ codes "load 2")
-      × (className (Load 4) ≡ codes "load 4")
-      × (className (Load 8) ≡ codes "load 8")
-      × (className (Load 16) ≡ codes "load 16")
-  pub store-names : (className (Store 1) ≡ codes "store 1")
-      × (className (Store 2) ≡ codes "store 2")
-      × (className (Store 4) ≡ codes "store 4")
-      × (className (Store 8) ≡ codes "store 8")
-      × (className (Store 16) ≡ codes "store 16")
+  pub names : (className Adrp ≡ ascii "adrp") × (className Add ≡ ascii "add") × (className Other ≡ ascii "other")
+  pub load-names : (className (Load 1) ≡ ascii "load 1")
+      × (className (Load 2) ≡ ascii "load 2")
+      × (className (Load 4) ≡ ascii "load 4")
+      × (className (Load 8) ≡ ascii "load 8")
+      × (className (Load 16) ≡ ascii "load 16")
+  pub store-names : (className (Store 1) ≡ ascii "store 1")
+      × (className (Store 2) ≡ ascii "store 2")
+      × (className (Store 4) ≡ ascii "store 4")
+      × (className (Store 8) ≡ ascii "store 8")
+      × (className (Store 16) ≡ ascii "store 16")
   -- no other number of bytes is moved
   pub moved : (w n : ℕ) → (classOf w ≡ Load n) ⊎ (classOf w ≡ Store n) → (eqb n 1 || eqb n 2 || eqb n 4 || eqb n 8 || eqb n 16) ≡ true
   -- RULES 10.3
   pub example : textOf (words (0x90000000 ∷ 0x91000400 ∷ 0xf9400001 ∷ 0xd503201f ∷ []))
-      ≡ codes "00000000 90000000 adrp\n"
-      ++ (codes "00000004 91000400 add\n" ++ (codes "00000008 f9400001 load 8\n" ++ codes "0000000c d503201f other\n"))
+      ≡ ascii "00000000 90000000 adrp\n"
+      ++ (ascii "00000004 91000400 add\n" ++ (ascii "00000008 f9400001 load 8\n" ++ ascii "0000000c d503201f other\n"))
   -- RULES 10.4: an input above 16,384 bytes prints this alone
-  pub too-long : (input : List ℕ) → 16384 < length input → textOf input ≡ codes "refused 2\n"
+  pub too-long : (input : List ℕ) → 16384 < length input → textOf input ≡ ascii "refused 2\n"
   -- otherwise one whose length is no multiple of 4 prints this alone
-  pub odd-length : (input : List ℕ) → length input ≤ 16384 → (length input % 4 ≡ 0 → ⊥) → textOf input ≡ codes "refused 1\n"
+  pub odd-length : (input : List ℕ) → length input ≤ 16384 → (length input % 4 ≡ 0 → ⊥) → textOf input ≡ ascii "refused 1\n"
   -- an empty one prints nothing
   pub empty : textOf [] ≡ []
   -- RULES 10.5: a buffer of 16,385 bytes is enough: what an input's first 16,385 bytes print is what the input prints
@@ -94,4 +94,4 @@ pub record Lister : Type 0 where
   pub call-odd : (input out : List ℕ) → length input ≤ 16384 → 27 * (length input / 4) ≤ length out → (length input % 4 ≡ 0 → ⊥) → numberTo input out ≡ 1
   -- no line is longer than 27 bytes, and one is that long
   pub longest : (offset word : ℕ) → length (lineOf offset word) ≤ 27
-  pub longest-occurs : lineOf 0 0x3d800000 ≡ codes "00000000 3d800000 store 16\n"
+  pub longest-occurs : lineOf 0 0x3d800000 ≡ ascii "00000000 3d800000 store 16\n"

@@ -2,7 +2,7 @@
 ghost use Rattle.text.specs.Puts.{Puts};
 ghost use Rattle.ldst_table_text.specs.Text.{tableText};
 
-// Puts the table into `out`, and writes it. What reaches the program's end is outside every contract.
+// Puts the table into `out`, and writes it. What reaches standard output is outside every contract.
 fn print(out: &mut [u8; 49152]) -> usize
     ensures { λ r. ⌜ Puts (now (out .entry)) 0 tableText r (now (out .exit)) ⌝ }
 {

@@ -13,7 +13,8 @@ use Rattle.util.proofs.Choice.{choose-true, choose-false, agree, agree-is}
 use Rattle.arm64_insn.specs.LoadStoreTable as T
 use Rattle.arm64_insn.specs.LoadStore.{takenAsLoad}
 use Rattle.arm64_insn.proofs.Cells.{each-cell}
-use Rattle.arm64_ldst_class.specs.Row.{isVector, classOfRow, highFields, classBy, marksLdrsw}
+use Rattle.arm64_insn.specs.Encoding.{loadStoreHigh}
+use Rattle.arm64_ldst_class.specs.Row.{isVector, classOfRow, classOfFields, marksLdrsw}
 use Rattle.arm64_ldst_class.specs.declared.LoadStoreClass.{LoadStoreClass}
 use Rattle.arm64_ldst_class.specs.declared.LoadStoreClass.the-variants.{Moves, Neither}
 use Rattle.ldst_table_rows.specs.Rows.{rowFrom, isLdrswName}
@@ -46,18 +47,18 @@ module _ (size v opc : ℕ) (h : (size < 4) × (v < 2) × (opc < 4)) where
 
   -- what a row says, where the fields are not taken as a load
   pub class-row : (t : Bool) → t ≡ takenAsLoad size v opc → t ≡ false
-      → (a r : Row) → a ≡ rowFrom (T.rowOf size v opc) → a ≡ r → classFrom r ≡ classBy size v opc
+      → (a r : Row) → a ≡ rowFrom (T.rowOf size v opc) → a ≡ r → classFrom r ≡ classOfFields size v opc
   class-row t e f a r g k =
       ap classFrom (sym k ∙ g) ∙ class-by-name ∙ sym (choose-false (takenAsLoad size v opc) _ _ (sym e ∙ f))
 
   -- a load of 2^size bytes, where they are
-  pub class-taken : (t : Bool) → t ≡ takenAsLoad size v opc → t ≡ true → Moves ((1 * 2 ^ size) % 2 ^ 8) false true false ≡ classBy size v opc
+  pub class-taken : (t : Bool) → t ≡ takenAsLoad size v opc → t ≡ true → Moves ((1 * 2 ^ size) % 2 ^ 8) false true false ≡ classOfFields size v opc
   class-taken t e f =
       ap (λ (n : ℕ). Moves n false true false) (shl-exact 1 size 8 (lit< tt) (omega arith) ∙ one-mul (2 ^ size))
       ∙ sym (choose-true (takenAsLoad size v opc) _ _ (sym e ∙ f))
 
 -- the fixed fields of an index
-pub fixed-fields : (k : ℕ) → matches highFields k ≡ (eqb (k / 4 % 4) 1 && eqb (k / 32 % 8) 7)
+pub fixed-fields : (k : ℕ) → matches loadStoreHigh k ≡ (eqb (k / 4 % 4) 1 && eqb (k / 32 % 8) 7)
 fixed-fields k =
     let e : k / 4 / 4 / 2 ≡ k / 32 = ap (λ (n : ℕ). n / 2) (shr-shr k 2 2) ∙ shr-shr k 4 1 in
     rw (e, and-true (eqb (k / 32 % 8) 7))

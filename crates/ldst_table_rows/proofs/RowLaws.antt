@@ -14,13 +14,13 @@ use Rattle.ldst_table_rows.specs.Rows.{rowFrom}
 use Rattle.ldst_table_rows.specs.declared.rows.Row.the-variants.{Unallocated}
 
 -- the row at a place of the table
-abbrev rowIn : ℕ → T.Row
-rowIn n = getD T.unsignedImmediate n T.unallocated
+abbrev rowAtPlace : ℕ → T.Row
+rowAtPlace n = getD T.unsignedImmediate n T.unallocated
 
 -- a place that size, V and opc name
-pub row-at : (size v opc n : ℕ) → size * 8 + v * 4 + opc ≡ n → rowFrom (rowIn n) ≡ rowFrom (T.rowOf size v opc)
+pub row-at : (size v opc n : ℕ) → size * 8 + v * 4 + opc ≡ n → rowFrom (rowAtPlace n) ≡ rowFrom (T.rowOf size v opc)
 unfolding T.rowOf
-row-at size v opc n e = ap (λ (k : ℕ). rowFrom (rowIn k)) (sym e)
+row-at size v opc n e = ap (λ (k : ℕ). rowFrom (rowAtPlace k)) (sym e)
 
 -- a number that is none of a list, the last first
 abbrev pub Missed : ℕ → List ℕ → Type 0
@@ -52,7 +52,7 @@ pub row-other : (size v opc : ℕ) → (size < 4) × (v < 2) × (opc < 4) → Mi
 unfolding among every choose
 row-other size v opc h m =
     let n = size * 8 + v * 4 + opc in
-    sym (no-row (rowIn n)
-    (ap (λ (t : Bool). t || not (T.isAllocated (rowIn n))) (sym (not-among n allocatedPlaces m))
-    ∙ every-at (λ k. among k allocatedPlaces || not (T.isAllocated (rowIn k))) 32 refl n (omega arith)))
+    sym (no-row (rowAtPlace n)
+    (ap (λ (t : Bool). t || not (T.isAllocated (rowAtPlace n))) (sym (not-among n allocatedPlaces m))
+    ∙ every-at (λ k. among k allocatedPlaces || not (T.isAllocated (rowAtPlace k))) 32 refl n (omega arith)))
     ∙ row-at size v opc n refl

@@ -1,4 +1,4 @@
--- The manual's rows (RULES 7.5) as the generator has them: without what a load puts above the bits that it read.
+-- The manual's rows (RULES 7.5) as the generator has them (RULES 7.33): without what a load puts above the bits that it read.
 use mathlib.Core.Bool.{Bool, true, false}
 use Rattle.arm64_insn.specs.LoadStoreTable as T
 use Rattle.arm64_ldst_class.specs.Row.{isVector}

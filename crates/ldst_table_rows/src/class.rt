@@ -7,7 +7,8 @@ ghost use mathlib.Core.Path.{_≡_};
 ghost use Prim.Native.Nat.{_<_};
 ghost use Rattle.util.specs.Diagram.{matches};
 ghost use Rattle.arm64_insn.specs.LoadStore.{takenAsLoad};
-ghost use Rattle.arm64_ldst_class.specs.Row.{highFields, classBy, classOfIndex};
+ghost use Rattle.arm64_insn.specs.Encoding.{loadStoreHigh};
+ghost use Rattle.arm64_ldst_class.specs.Row.{classOfFields, classOfIndex};
 ghost use Rattle.ldst_table_rows.specs.Rows.{isLdrswName};
 
 // Whether size, V and opc are unallocated and taken as a load: a vector register, 2 bytes with opc 1x or 4 bytes with opc 10.
@@ -42,9 +43,9 @@ fn is_ldrsw(mnemonic: Mnemonic) -> bool
 }
 
 // What size, V and opc move.
-fn class_by(size: u32, v: u32, opc: u32) -> LoadStoreClass
+fn class_of_fields(size: u32, v: u32, opc: u32) -> LoadStoreClass
     requires { ⌜ (size < 4) × (v < 2) × (opc < 4) ⌝ }
-    ensures { λ r. ⌜ r ≡ classBy size v opc ⌝ }
+    ensures { λ r. ⌜ r ≡ classOfFields size v opc ⌝ }
 {
     if is_taken_as_load(size, v, opc) {
         return LoadStoreClass::Moves(1u8 << size, false, true, false);
@@ -60,8 +61,8 @@ fn class_by(size: u32, v: u32, opc: u32) -> LoadStoreClass
 }
 
 // Whether an index has the fixed fields of a load or store: 111 in bits 29 to 27 of the word, 01 in bits 25 and 24.
-pub fn is_load_store(k: u32) -> bool
-    ensures { λ r. ⌜ r ≡ matches highFields k ⌝ }
+pub fn has_fixed_fields(k: u32) -> bool
+    ensures { λ r. ⌜ r ≡ matches loadStoreHigh k ⌝ }
 {
     k / 4 % 4 == 0b01 && k / 32 % 8 == 0b111
 }
@@ -70,8 +71,8 @@ pub fn is_load_store(k: u32) -> bool
 pub fn class_of_index(k: u32) -> LoadStoreClass
     ensures { λ r. ⌜ r ≡ classOfIndex k ⌝ }
 {
-    if is_load_store(k) {
-        class_by(k / 256 % 4, k / 16 % 2, k % 4)
+    if has_fixed_fields(k) {
+        class_of_fields(k / 256 % 4, k / 16 % 2, k % 4)
     } else {
         LoadStoreClass::Neither
     }

@@ -26,6 +26,7 @@ pub enum Row {
     Unallocated,
 }
 
+// The registers of a row: general ones, or vector ones.
 const GENERAL: bool = false;
 
 const VECTOR: bool = true;

@@ -9,57 +9,28 @@ use native.Mathlib.Numerals.{add-one}
 use lib.Dec.{ltb, lit≤}
 use lib.ListN.{length, length-append}
 use Rattle.util.specs.Choice.{choose}
-use Rattle.util.specs.Diagram.{matches}
 use Rattle.util.proofs.Choice.{chosen}
-use Rattle.arm64_insn.specs.LoadStoreTable.{rowOf}
-use Rattle.arm64_ldst_class.specs.Class.{entryOf}
-use Rattle.arm64_ldst_class.specs.Row.{highFields, sizeAt, vAt, opcAt, classOfIndex}
+use Rattle.arm64_ldst_class.specs.Entry.{entryOf}
+use Rattle.arm64_ldst_class.specs.Row.{classOfIndex}
 use Rattle.arm64_ldst_class.specs.declared.LoadStoreClass.{LoadStoreClass}
 use Rattle.arm64_ldst_class.specs.declared.LoadStoreClass.the-variants.{Moves, Neither}
-use Rattle.text.specs.Digits.{codes, digitOf, digits, decimal}
+use Rattle.text.specs.Digits.{ascii, digitOf, digits, decimal}
 use Rattle.text.specs.Puts.{Puts}
 use Rattle.text.proofs.Decimal.{decimal-length}
 use Rattle.text.proofs.Stores.{put-then}
-use Rattle.ldst_table_rows.specs.Rows.{rowFrom}
-use Rattle.ldst_table_text.specs.Text.{mnemonicName, rowName, nameAt, classText, number, commentOf, entryLine, entryLines, opening, tableText}
-use Rattle.ldst_table_rows.specs.declared.rows.Mnemonic.{Mnemonic}
-use Rattle.ldst_table_rows.specs.declared.rows.Mnemonic.the-variants.{Strb, Ldrb, Ldrsb, Strh, Ldrh, Ldrsh, Str, Ldr, Ldrsw, Prfm}
-use Rattle.ldst_table_rows.specs.declared.rows.Row.{Row}
-use Rattle.ldst_table_rows.specs.declared.rows.Row.the-variants.{Load, Store, Prefetch, Unallocated}
-
-mnemonic-length : (m : Mnemonic) → length (mnemonicName m) ≤ 5
-mnemonic-length Strb = lit≤ tt
-mnemonic-length Ldrb = lit≤ tt
-mnemonic-length Ldrsb = lit≤ tt
-mnemonic-length Strh = lit≤ tt
-mnemonic-length Ldrh = lit≤ tt
-mnemonic-length Ldrsh = lit≤ tt
-mnemonic-length Str = lit≤ tt
-mnemonic-length Ldr = lit≤ tt
-mnemonic-length Ldrsw = lit≤ tt
-mnemonic-length Prfm = lit≤ tt
-
-pub row-length : (r : Row) → length (rowName r) ≤ 11
-row-length (Load m v n) = omega (arith, mnemonic-length m)
-row-length (Store m v n) = omega (arith, mnemonic-length m)
-row-length (Prefetch m) = omega (arith, mnemonic-length m)
-row-length Unallocated = lit≤ tt
-
-pub name-length : (k : ℕ) → length (nameAt k) ≤ 13
-unfolding nameAt
-name-length k =
-    let r = rowFrom (rowOf (sizeAt k) (vAt k) (opcAt k)) in
-    chosen (λ (l : List ℕ). length l ≤ 13) (matches highFields k) _ _ (simp length-append (omega (arith, row-length r))) (lit≤ tt)
+use Rattle.ldst_table_rows.proofs.NameLaws.{name-length}
+use Rattle.ldst_table_text.specs.Text.{movedText, registersText, classText}
+use Rattle.ldst_table_text.specs.Text.{number, commentOf, entryLine, entryLines, opening, tableText}
 
 -- a choice of two texts
 choice-length : (b : Bool) (s t : List ℕ) (n : ℕ) → length s ≤ n → length t ≤ n → length (choose b s t) ≤ n
 choice-length b s t n h k = chosen (λ (l : List ℕ). length l ≤ n) b s t h k
 
-pub moved-length : (b : Bool) → length (choose b (codes "store ") (codes "load ")) ≤ 6
-moved-length b = choice-length b (codes "store ") (codes "load ") 6 (lit≤ tt) (lit≤ tt)
+pub moved-length : (b : Bool) → length (movedText b) ≤ 6
+moved-length b = choice-length b (ascii "store ") (ascii "load ") 6 (lit≤ tt) (lit≤ tt)
 
-registers-length : (b : Bool) → length (choose b (codes " vector") (codes " general")) ≤ 8
-registers-length b = choice-length b (codes " vector") (codes " general") 8 (lit≤ tt) (lit≤ tt)
+registers-length : (b : Bool) → length (registersText b) ≤ 8
+registers-length b = choice-length b (ascii " vector") (ascii " general") 8 (lit≤ tt) (lit≤ tt)
 
 pub class-length : (c : LoadStoreClass) → length (classText c) ≤ 16
 unfolding classText

@@ -1,69 +1,20 @@
 // The generator of the table of classes (RULES 7.33): the whole source file `arm64_ldst_table/src/table.rt`, from the manual's rows. It asks no decoder.
 use arm64_ldst_class::LoadStoreClass;
 use ldst_table_rows::class::class_of_index;
-use ldst_table_rows::class::is_load_store;
-use ldst_table_rows::rows::Mnemonic;
-use ldst_table_rows::rows::Row;
-use ldst_table_rows::rows::row_of;
+use ldst_table_rows::names::put_name;
 use text::digit;
 use text::put;
 use text::put_decimal;
 ghost use Prim.Native.Nat.{_+_, _*_, _≤_};
 ghost use lib.ListN.{length};
-ghost use Rattle.util.specs.Choice.{choose};
-ghost use Rattle.text.specs.Digits.{codes, digits};
+ghost use Rattle.text.specs.Digits.{digits};
 ghost use Rattle.text.specs.Puts.{Puts};
-ghost use Rattle.ldst_table_text.specs.Text.{mnemonicName, rowName, nameAt, classText, number, commentOf, entryLine, entryLines, opening, tableText};
-
-// Puts a mnemonic.
-fn put_mnemonic(out: &mut [u8], at: usize, mnemonic: Mnemonic) -> usize
-    requires { ⌜ at + 5 ≤ length (now out) ⌝ }
-    ensures { λ r. ⌜ Puts (now (out .entry)) at (mnemonicName mnemonic) r (now (out .exit)) ⌝ }
-{
-    match mnemonic {
-        Mnemonic::Strb => put(out, at, b"STRB"),
-        Mnemonic::Ldrb => put(out, at, b"LDRB"),
-        Mnemonic::Ldrsb => put(out, at, b"LDRSB"),
-        Mnemonic::Strh => put(out, at, b"STRH"),
-        Mnemonic::Ldrh => put(out, at, b"LDRH"),
-        Mnemonic::Ldrsh => put(out, at, b"LDRSH"),
-        Mnemonic::Str => put(out, at, b"STR"),
-        Mnemonic::Ldr => put(out, at, b"LDR"),
-        Mnemonic::Ldrsw => put(out, at, b"LDRSW"),
-        Mnemonic::Prfm => put(out, at, b"PRFM"),
-    }
-}
-
-// Puts the name of a row.
-fn put_row(out: &mut [u8], at: usize, row: Row) -> usize
-    requires { ⌜ at + 11 ≤ length (now out) ⌝ }
-    ensures { λ r. ⌜ Puts (now (out .entry)) at (rowName row) r (now (out .exit)) ⌝ }
-{
-    match row {
-        Row::Load(mnemonic, _, _) => put_mnemonic(out, at, mnemonic),
-        Row::Store(mnemonic, _, _) => put_mnemonic(out, at, mnemonic),
-        Row::Prefetch(mnemonic) => put_mnemonic(out, at, mnemonic),
-        Row::Unallocated => put(out, at, b"unallocated"),
-    }
-}
-
-// Puts the name of an index's row and a colon, where it has one.
-fn put_name(out: &mut [u8], at: usize, k: u32) -> usize
-    requires { ⌜ at + 13 ≤ length (now out) ⌝ }
-    ensures { λ r. ⌜ Puts (now (out .entry)) at (nameAt k) r (now (out .exit)) ⌝ }
-{
-    if is_load_store(k) {
-        let next = put_row(out, at, row_of(k / 256 % 4, k / 16 % 2, k % 4));
-        put(out, next, b": ")
-    } else {
-        at
-    }
-}
+ghost use Rattle.ldst_table_text.specs.Text.{movedText, registersText, classText, number, commentOf, entryLine, entryLines, opening, tableText};
 
 // Puts whether a class stores or loads.
 fn put_moved(out: &mut [u8], at: usize, stores: bool) -> usize
     requires { ⌜ at + 6 ≤ length (now out) ⌝ }
-    ensures { λ r. ⌜ Puts (now (out .entry)) at (choose stores (codes "store ") (codes "load ")) r (now (out .exit)) ⌝ }
+    ensures { λ r. ⌜ Puts (now (out .entry)) at (movedText stores) r (now (out .exit)) ⌝ }
 {
     if stores {
         put(out, at, b"store ")
@@ -75,7 +26,7 @@ fn put_moved(out: &mut [u8], at: usize, stores: bool) -> usize
 // Puts which registers a class has.
 fn put_registers(out: &mut [u8], at: usize, vector: bool) -> usize
     requires { ⌜ at + 8 ≤ length (now out) ⌝ }
-    ensures { λ r. ⌜ Puts (now (out .entry)) at (choose vector (codes " vector") (codes " general")) r (now (out .exit)) ⌝ }
+    ensures { λ r. ⌜ Puts (now (out .entry)) at (registersText vector) r (now (out .exit)) ⌝ }
 {
     if vector {
         put(out, at, b" vector")
@@ -85,14 +36,14 @@ fn put_registers(out: &mut [u8], at: usize, vector: bool) -> usize
 }
 
 // Puts a class.
-fn put_class(out: &mut [u8], at: usize, class: LoadStoreClass) -> usize
+fn put_moves(out: &mut [u8], at: usize, class: LoadStoreClass) -> usize
     requires { ⌜ at + 16 ≤ length (now out) ⌝ }
     ensures { λ r. ⌜ Puts (now (out .entry)) at (classText class) r (now (out .exit)) ⌝ }
 {
     match class {
         LoadStoreClass::Moves(bytes, stores, vector, _) => {
-            let moved = put_moved(out, at, stores);
-            let registers = put_decimal(out, moved, bytes as u64);
+            let size = put_moved(out, at, stores);
+            let registers = put_decimal(out, size, bytes as u64);
             put_registers(out, registers, vector)
         }
         LoadStoreClass::Neither => put(out, at, b"no load or store"),
@@ -128,8 +79,8 @@ fn put_comment(out: &mut [u8], at: usize, k: u32, class: LoadStoreClass) -> usiz
     let index = put(out, at, b", // ");
     let space = put_index(out, index, k);
     let name = put(out, space, b" ");
-    let moved = put_name(out, name, k);
-    let end = put_class(out, moved, class);
+    let moves = put_name(out, name, k);
+    let end = put_moves(out, moves, class);
     put(out, end, b"\n")
 }
 

@@ -225,7 +225,8 @@ fn class_of(word: u32, class: u64, bytes: u64) -> u64 {
 fn table_class_of(word: u32, class: u64, bytes: u64) -> u64 {
     let entry = lookup(word) as u64;
     if is_taken_as_load(word) {
-        if class == 0 && bytes == 0 && entry == 16 * ((word / 0x4000_0000) as u64) + 2 {
+        let size = 2 * ((word / 0x4000_0000) as u64);
+        if class == 0 && bytes == 0 && entry == 8 * size + 2 {
             return 0;
         }
         return DIFFERS;
@@ -242,7 +243,7 @@ fn table_class_of(word: u32, class: u64, bytes: u64) -> u64 {
     entry / 2 % 2 + entry % 2 * 2
 }
 
-// An answer that two have.
+// An answer that two agree on.
 fn common(a: u64, b: u64) -> u64 {
     if a == b { a } else { DIFFERS }
 }

@@ -7,9 +7,9 @@ use lib.Dec.{ltb}
 use Rattle.util.specs.Choice.{choose}
 
 -- the ASCII codes of a text
-abbrev pub codes : String → List ℕ
-codes []ˢ = []
-codes (c ∷ˢ s) = code c ∷ codes s
+abbrev pub ascii : String → List ℕ
+ascii []ˢ = []
+ascii (c ∷ˢ s) = code c ∷ ascii s
 
 -- a digit below 16: `0` to `9`, then `a` to `f`
 abbrev pub digitOf : ℕ → ℕ

@@ -4,6 +4,7 @@ pub mod Shift
 pub mod Word
 pub mod Part
 pub mod Diagram
+pub mod Flags
 pub mod Range
 pub mod Extend
 pub mod Bytes

@@ -5,6 +5,14 @@ ghost use lib.ListN.{length};
 ghost use Rattle.util.specs.Word.{le, put};
 ghost use Rattle.util.specs.Wrap.{sum, diff, inRange};
 ghost use Rattle.util.specs.Bits.{field, extend};
+ghost use Rattle.util.specs.Choice.{flag};
+
+// A bit: 1 where it is set, else 0.
+pub fn bit(set: bool) -> u32
+    ensures { λ r. ⌜ (r ≡ flag set) × (r < 2) ⌝ }
+{
+    set as u32
+}
 
 // Bits hi to lo of a value.
 pub fn bits(value: u64, hi: u32, lo: u32) -> u64

@@ -4,7 +4,7 @@ use Prim.Native.Nat.{_/_, _^_}
 use native.Mathlib.Omega.{arith}
 use Rattle.util.specs.Choice.{choose}
 use Rattle.arm64_insn.specs.LoadStoreTable.{rowOf}
-use Rattle.arm64_ldst_class.specs.Class.{entryOf}
+use Rattle.arm64_ldst_class.specs.Entry.{entryOf}
 use Rattle.arm64_ldst_class.specs.Row.{classOfIndex}
 use Rattle.arm64_ldst_class.proofs.High.{class-high}
 use Rattle.arm64_ldst_table.proofs.Listed.{listed}

@@ -2,7 +2,8 @@
 use native.Mathlib.Omega.{arith}
 use Rattle.text.proofs.Stores.{put-then}
 use Rattle.ldst_table_text.specs.Text.{commentOf}
-use Rattle.ldst_table_text.proofs.Lines.{name-length, class-length}
+use Rattle.ldst_table_rows.proofs.NameLaws.{name-length}
+use Rattle.ldst_table_text.proofs.Lines.{class-length}
 use borrow.Author.Needs.{needs}
 use Rattle.ldst_table_text.proofs.put_comment.Statement.{statement}
 use Rattle.ldst_table_text.proofs.put_comment.Tie as tie
@@ -25,8 +26,8 @@ put-requires-2 c κs = search needs
 put-name-requires : tie.Need-put-name-requires
 put-name-requires c κs = search needs
 
-put-class-requires : tie.Need-put-class-requires
-put-class-requires c κs =
+put-moves-requires : tie.Need-put-moves-requires
+put-moves-requires c κs =
     let name = c .before .before .before in
     let put2 = name .before .before .before .before in
     let index = put2 .before .before .before .before .before in
@@ -45,7 +46,7 @@ put-requires-3 c κs =
     let index = put2 .before .before .before .before .before in
     let first = index .before .before .before .before in
     let start = first .before .before .before .before in
-    omega (arith, name-length (start .args .k), class-length (start .args .class), name .put-name .ensures .ends, class .put-class .ensures .ends)
+    omega (arith, name-length (start .args .k), class-length (start .args .class), name .put-name .ensures .ends, class .put-moves .ensures .ends)
 
 same-length : tie.Need-same-length
 same-length c = search needs
@@ -62,7 +63,7 @@ returns c =
     put-then (put .put .ensures)
     (put-then (index .put-index .ensures)
     (put-then (put2 .put2 .ensures)
-    (put-then (name .put-name .ensures) (put-then (class .put-class .ensures) (end .put3 .ensures)))))
+    (put-then (name .put-name .ensures) (put-then (class .put-moves .ensures) (end .put3 .ensures)))))
 
 pub put-comment-spec : {M : Type 1} → statement M
 put-comment-spec =
@@ -74,7 +75,7 @@ put-comment-spec =
     slice-aggregate-put-2
     put-requires-2
     put-name-requires
-    put-class-requires
+    put-moves-requires
     slice-aggregate-put-3
     put-requires-3
     same-length

@@ -6,7 +6,7 @@ use native.Mathlib.Nat.{one-mul}
 use lib.Dec.{lit<}
 use lib.Pow.{shl-exact}
 use mir.Val.{boolByte}
-use Rattle.arch.proofs.Flags.{cast-flag, cast-bit}
+use Rattle.util.proofs.Flags.{cast-flag, cast-bit}
 use borrow.Author.Needs.{needs}
 use Rattle.arch.proofs.step.entry_of.Statement.{statement}
 use Rattle.arch.proofs.step.entry_of.Tie as tie

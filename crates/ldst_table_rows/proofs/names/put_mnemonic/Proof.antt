@@ -1,7 +1,7 @@
 -- `put_mnemonic` meets its contract: a text for each mnemonic. Assumes nothing.
 use borrow.Author.Needs.{needs}
-use Rattle.ldst_table_text.proofs.put_mnemonic.Statement.{statement}
-use Rattle.ldst_table_text.proofs.put_mnemonic.Tie as tie
+use Rattle.ldst_table_rows.proofs.names.put_mnemonic.Statement.{statement}
+use Rattle.ldst_table_rows.proofs.names.put_mnemonic.Tie as tie
 
 enum-told : tie.Need-enum-told
 enum-told c = search needs

@@ -17,6 +17,6 @@ abbrev pub classIn : ℕ → LoadStoreClass
 classIn e = choose (eqb e 0) Neither (Moves (e / 8) (eqb (e / 4 % 2) 1) (eqb (e / 2 % 2) 1) (eqb (e % 2) 1))
 
 -- what the decoder's answer moves
-abbrev pub classOfWord : LoadStoreWord → LoadStoreClass
-classOfWord (LoadStore l) = Moves (l .size) (l .«is_store») (l .«is_float») (l .«is_ldrsw»)
-classOfWord Other = Neither
+abbrev pub classSeen : LoadStoreWord → LoadStoreClass
+classSeen (LoadStore l) = Moves (l .size) (l .«is_store») (l .«is_float») (l .«is_ldrsw»)
+classSeen Other = Neither

@@ -1,9 +1,9 @@
 -- `bit` meets its contract: a cast flag is its number, 0 or 1 (`cast-flag` of Flags).
 use native.Mathlib.Omega.{arith}
-use Rattle.arch.proofs.Flags.{cast-flag}
+use Rattle.util.proofs.Flags.{cast-flag}
 use borrow.Author.Needs.{needs}
-use Rattle.arch.proofs.form.bit.Statement.{statement}
-use Rattle.arch.proofs.form.bit.Tie as tie
+use Rattle.util.proofs.bit.Statement.{statement}
+use Rattle.util.proofs.bit.Tie as tie
 
 cast-result : tie.Need-cast-result
 cast-result c = search needs

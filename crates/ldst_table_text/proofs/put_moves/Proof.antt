@@ -1,12 +1,12 @@
--- `put_class` meets its contract: three texts, one after another, or one. Assumes nothing.
+-- `put_moves` meets its contract: three texts, one after another, or one. Assumes nothing.
 use native.Mathlib.Omega.{arith}
 use Rattle.text.proofs.Decimal.{decimal-length}
 use Rattle.text.proofs.Stores.{put-then}
 use Rattle.ldst_table_text.specs.Text.{classText}
 use Rattle.ldst_table_text.proofs.Lines.{moved-length}
 use borrow.Author.Needs.{needs}
-use Rattle.ldst_table_text.proofs.put_class.Statement.{statement}
-use Rattle.ldst_table_text.proofs.put_class.Tie as tie
+use Rattle.ldst_table_text.proofs.put_moves.Statement.{statement}
+use Rattle.ldst_table_text.proofs.put_moves.Tie as tie
 
 enum-known-class : tie.Need-enum-known-class
 enum-known-class c = search needs
@@ -61,8 +61,8 @@ returns-2 : tie.Need-returns-2
 unfolding classText
 returns-2 c = rw (c .before .before .before .before .before .enum-told .given .1) (c .before .before .put .ensures)
 
-pub put-class-spec : {M : Type 1} → statement M
-put-class-spec =
+pub put-moves-spec : {M : Type 1} → statement M
+put-moves-spec =
     tie.close
     (tie.spec
     enum-known-class

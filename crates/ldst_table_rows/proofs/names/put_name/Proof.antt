@@ -4,14 +4,14 @@ use native.Mathlib.Nat.{div-one}
 use native.Mathlib.Omega.{arith}
 use Rattle.util.proofs.Choice.{choose-true, choose-false}
 use Rattle.text.proofs.Stores.{put-then}
-use Rattle.ldst_table_text.specs.Text.{nameAt}
-use Rattle.ldst_table_text.proofs.Lines.{row-length}
+use Rattle.ldst_table_rows.specs.Names.{nameAt}
+use Rattle.ldst_table_rows.proofs.NameLaws.{row-length}
 use borrow.Author.Needs.{needs}
-use Rattle.ldst_table_text.proofs.put_name.Statement.{statement}
-use Rattle.ldst_table_text.proofs.put_name.Tie as tie
+use Rattle.ldst_table_rows.proofs.names.put_name.Statement.{statement}
+use Rattle.ldst_table_rows.proofs.names.put_name.Tie as tie
 
-is-load-store-requires : tie.Need-is-load-store-requires
-is-load-store-requires c κs = search needs
+has-fixed-fields-requires : tie.Need-has-fixed-fields-requires
+has-fixed-fields-requires c κs = search needs
 
 row-of-requires : tie.Need-row-of-requires
 row-of-requires c κs = search needs
@@ -37,18 +37,18 @@ returns c =
     let put-row = put .before .before .before .before .before in
     let row-of = put-row .before in
     let test = row-of .before .before .before in
-    rw (choose-true _ _ _ (sym (test .is-load-store .ensures) ∙ row-of .before .before .if1 .taken), div-one, ← row-of .row-of .ensures)
+    rw (choose-true _ _ _ (sym (test .has-fixed-fields .ensures) ∙ row-of .before .before .if1 .taken), div-one, ← row-of .row-of .ensures)
     (put-then (put-row .put-row .ensures) (put .put .ensures))
 
 returns-2 : tie.Need-returns-2
 unfolding nameAt
-returns-2 c = rw (choose-false _ _ _ (sym (c .before .is-load-store .ensures) ∙ c .if1 .left)) (record { ends = omega arith; stored = refl })
+returns-2 c = rw (choose-false _ _ _ (sym (c .before .has-fixed-fields .ensures) ∙ c .if1 .left)) (record { ends = omega arith; stored = refl })
 
 pub put-name-spec : {M : Type 1} → statement M
 put-name-spec =
     tie.close
     (tie.spec
-    is-load-store-requires
+    has-fixed-fields-requires
     row-of-requires
     put-row-requires
     slice-aggregate-put

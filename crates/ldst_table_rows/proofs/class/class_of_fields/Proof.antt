@@ -1,8 +1,8 @@
--- `class_by` meets its contract: what RULES 7.19 takes as loads, else the row by its mnemonic. Assumes nothing.
+-- `class_of_fields` meets its contract: what RULES 7.19 takes as loads, else the row by its mnemonic. Assumes nothing.
 use Rattle.ldst_table_rows.proofs.ClassLaws.{class-taken, class-row}
 use borrow.Author.Needs.{needs}
-use Rattle.ldst_table_rows.proofs.class.class_by.Statement.{statement}
-use Rattle.ldst_table_rows.proofs.class.class_by.Tie as tie
+use Rattle.ldst_table_rows.proofs.class.class_of_fields.Statement.{statement}
+use Rattle.ldst_table_rows.proofs.class.class_of_fields.Tie as tie
 
 is-taken-as-load-requires : tie.Need-is-taken-as-load-requires
 is-taken-as-load-requires c κs = search needs
@@ -63,8 +63,8 @@ returns-5 c =
     class-row _ _ _ (test .before .pre) _ (test .is-taken-as-load .ensures) (row-of .before .if1 .left) _ _ (row-of .row-of .ensures)
     (c .enum-told2 .given .1)
 
-pub class-by-spec : {M : Type 1} → statement M
-class-by-spec =
+pub class-of-fields-spec : {M : Type 1} → statement M
+class-of-fields-spec =
     tie.close
     (tie.spec
     is-taken-as-load-requires

@@ -1,7 +1,7 @@
 -- `put_row` meets its contract: the mnemonic, or that there is none. Assumes nothing.
 use borrow.Author.Needs.{needs}
-use Rattle.ldst_table_text.proofs.put_row.Statement.{statement}
-use Rattle.ldst_table_text.proofs.put_row.Tie as tie
+use Rattle.ldst_table_rows.proofs.names.put_row.Statement.{statement}
+use Rattle.ldst_table_rows.proofs.names.put_row.Tie as tie
 
 enum-known-row : tie.Need-enum-known-row
 enum-known-row c = search needs
