@@ -355,8 +355,7 @@ uint8_t hauklivo_apply_hints(uint8_t *image, size_t image_len, const void *hints
 uint8_t hauklivo_list(const uint8_t *words, size_t words_len, uint8_t *out, size_t out_len,
                       size_t *count);
 
-/* Bits of a load's or store's class. The class divided by 8 is how many bytes are moved: 1, 2, 4, 8 or
- * 16. */
+/* Bits of an entry in the table of load and store classes. */
 enum hauklivo_class {
     /* LDRSW: 4 bytes, sign-extended into 8 of a general register. */
     HAUKLIVO_CLASS_LDRSW = 1,
@@ -366,15 +365,21 @@ enum hauklivo_class {
     HAUKLIVO_CLASS_STORE = 4
 };
 
+/* The bytes that are moved, of such an entry: 1, 2, 4, 8 or 16; of 0 none. */
+#define HAUKLIVO_CLASS_BYTES(entry) ((entry) / 8)
+
 /*
- * The class of a load or store with a scaled unsigned offset: 8 times the bytes that it moves, plus the
- * bits of enum hauklivo_class. 0 for any other word, also a prefetch. Bits 31 to 22 of the word decide,
- * and no other counts.
+ * A word's entry in the table of load and store classes: 8 times the bytes that it moves, plus the bits
+ * of enum hauklivo_class. Bits 31 to 22 of the word decide, and no other counts. Only loads and stores
+ * of a register with a scaled unsigned offset, which hints speak of, have an entry: it is 0 for every
+ * other word, also for pairs, literal loads, unscaled, indexed and exclusive accesses, and for a
+ * prefetch.
  *
  *   insn  the word as a number: four bytes of a section, little-endian
  *
- * Words that the Arm manual leaves unallocated are classed as the hint decoders take them: those of a
- * vector register whose bits 31 to 22 are 1f6 or 1f7 as loads of 2 bytes, 2f6 of 4, any other as 0.
+ * Words that the Arm manual leaves unallocated have the entry of what the hint decoders take them for:
+ * those of a vector register whose bits 31 to 22 are 0x1f6 or 0x1f7 are loads of 2 bytes, 0x2f6 of 4,
+ * all others none.
  */
 uint8_t hauklivo_load_store_class(uint32_t insn);
 

@@ -256,11 +256,12 @@ pub fn list(words: &[u8], out: &mut [u8]) -> Result<usize, Refusal> {
     settled(number, count)
 }
 
-/// The class of a word that is a load or store with a scaled unsigned offset; None for any other, also a
-/// prefetch. Bits 31 to 22 decide, and no other counts.
+/// The class of a word that is a load or store of a register with a scaled unsigned offset, of which hints
+/// speak; None for any other, also for pairs, literal loads, unscaled, indexed and exclusive accesses, and
+/// for a prefetch. Bits 31 to 22 decide, and no other counts.
 ///
-/// Words that the Arm manual leaves unallocated are classed as the hint decoders take them: those of a
-/// vector register whose bits 31 to 22 are 1f6 or 1f7 as loads of 2 bytes, 2f6 of 4, any other as None.
+/// Words that the Arm manual leaves unallocated are what the hint decoders take them for: those of a
+/// vector register whose bits 31 to 22 are 0x1f6 or 0x1f7 loads of 2 bytes, 0x2f6 of 4, any other None.
 ///
 /// ```
 /// use hauklivo::{LoadStoreClass, load_store_class};

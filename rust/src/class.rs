@@ -14,9 +14,13 @@ pub struct LoadStoreClass {
 }
 
 impl LoadStoreClass {
+    const LDRSW: u8 = 1;
+    const VECTOR: u8 = 2;
+    const STORE: u8 = 4;
+
     /// The class that an entry of the library's table stands for, as
     /// [`hauklivo_load_store_class`](crate::raw::hauklivo_load_store_class) gives it: 8 times the bytes,
-    /// and 4 for a store, 2 for a vector register, 1 for LDRSW. None for 0, no load or store. Any other
+    /// and 4 for a store, 2 for a vector register, 1 for LDRSW. None where no byte is moved. Any other
     /// number is taken apart in the same way, whether or not the table has it.
     ///
     /// ```
@@ -28,6 +32,7 @@ impl LoadStoreClass {
     /// ```
     pub fn from_entry(entry: u8) -> Option<Self> {
         let has = |bit| entry & bit != 0;
-        (entry != 0).then(|| Self { bytes: entry / 8, is_store: has(4), is_vector: has(2), is_ldrsw: has(1) })
+        let (is_store, is_vector, is_ldrsw) = (has(Self::STORE), has(Self::VECTOR), has(Self::LDRSW));
+        (entry >= 8).then_some(Self { bytes: entry / 8, is_store, is_vector, is_ldrsw })
     }
 }

@@ -3,11 +3,12 @@ use mathlib.Core.Path.{refl}
 use Rattle.util.specs.Choice.{choose}
 use Rattle.arm64_insn.specs.LoadStoreTable.{rowOf}
 use Rattle.arm64_ldst_class.specs.Row.{classOfIndex}
-use Rattle.arm64_ldst_class.proofs.Back.{neither-back, entry-back}
+use Rattle.arm64_ldst_class.proofs.Back.{moves-back, neither-back, entry-back}
 use Rattle.arm64_ldst_class.proofs.High.{class-high, class-back}
 use Rattle.arm64_ldst_class.proofs.Manual.{class-manual, taken-class, taken-at, ldrsw-at}
 use Rattle.arm64_ldst_table.proofs.lookup.Met as Lookup
-use Rattle.ldst_table_text.specs.Text.{nameAt, classText, commentOf, entryLine}
+use Rattle.ldst_table_rows.specs.Names.{nameAt}
+use Rattle.ldst_table_text.specs.Text.{classText, commentOf, entryLine}
 use Rattle.ldst_table_text.proofs.text.Met as Text
 use Rattle.claims.specs.Classes.{Classes}
 
@@ -18,13 +19,15 @@ classes =
       lookup = λ M. Lookup.met;
       by-index = class-high;
       entries = refl;
-      back = class-back;
+      moves-back = moves-back;
       none-back = neither-back;
+      back = class-back;
       entry-back = entry-back;
       manual = class-manual;
       taken = taken-class;
       taken-at = taken-at;
       ldrsw-at = ldrsw-at;
       text = λ M. Text.met;
-      lines = (refl, refl, refl, refl, refl, refl, refl);
+      rows = refl;
+      other-line = refl;
     }

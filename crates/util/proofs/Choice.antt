@@ -1,4 +1,4 @@
--- What holds of both ways of a choice holds of the choice.
+-- What holds of both ways of a choice holds of the choice; tests that agree.
 use mathlib.Core.Path.{_≡_, refl, sym}
 use mathlib.Core.Bool.{Bool, true, false, _&&_, not, false≢true}
 use Rattle.util.specs.Choice.{choose}
