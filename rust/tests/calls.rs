@@ -425,6 +425,7 @@ fn low_bits_do_not_matter() {
 #[test]
 fn entries_of_classes() {
     assert_eq!(LoadStoreClass::from_entry(0), None);
+    assert_eq!(LoadStoreClass::from_entry(7), None); // no byte is moved
     assert_eq!(LoadStoreClass::from_entry(12), class(1, 4));
     assert_eq!(LoadStoreClass::from_entry(33), class(4, 1));
     assert_eq!(LoadStoreClass::from_entry(134), class(16, 6));

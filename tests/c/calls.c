@@ -305,7 +305,7 @@ static void classes(void)
     CHECK(hauklivo_load_store_class(0xb9800000) == 32 + HAUKLIVO_CLASS_LDRSW); /* ldrsw */
     CHECK(hauklivo_load_store_class(0xf9400001) == 64);                        /* ldr x1, [x0] */
     uint8_t q = hauklivo_load_store_class(0x3d800421);                         /* str q1, [x1, #16] */
-    CHECK(q / 8 == 16 && q % 8 == HAUKLIVO_CLASS_STORE + HAUKLIVO_CLASS_VECTOR);
+    CHECK(HAUKLIVO_CLASS_BYTES(q) == 16 && q % 8 == HAUKLIVO_CLASS_STORE + HAUKLIVO_CLASS_VECTOR);
     CHECK(hauklivo_load_store_class(0xf9800000) == 0); /* prfm */
     CHECK(hauklivo_load_store_class(0xd503201f) == 0); /* nop */
 

@@ -1,6 +1,6 @@
 -- The class of a word against the manual's instruction of it; where the two part, and where LDRSW stands, by one computed test each.
 use mathlib.Core.Path.{_≡_, refl, sym, ap, _∙_}
-use mathlib.Core.Bool.{Bool, true, false, _&&_, _||_, not, false≢true}
+use mathlib.Core.Bool.{Bool, true, false, _&&_, _||_, not, and-false, false≢true}
 use Prim.Native.Nat.{ℕ, _/_, _^_, _<_}
 use native.Mathlib.Omega.{arith}
 use lib.Dec.{eqb, lit<}
@@ -69,14 +69,13 @@ module _ (w : ℕ) where
   unfolding allocated choose
   taken-class = ap (λ (c : LoadStoreClass). not (allocated w) && isAccess c) (class-fields w) ∙ go (matches loadStore w) refl
     where
-      nothing : (b : Bool) → (b && false) ≡ false
-      nothing true = refl
-      nothing false = refl
-
       go : (m : Bool) → matches loadStore w ≡ m
           → (not (allocated w) && isAccess (choose (matches loadStore w) (classOfFields (sizeIn w) (vIn w) (opcIn w)) Neither)) ≡ takenWord w
       go true e = rw e cell
-      go false e = ap (λ (m : Bool). not (allocated w) && isAccess (choose m (classOfFields (sizeIn w) (vIn w) (opcIn w)) Neither)) e ∙ nothing (not (allocated w)) ∙ rw e
+      go false e =
+          ap (λ (m : Bool). not (allocated w) && isAccess (choose m (classOfFields (sizeIn w) (vIn w) (opcIn w)) Neither)) e
+          ∙ and-false (not (allocated w))
+          ∙ rw e
 
 module _ (w : ℕ) (l : w < 2 ^ 32) where
   -- by their index

@@ -10,5 +10,5 @@ ghost use Rattle.arm64_ldst_class.specs.Entry.{entryOf, classSeen};
 pub fn lookup(insn: u32) -> u8
     ensures { λ r. ⌜ r ≡ entryOf (classSeen (loadStoreOf insn)) ⌝ }
 {
-    CLASSES[(insn / 0x40_0000) as usize]
+    CLASSES[(insn / 0x40_0000 % 0x400) as usize]
 }
