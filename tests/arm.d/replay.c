@@ -172,13 +172,13 @@ static int holds_hints(const struct head *h, const uint8_t *body)
     return became(&first, after, h->v[0]) || fails("the image");
 }
 
-/* Here the number is a class. */
+/* Here the number is an entry of the table of classes. */
 static int holds_class(const struct head *h, const uint8_t *body)
 {
     if (h->len != 4)
         return fails("the record's lengths");
     uint32_t word = body[0] | body[1] << 8 | body[2] << 16 | (uint32_t)body[3] << 24;
-    return load_store_class(word) == h->number || fails("the class");
+    return load_store_class(word) == h->number || fails("the entry");
 }
 
 static int holds(const struct head *h, const uint8_t *body)

@@ -13,8 +13,8 @@
 //! - 4, write_thunk. Values: bytes lent, 1. Body: address and target (u64), bytes after.
 //! - 5, apply_hints. Values: bytes of the image, of hints, of entries. Body: tally (four u32), image, hints, entries, image
 //!   after.
-//! - 6, load_store_class. The number is the class. Body: the word (u32). In the list of every case alone: that the classes
-//!   are those of the decoders is proved.
+//! - 6, load_store_class. The number is the entry of the table. Body: the word (u32). Only the list of every case has
+//!   such records; the lists that crates replay have none.
 //!
 //! After a refusal the bytes are those before it and the tally is zeros, which nobody reads. Slots after those filled
 //! keep the pattern of `lent.rs`, and so do the bytes of a stub or thunk that is refused.
