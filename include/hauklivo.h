@@ -13,10 +13,11 @@
  * works them as they are now, which faults or writes elsewhere.
  *
  * Lists are lent as bytes: a pointer and a length in bytes. Each list holds records of one fixed
- * size with no header, in the layouts of the structs below, little-endian. `sections` alone is lent as
- * numbers, and `sections_count` counts them. No pointer may be null, not even one of an empty list.
- * Lists of records need no alignment; `sections` needs that of uint64_t, a tally that of uint32_t, a
- * count that of size_t.
+ * size with no header, in the layouts of the structs below, little-endian. Three lists are lent as
+ * 64-bit values, and their lengths count those: `sections` of hauklivo_read_relocs, `slots` of
+ * hauklivo_read_hints and `row` of hauklivo_write_hints. No pointer may be null, not even one of an
+ * empty list. Lists of records need no alignment, and a payload needs none; a list of 64-bit values
+ * needs that of uint64_t, a tally that of uint32_t, a count that of size_t.
  */
 #ifndef HAUKLIVO_H
 #define HAUKLIVO_H
@@ -32,8 +33,9 @@ extern "C" {
 #endif
 
 /* The version of these calls. It rises by one where a call, a record or a number that was there
- * changes. A call that is added leaves it: a program that makes the call does not link with a library
- * that was made before it, and any other program links with both. */
+ * changes. A call that is added leaves it, also where it returns a number that is added with it: a
+ * program that makes the call does not link with a library that was made before it, and any other
+ * program links with both and gets the same answers. */
 #define HAUKLIVO_VERSION 1
 
 /* The version of the library that is linked: HAUKLIVO_VERSION, unless it and this header are of
@@ -48,10 +50,12 @@ enum hauklivo_number {
     /* The call did its work. */
     HAUKLIVO_DONE = 0,
     /* A list's length is not whole records, a list has more than 2^32 - 1 records, or two lists
-     * disagree (targets are not one for each entry). */
+     * disagree (targets are not one for each entry); a payload has more than 2^32 - 1 bytes; a row
+     * has more than 2^32 - 1 values, ends within a hint, or has a kind 0. */
     HAUKLIVO_LENGTHS = 1,
     /* The slots have fewer than 24 bytes for each input record; of a listing, more than 16,384
-     * bytes of words, or fewer than 27 bytes of room for each word. */
+     * bytes of words, or fewer than 27 bytes of room for each word; of a payload, fewer slots than
+     * bytes; of a row, fewer than 10 bytes of room for each value. */
     HAUKLIVO_SLOTS = 2,
     /* A place is past the bytes that it reads or writes, a hint's word is past its part, a hint's
      * part is past the image, or fewer than 12 bytes are lent for a stub or thunk entry. */
@@ -74,7 +78,11 @@ enum hauklivo_number {
      * are not zero. */
     HAUKLIVO_FLAGS = 11,
     /* A hint names an entry that is not there. */
-    HAUKLIVO_NO_ENTRY = 12
+    HAUKLIVO_NO_ENTRY = 12,
+    /* A payload ends within a value or within a hint, or a value of it is 2^64 or more. */
+    HAUKLIVO_MALFORMED = 13,
+    /* A byte after the kind 0 that closes the list of a payload is not zero. */
+    HAUKLIVO_TRAILING = 14
 };
 
 /* Relocation types, those of Apple's <mach-o/arm64/reloc.h>. */
@@ -338,6 +346,42 @@ uint8_t hauklivo_write_thunk(uint8_t *bytes, size_t bytes_len, uint64_t address,
  */
 uint8_t hauklivo_apply_hints(uint8_t *image, size_t image_len, const void *hints, size_t hints_len,
                              const void *entries, size_t entries_len, struct hauklivo_tally *tally);
+
+/*
+ * Reads the payload of LC_LINKER_OPTIMIZATION_HINT into a row of 64-bit values: for each hint its
+ * kind, a count, and then that many addresses.
+ *
+ *   payload  the same values as unsigned LEB128, one after another. A spelling may be longer than
+ *            it need be. The payload's end closes the list, or a kind 0 in any spelling, after
+ *            which every byte must be zero; a count of 0 and an address of 0 close nothing
+ *   slots    at least one for each byte of the payload; gets the row. `slots_count` counts values
+ *   count    gets how many values that is; slots after them stay
+ *
+ * Kinds above 8, and counts other than a kind has, are read as they are.
+ *
+ * Numbers, in this order: 1, 2, then 13 or 14; no payload is both.
+ */
+uint8_t hauklivo_read_hints(const uint8_t *payload, size_t payload_len, uint64_t *slots,
+                            size_t slots_count, size_t *count);
+
+/* The most bytes that a value of a row is written with. */
+#define HAUKLIVO_SPELLING 10
+
+/*
+ * Writes a row of 64-bit values, as hauklivo_read_hints fills it, as a payload: each value in its
+ * shortest spelling. No zero is added to close the list. What is written is read back unless it is
+ * longer than the 2^32 - 1 bytes that hauklivo_read_hints takes, which needs a row of more than
+ * 429,496,729 values.
+ *
+ *   row    for each hint its kind, which may not be 0, a count, and then that many addresses.
+ *          `row_count` counts values
+ *   out    at least HAUKLIVO_SPELLING bytes for each value; gets the payload
+ *   count  gets how many bytes that is; bytes of `out` after them stay
+ *
+ * Numbers, in this order: 1, 2.
+ */
+uint8_t hauklivo_write_hints(const uint64_t *row, size_t row_count, uint8_t *out, size_t out_len,
+                             size_t *count);
 
 /* The most bytes of text that a word is listed with. */
 #define HAUKLIVO_LINE 27

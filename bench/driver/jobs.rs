@@ -4,6 +4,7 @@ use hauklivo::{HintRecord, MachRel, Record, Reloc, Report, Resolved};
 use oracle::{Entries, FixingUp, Given, Linked, Reading};
 
 use crate::hints::Sequences;
+use crate::payload::Payload;
 use crate::records::{BASE, TLS_BEGIN, Table};
 
 /// One side of a comparison.
@@ -217,4 +218,77 @@ pub fn rust_run(from: &Sequences) -> Box<dyn Job + '_> {
     let (hints_of, entries) = (HintRecord::bytes(&from.hints), Reloc::bytes(&from.entries));
     let linked = Linked::new(from.image.len(), hints_of, entries).expect("places that go with offsets");
     hints(from, move |image| linked.run(image))
+}
+
+/// The reading of a payload into slots.
+pub struct ReadHints<'a, F> {
+    payload: &'a Payload,
+    slots: Vec<u64>,
+    call: F,
+}
+
+impl<F: FnMut(&Payload, &mut [u64])> Job for ReadHints<'_, F> {
+    fn reset(&mut self) {
+        self.slots.fill(0);
+    }
+
+    fn run(&mut self) {
+        (self.call)(self.payload, &mut self.slots);
+    }
+
+    fn result(&self) -> Vec<u8> {
+        self.slots[..self.payload.row.len()].iter().flat_map(|n| n.to_le_bytes()).collect()
+    }
+}
+
+fn read_hints<'a>(payload: &'a Payload, call: impl FnMut(&Payload, &mut [u64]) + 'a) -> Box<dyn Job + 'a> {
+    Box::new(ReadHints { payload, slots: vec![0; payload.bytes.len()], call })
+}
+
+pub fn port_read_hints(payload: &Payload) -> Box<dyn Job + '_> {
+    read_hints(payload, |payload, slots| {
+        let count = hauklivo::read_hints(&payload.bytes, slots).unwrap();
+        assert_eq!(count, payload.row.len());
+    })
+}
+
+/// The Rust's read_uleb, value by value, without a look at kinds and counts.
+pub fn rust_read_ulebs(payload: &Payload) -> Box<dyn Job + '_> {
+    read_hints(payload, |payload, slots| oracle::read_ulebs(&payload.bytes, &mut slots[..payload.row.len()]))
+}
+
+/// The writing of a row as a payload.
+pub struct WriteHints<'a, F> {
+    payload: &'a Payload,
+    out: Vec<u8>,
+    call: F,
+}
+
+impl<F: FnMut(&Payload, &mut Vec<u8>)> Job for WriteHints<'_, F> {
+    fn run(&mut self) {
+        (self.call)(self.payload, &mut self.out);
+    }
+
+    fn result(&self) -> Vec<u8> {
+        self.out[..self.payload.bytes.len()].to_vec()
+    }
+}
+
+fn write_hints<'a>(payload: &'a Payload, call: impl FnMut(&Payload, &mut Vec<u8>) + 'a) -> Box<dyn Job + 'a> {
+    Box::new(WriteHints { payload, out: vec![0; hauklivo::SPELLING * payload.row.len()], call })
+}
+
+pub fn port_write_hints(payload: &Payload) -> Box<dyn Job + '_> {
+    write_hints(payload, |payload, out| {
+        let count = hauklivo::write_hints(&payload.row, out).unwrap();
+        assert_eq!(count, payload.bytes.len());
+    })
+}
+
+/// The Rust's encode_uleb, value by value.
+pub fn rust_encode_ulebs(payload: &Payload) -> Box<dyn Job + '_> {
+    write_hints(payload, |payload, out| {
+        out.clear();
+        oracle::encode_ulebs(&payload.row, out);
+    })
 }

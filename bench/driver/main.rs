@@ -7,6 +7,7 @@
 mod clock;
 mod hints;
 mod jobs;
+mod payload;
 mod records;
 #[allow(dead_code)]
 #[path = "../../tests/driver/rng.rs"]
@@ -17,14 +18,22 @@ use std::collections::BTreeMap;
 use hauklivo::{HintRecord, MachRel, Record, Reloc, Resolved};
 use hints::{Objects, Sequences};
 use jobs::{Copy, Fill, Job, PortFix, PortRead, RustFix, RustRead};
+use payload::Payload;
 use records::Table;
 
 type Sides<'a> = Vec<(&'static str, Box<dyn Job + 'a>)>;
 
 const SIZES: [usize; 4] = [1_000, 10_000, 100_000, 1_000_000];
 const SWEEPS: usize = 5;
-const CASES: [(&str, usize); 5] =
-    [("read", 4), ("fix", 4), ("hints", 4), ("hints, many objects", 4), ("hints, falling objects", 2)];
+const CASES: [(&str, usize); 7] = [
+    ("read", 4),
+    ("fix", 4),
+    ("hints", 4),
+    ("hints, many objects", 4),
+    ("hints, falling objects", 2),
+    ("payload, read", 4),
+    ("payload, written", 4),
+];
 
 #[unsafe(no_mangle)]
 #[inline(never)]
@@ -56,6 +65,15 @@ fn with_sides(case: &str, size: usize, then: impl FnOnce(Sides, usize)) {
             let fill = Box::new(Fill::new(&entries, symbols));
             let copy = Box::new(Copy::new(bytes));
             then(vec![("port", port), ("rust", rust), ("copy", copy), ("fill", fill)], bytes);
+        }
+        "payload, read" | "payload, written" => {
+            let payload = Payload::new(size);
+            let bytes = payload.bytes.len() + size_of_val(&payload.row[..]);
+            let (port, rust) = match case {
+                "payload, read" => (jobs::port_read_hints(&payload), jobs::rust_read_ulebs(&payload)),
+                _ => (jobs::port_write_hints(&payload), jobs::rust_encode_ulebs(&payload)),
+            };
+            then(vec![("port", port), ("rust", rust), ("copy", Box::new(Copy::new(bytes)))], bytes);
         }
         _ => {
             let objects = match case {

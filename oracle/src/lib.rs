@@ -29,12 +29,14 @@ mod calls;
 mod hints;
 pub mod lent;
 mod stop;
+mod values;
 pub mod words;
 
 pub use arch::Arm64;
 pub use calls::{Entries, FixedUp, FixingUp, Reading, apply_reloc_alloc, read_relocs, stub, thunk};
 pub use hints::{Given, HintRun, Linked, Outcome, apply_hints, apply_hints_linked};
 pub use stop::Stop;
+pub use values::{encode_uleb, encode_ulebs, read_uleb, read_ulebs, uleb_size, write_uleb};
 pub use words::{AccessWord, AddWord, Words};
 
 /// For what the compiled files name but none of the oracle's calls reaches.

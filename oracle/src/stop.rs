@@ -20,6 +20,8 @@ pub enum Stop {
     Overflow(String),
     /// `unwrap` on a None.
     NoneUnwrap(String),
+    /// A LEB128 value whose bytes end.
+    CutOff(String),
     /// Anything else: a fault of the oracle.
     Other(String),
 }
@@ -41,6 +43,8 @@ impl Stop {
             Self::Overflow(text)
         } else if text.contains("on a `None` value") {
             Self::NoneUnwrap(text)
+        } else if text == "truncated LEB128" {
+            Self::CutOff(text)
         } else {
             Self::Other(text)
         }
@@ -66,7 +70,7 @@ impl Stop {
             Self::Index(_) => Some(8),
             Self::Overflow(_) => Some(9),
             Self::NoneUnwrap(_) => Some(10),
-            Self::Other(_) => None,
+            Self::CutOff(_) | Self::Other(_) => None,
         }
     }
 
@@ -77,6 +81,11 @@ impl Stop {
             Self::Index(_) => Some(12),
             _ => None,
         }
+    }
+
+    /// The number of RULES 3.1 for a stop within a payload.
+    pub fn payload_number(&self) -> Option<u8> {
+        matches!(self, Self::CutOff(_)).then_some(13)
     }
 }
 

@@ -1,8 +1,8 @@
 //! The calls of libhauklivo.a, as safe functions.
 
 use crate::raw::{
-    hauklivo_apply_hints, hauklivo_apply_reloc_alloc, hauklivo_list, hauklivo_load_store_class, hauklivo_read_relocs,
-    hauklivo_version, hauklivo_write_stub, hauklivo_write_thunk,
+    hauklivo_apply_hints, hauklivo_apply_reloc_alloc, hauklivo_list, hauklivo_load_store_class, hauklivo_read_hints,
+    hauklivo_read_relocs, hauklivo_version, hauklivo_write_hints, hauklivo_write_stub, hauklivo_write_thunk,
 };
 use crate::{LoadStoreClass, Refusal, Tally};
 
@@ -222,6 +222,77 @@ pub fn apply_hints(image: &mut [u8], hints: &[u8], entries: &[u8]) -> Result<Tal
     settled(number, tally)
 }
 
+/// Reads the payload of LC_LINKER_OPTIMIZATION_HINT into a row of values at the start of `slots`: for
+/// each hint its kind, a count, and then that many addresses. Says how many values that is; slots after
+/// those stay. [`hints`](crate::hints) takes the row apart.
+///
+/// `payload` has the same values as unsigned LEB128; a spelling may be longer than it need be. The
+/// payload's end closes the list, or a kind 0 in any spelling, after which every byte must be zero; a
+/// count of 0 and an address of 0 close nothing. Kinds above 8, and counts other than a kind has, are
+/// read as they are. `slots` has at least one for each byte of the payload.
+///
+/// ```
+/// use hauklivo::{Refusal, hints, kind, read_hints};
+///
+/// // An ADRP_ADD of the words at 0 and 0x80, one of a kind that there is none of, and padding.
+/// let payload = [7, 2, 0, 0x80, 1, 9, 0, 0, 0];
+/// let mut slots = [0; 9];
+/// let n = read_hints(&payload, &mut slots)?;
+/// assert_eq!(slots[..n], [7, 2, 0, 0x80, 9, 0]);
+/// assert!(hints(&slots[..n]).eq([(u64::from(kind::ADRP_ADD), &[0, 0x80][..]), (9, &[])]));
+///
+/// assert_eq!(read_hints(&payload[..4], &mut slots), Err(Refusal::Malformed));
+/// assert_eq!(read_hints(&[0, 7], &mut slots), Err(Refusal::Trailing));
+/// # Ok::<(), Refusal>(())
+/// ```
+///
+/// # Errors
+///
+/// In this order: [`Lengths`](Refusal::Lengths) for more than 2^32 - 1 bytes, [`Slots`](Refusal::Slots)
+/// for fewer slots than bytes, then [`Malformed`](Refusal::Malformed) or
+/// [`Trailing`](Refusal::Trailing); no payload is both.
+pub fn read_hints(payload: &[u8], slots: &mut [u64]) -> Result<usize, Refusal> {
+    let mut count = 0;
+    // SAFETY: as in read_relocs.
+    let number =
+        unsafe { hauklivo_read_hints(payload.as_ptr(), payload.len(), slots.as_mut_ptr(), slots.len(), &mut count) };
+    settled(number, count)
+}
+
+/// The most bytes that [`write_hints`] has for a value.
+pub const SPELLING: usize = 10;
+
+/// Writes a row of values, as [`read_hints`] fills it, as a payload at the start of `out`, and says how
+/// many bytes that is; bytes after those stay. Each value has its shortest spelling, and no zero is
+/// added to close the list. What is written is read back unless it is longer than the 2^32 - 1 bytes
+/// that [`read_hints`] takes, which needs a row of more than 429,496,729 values.
+///
+/// `row` has for each hint its kind, which may not be 0, a count, and then that many addresses; `out` has
+/// at least [`SPELLING`] bytes for each value.
+///
+/// ```
+/// use hauklivo::{Refusal, SPELLING, kind, write_hints};
+///
+/// let row = [u64::from(kind::ADRP_ADD), 2, 0, 0x80];
+/// let mut out = [0; 4 * SPELLING];
+/// let n = write_hints(&row, &mut out)?;
+/// assert_eq!(out[..n], [7, 2, 0, 0x80, 1]);
+///
+/// assert_eq!(write_hints(&row[..3], &mut out), Err(Refusal::Lengths)); // an address is missing
+/// # Ok::<(), Refusal>(())
+/// ```
+///
+/// # Errors
+///
+/// [`Lengths`](Refusal::Lengths) for more than 2^32 - 1 values, for a row that ends within a hint, and
+/// for a kind 0, then [`Slots`](Refusal::Slots) for fewer than [`SPELLING`] bytes for each value.
+pub fn write_hints(row: &[u64], out: &mut [u8]) -> Result<usize, Refusal> {
+    let mut count = 0;
+    // SAFETY: as in read_relocs.
+    let number = unsafe { hauklivo_write_hints(row.as_ptr(), row.len(), out.as_mut_ptr(), out.len(), &mut count) };
+    settled(number, count)
+}
+
 /// The most bytes of text that [`list()`] has for a word.
 pub const LINE: usize = 27;
 
@@ -285,7 +356,7 @@ mod tests {
     #[test]
     fn numbers_are_errors() {
         assert_eq!(settled(0, 7), Ok(7));
-        assert_eq!(settled(12, 7), Err(Refusal::NoEntry));
+        assert_eq!(settled(14, 7), Err(Refusal::Trailing));
         assert_eq!(settled(200, 7), Err(Refusal::Unknown(200)));
     }
 }

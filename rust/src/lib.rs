@@ -1,15 +1,16 @@
 //! The last step of a Mach-O linker for arm64: relocation records into entries, entries into a
-//! section's bytes, single stub and thunk entries, linker optimization hints, a listing of a
-//! section's words, and the class of a load or store. Each function calls one function of the static
-//! library `libhauklivo.a`, which is proved to do what the project's definitions say, to touch
-//! nothing outside what it is lent, and to return.
+//! section's bytes, single stub and thunk entries, linker optimization hints and their payloads, a
+//! listing of a section's words, and the class of a load or store. Each function calls one function of
+//! the static library `libhauklivo.a`, which is proved to do what the project's definitions say, to
+//! touch nothing outside what it is lent, and to return.
 //!
 //! Lists are lent in records of one fixed size ([`records`]): as slices of them to the functions of
 //! [`typed`], or as bytes to those here. [`Record::bytes`] and [`Record::bytes_mut`] see a slice of
-//! records, also of a linker's own type, as such bytes without copying.
+//! records, also of a linker's own type, as such bytes without copying. The payload of hints is lent as
+//! the bytes of a file, and what it spells as a row of 64-bit values, which [`hints`] takes apart.
 //!
 //! A [`Refusal`] is an error with a number. A refused call has changed nothing that it was lent.
-//! [`position_of_refusal`] finds the record that it was refused for.
+//! [`position_of_refusal`] finds the record that it was refused for; of a payload nothing does.
 //!
 //! The crate builds for Linux and macOS, on x86-64 and on Arm. `tools/library TARGET` of the repository
 //! makes the archive, for `x86_64-linux`, `aarch64-linux`, `arm64-macos` or `x86_64-macos`; the build
@@ -56,15 +57,18 @@ pub mod position_of_refusal;
 pub mod raw;
 pub mod records;
 mod refusal;
+mod row;
 pub mod typed;
 mod version;
 
 pub use calls::{
-    LINE, apply_hints, apply_reloc_alloc, list, load_store_class, read_relocs, version, write_stub, write_thunk,
+    LINE, SPELLING, apply_hints, apply_reloc_alloc, list, load_store_class, read_hints, read_relocs, version,
+    write_hints, write_stub, write_thunk,
 };
 pub use class::LoadStoreClass;
 pub use records::{
     HintInsn, HintRecord, MachRel, Record, Reloc, Report, ReportKind, Resolved, Tally, Target, flag, kind, ty,
 };
 pub use refusal::Refusal;
+pub use row::hints;
 pub use version::VERSION;

@@ -66,6 +66,24 @@ unsafe extern "C" {
         tally: *mut Tally,
     ) -> u8;
 
+    /// See [`read_hints`](crate::read_hints). `slots_count` counts values, `payload_len` bytes.
+    pub fn hauklivo_read_hints(
+        payload: *const u8,
+        payload_len: usize,
+        slots: *mut u64,
+        slots_count: usize,
+        count: *mut usize,
+    ) -> u8;
+
+    /// See [`write_hints`](crate::write_hints). `row_count` counts values, `out_len` bytes.
+    pub fn hauklivo_write_hints(
+        row: *const u64,
+        row_count: usize,
+        out: *mut u8,
+        out_len: usize,
+        count: *mut usize,
+    ) -> u8;
+
     /// See [`list`](crate::list()).
     pub fn hauklivo_list(words: *const u8, words_len: usize, out: *mut u8, out_len: usize, count: *mut usize) -> u8;
 

@@ -3,7 +3,7 @@
 use std::error::Error;
 use std::fmt;
 
-/// Why a call turned its input down. It changed nothing that it was lent. Later versions may have
+/// Why a call turned its input down. It changed nothing that it was lent. Calls that are added may have
 /// further numbers, so that a `match` needs an arm for any other.
 ///
 /// ```
@@ -11,17 +11,19 @@ use std::fmt;
 ///
 /// assert_eq!(Refusal::Bounds.number(), 3);
 /// assert_eq!(Refusal::try_from(3), Ok(Refusal::Bounds));
-/// assert_eq!(Refusal::try_from(13), Err(13));
+/// assert_eq!(Refusal::try_from(200), Err(200));
 /// assert_eq!(Refusal::Unfit.to_string(), "6: a word is unfit for its relocation");
 /// ```
 #[derive(Clone, Copy, Debug, PartialEq, Eq, Hash, PartialOrd, Ord)]
 #[non_exhaustive]
 pub enum Refusal {
     /// 1: a list's length is not whole records, a list has more than 2^32 - 1 records, or targets are
-    /// not one for each entry.
+    /// not one for each entry; a payload has more than 2^32 - 1 bytes; a row has more than 2^32 - 1
+    /// values, ends within a hint, or has a kind 0.
     Lengths,
     /// 2: the slots have fewer than 24 bytes for each input record; of a listing, more than 16,384
-    /// bytes of words, or fewer than 27 bytes of room for each word.
+    /// bytes of words, or fewer than 27 bytes of room for each word; of a payload, fewer slots than
+    /// bytes; of a row, fewer than 10 bytes of room for each value.
     Slots,
     /// 3: a place is past the bytes that it reads or writes, a hint's word is past its part, a hint's part is past
     /// the image, or fewer than 12 bytes are lent for a stub or thunk entry.
@@ -45,6 +47,10 @@ pub enum Refusal {
     Flags,
     /// 12: a hint names an entry that is not there.
     NoEntry,
+    /// 13: a payload ends within a value or within a hint, or a value of it is 2^64 or more.
+    Malformed,
+    /// 14: a byte after the kind 0 that closes the list of a payload is not zero.
+    Trailing,
     /// A number that this crate has no name for.
     #[non_exhaustive]
     Unknown(u8),
@@ -65,6 +71,8 @@ impl Refusal {
         Self::NeedsSymbol,
         Self::Flags,
         Self::NoEntry,
+        Self::Malformed,
+        Self::Trailing,
     ];
 
     /// Its number.
@@ -82,6 +90,8 @@ impl Refusal {
             Self::NeedsSymbol => 10,
             Self::Flags => 11,
             Self::NoEntry => 12,
+            Self::Malformed => 13,
+            Self::Trailing => 14,
             Self::Unknown(number) => number,
         }
     }
@@ -96,7 +106,7 @@ impl Refusal {
 
     fn meaning(self) -> &'static str {
         match self {
-            Self::Lengths => "a list is not whole records, too long, or disagrees with another",
+            Self::Lengths => "a list is not whole records or hints, has kind 0, is too long, or disagrees with another",
             Self::Slots => "there is too little room for the answer, or too much to list",
             Self::Bounds => "a place is past its bytes, a word past its part, or a part past the image",
             Self::LoneAddend => "an ADDEND record is the last record",
@@ -108,6 +118,8 @@ impl Refusal {
             Self::NeedsSymbol => "a section stands where a symbol is needed",
             Self::Flags => "a target's flags or last bytes are not in order",
             Self::NoEntry => "a hint names an entry that is not there",
+            Self::Malformed => "a value or a hint of a payload is cut off, or a value is 2^64 or more",
+            Self::Trailing => "a byte after a payload's closing kind 0 is not zero",
             Self::Unknown(_) => "a number that the crate hauklivo has no name for",
         }
     }
@@ -140,11 +152,13 @@ mod tests {
         for number in 1..=u8::MAX {
             let refusal = Refusal::of(number).unwrap();
             assert_eq!(refusal.number(), number);
-            assert_eq!(Refusal::ALL.contains(&refusal), number <= 12);
-            assert_eq!(Refusal::try_from(number), if number <= 12 { Ok(refusal) } else { Err(number) });
+            assert_eq!(Refusal::ALL.contains(&refusal), number <= 14);
+            assert_eq!(Refusal::try_from(number), if number <= 14 { Ok(refusal) } else { Err(number) });
         }
-        let later = Refusal::of(13).unwrap();
-        assert_eq!(later.to_string(), "13: a number that the crate hauklivo has no name for");
-        assert!(Refusal::ALL.is_sorted() && Refusal::NoEntry < later);
+        let later = Refusal::of(15).unwrap();
+        assert_eq!(later.to_string(), "15: a number that the crate hauklivo has no name for");
+        assert!(Refusal::ALL.is_sorted() && Refusal::Trailing < later);
+        assert_eq!(Refusal::of(13), Some(Refusal::Malformed));
+        assert_eq!(Refusal::Trailing.to_string(), "14: a byte after a payload's closing kind 0 is not zero");
     }
 }

@@ -1,4 +1,4 @@
-//! The calls that take lists, over slices of this crate's records. Each is the function of the same
+//! The calls that take lists of records, over slices of this crate's. Each is the function of the same
 //! name in the crate's root, which takes bytes: for lists of a file, or of a linker's own types
 //! ([`Record`]).
 //!

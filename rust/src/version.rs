@@ -2,5 +2,6 @@
 
 /// The version of the calls that this crate is written for. It rises by one where a call, a record or
 /// a number that was there changes; the build script refuses an archive of another version. A call that
-/// is added leaves it: a program that makes the call does not link with an archive from before it.
+/// is added leaves it, also where it gives a number that is added with it: a program that makes the call
+/// does not link with an archive from before it.
 pub const VERSION: u32 = 1;

@@ -4,7 +4,8 @@
  *   replay [FILE]      (default: the standard input)
  *
  * tests/driver/answers.rs says what a list holds. Writes what the crates replay_* write of the same list, so that their
- * files `stdout` say what is expected. What a call may write stands between guards, at any alignment. Each row is then
+ * files `stdout` say what is expected. What a call may write stands between guards, at any alignment, but for slots of
+ * 64-bit values, which are aligned. Each row is then
  * tried with a changed number and, where it has bytes of an answer, with one of those changed, and must be refused.
  */
 #include "hauklivo.h"
@@ -15,7 +16,8 @@
 #include <string.h>
 
 enum { TITLE = 0, READ = 1, FIX = 2, STUB = 3, THUNK = 4, HINTS = 5, CLASS = 6 };
-enum { GUARD = 32, GUARD_BYTE = 0xc3, MOST = 1 << 17 };
+enum { READ_HINTS = 7, WRITE_HINTS = 8 };
+enum { GUARD = 32, GUARD_BYTE = 0xc3, MOST = 1 << 19 };
 
 /* A record: what it is, the answer's number, the body's length, and values. */
 struct head {
@@ -34,10 +36,12 @@ result write_stub(uint8_t *, size_t, uint64_t, uint64_t, uint8_t *) CALL(write_s
 result write_thunk(uint8_t *, size_t, uint64_t, uint64_t) CALL(write_thunk);
 result apply_hints(uint8_t *, size_t, const void *, size_t, const void *, size_t, struct hauklivo_tally *) CALL(apply_hints);
 result load_store_class(uint32_t) CALL(load_store_class);
+result read_hints(const uint8_t *, size_t, uint64_t *, size_t, size_t *) CALL(read_hints);
+result write_hints(const uint64_t *, size_t, uint8_t *, size_t, size_t *) CALL(write_hints);
 
 /* Bytes lent between guards. */
 struct lent {
-    uint8_t room[GUARD + 8 + MOST + GUARD];
+    _Alignas(uint64_t) uint8_t room[GUARD + 8 + MOST + GUARD];
     uint8_t *bytes;
     size_t len;
 };
@@ -50,16 +54,20 @@ static uint8_t pattern(size_t i)
     return (uint8_t)(i * 37 + 11);
 }
 
-/* Lends bytes, or a pattern where there are none. */
-static uint8_t *lend(struct lent *lent, const uint8_t *bytes, size_t len)
+/* Lends bytes, or a pattern where there are none, so many bytes after one that is aligned to 8. */
+static void lend_at(struct lent *lent, size_t after, const uint8_t *bytes, size_t len)
 {
-    lent->bytes = lent->room + GUARD + turn % 8;
+    lent->bytes = lent->room + GUARD + after;
     lent->len = len;
     memset(lent->bytes - GUARD, GUARD_BYTE, GUARD);
     memset(lent->bytes + len, GUARD_BYTE, GUARD);
     for (size_t i = 0; i < len; i++)
         lent->bytes[i] = bytes ? bytes[i] : pattern(i);
-    return lent->bytes;
+}
+
+static void lend(struct lent *lent, const uint8_t *bytes, size_t len)
+{
+    lend_at(lent, turn % 8, bytes, len);
 }
 
 /* Whether lent bytes are those due, then the pattern, between their guards. */
@@ -90,6 +98,15 @@ static uint64_t read64(const uint8_t *at)
     return n;
 }
 
+/* 64-bit values of a body, as a call is lent them. */
+static const uint64_t *read_values(const uint8_t *at, size_t count)
+{
+    static uint64_t values[MOST / 8];
+    for (size_t i = 0; i < count; i++)
+        values[i] = read64(at + 8 * i);
+    return values;
+}
+
 /* A count before a call, which a refused call leaves. */
 #define UNCOUNTED ((size_t)0xa5a5a5a5a5a5a5a5)
 
@@ -106,12 +123,10 @@ static int holds_read(const struct head *h, const uint8_t *body)
 {
     const uint8_t *records = body + h->v[0], *sections = records + h->v[1];
     const uint8_t *entries = sections + 8 * h->v[2];
-    static uint64_t addresses[MOST];
     size_t count = UNCOUNTED;
     if (entries + 24 * h->v[4] != body + h->len)
         return fails("the record's lengths");
-    for (size_t i = 0; i < h->v[2]; i++)
-        addresses[i] = read64(sections + 8 * i);
+    const uint64_t *addresses = read_values(sections, h->v[2]);
     lend(&first, NULL, h->v[3]);
     result number = read_relocs(body, h->v[0], records, h->v[1], addresses, h->v[2], first.bytes, h->v[3], &count);
     if (!counted(h, number, count, h->v[4]))
@@ -181,6 +196,32 @@ static int holds_class(const struct head *h, const uint8_t *body)
     return load_store_class(word) == h->number || fails("the entry");
 }
 
+static int holds_read_hints(const struct head *h, const uint8_t *body)
+{
+    const uint8_t *row = body + h->v[0];
+    size_t count = UNCOUNTED;
+    if (row + 8 * h->v[2] != body + h->len)
+        return fails("the record's lengths");
+    lend_at(&first, 0, NULL, 8 * h->v[1]);
+    result number = read_hints(body, h->v[0], (uint64_t *)(void *)first.bytes, h->v[1], &count);
+    if (!counted(h, number, count, h->v[2]))
+        return 0;
+    return became(&first, row, 8 * h->v[2]) || fails("the row");
+}
+
+static int holds_write_hints(const struct head *h, const uint8_t *body)
+{
+    const uint8_t *payload = body + 8 * h->v[0];
+    size_t count = UNCOUNTED;
+    if (payload + h->v[2] != body + h->len)
+        return fails("the record's lengths");
+    lend(&first, NULL, h->v[1]);
+    result number = write_hints(read_values(body, h->v[0]), h->v[0], first.bytes, h->v[1], &count);
+    if (!counted(h, number, count, h->v[2]))
+        return 0;
+    return became(&first, payload, h->v[2]) || fails("the payload");
+}
+
 static int holds(const struct head *h, const uint8_t *body)
 {
     turn++;
@@ -191,6 +232,8 @@ static int holds(const struct head *h, const uint8_t *body)
     case THUNK: return holds_stub(h, body);
     case HINTS: return holds_hints(h, body);
     case CLASS: return holds_class(h, body);
+    case READ_HINTS: return holds_read_hints(h, body);
+    case WRITE_HINTS: return holds_write_hints(h, body);
     default: return fails("no such call is known here: tests/arm.d/replay.c must learn it");
     }
 }
@@ -201,6 +244,8 @@ static size_t answered(const struct head *h)
     switch (h->what) {
     case READ: return 24 * h->v[4];
     case FIX: return h->v[0] + 24 * h->v[4];
+    case READ_HINTS: return 8 * h->v[2];
+    case WRITE_HINTS: return h->v[2];
     default: return h->v[0];
     }
 }

@@ -297,6 +297,149 @@ static void lister(void)
     CHECK(count == 0);
 }
 
+/* The most values of a row, or bytes of a payload, here. */
+enum { MOST = 64 };
+
+/* A payload that must be read as `row`; slots after it stay. */
+static void reads(const uint8_t *payload, size_t len, const uint64_t *row, size_t row_count)
+{
+    uint64_t slots[MOST];
+    size_t count = UNTOUCHED;
+    memset(slots, FILL, sizeof slots);
+    CHECK(hauklivo_read_hints(payload, len, slots, MOST, &count) == HAUKLIVO_DONE);
+    CHECK(count == row_count && memcmp(slots, row, sizeof *row * row_count) == 0);
+    CHECK(filled(slots + row_count, sizeof *slots * (MOST - row_count)));
+}
+
+/* A payload that must be refused by `number`, with slots and count left. */
+static void refused_payload(uint8_t number, const uint8_t *payload, size_t len, size_t slots_count)
+{
+    uint64_t slots[MOST];
+    size_t count = UNTOUCHED;
+    memset(slots, FILL, sizeof slots);
+    CHECK(hauklivo_read_hints(payload, len, slots, slots_count, &count) == number);
+    CHECK(filled(slots, sizeof slots) && count == UNTOUCHED);
+}
+
+/* A row that must be written as `payload`, bytes after it left, and that is read back from it. */
+static void writes(const uint64_t *row, size_t row_count, const uint8_t *payload, size_t len)
+{
+    uint8_t out[MOST];
+    size_t count = UNTOUCHED;
+    memset(out, FILL, sizeof out);
+    CHECK(hauklivo_write_hints(row, row_count, out, HAUKLIVO_SPELLING * row_count, &count) == HAUKLIVO_DONE);
+    CHECK(count == len && memcmp(out, payload, len) == 0);
+    CHECK(filled(out + len, sizeof out - len));
+    reads(out, len, row, row_count);
+}
+
+/* A row that must be refused by `number`, with bytes and count left. */
+static void refused_row(uint8_t number, const uint64_t *row, size_t row_count, size_t out_len)
+{
+    uint8_t out[MOST];
+    size_t count = UNTOUCHED;
+    memset(out, FILL, sizeof out);
+    CHECK(hauklivo_write_hints(row, row_count, out, out_len, &count) == number);
+    CHECK(filled(out, sizeof out) && count == UNTOUCHED);
+}
+
+#define READS(payload, row) reads(payload, sizeof payload, row, sizeof row / sizeof *row)
+
+static void payloads(void)
+{
+    const uint64_t add[4] = {7, 2, 0, 4}, counts[4] = {7, 0, 7, 0}, above[5] = {9, 0, 300, 1, 0};
+    const uint64_t largest[3] = {7, 1, UINT64_MAX};
+    const uint8_t plain[4] = {7, 2, 0, 4}, none[4] = {7, 0, 7, 0}, kinds[6] = {9, 0, 0xac, 2, 1, 0};
+    const uint8_t most[12] = {7, 1, 255, 255, 255, 255, 255, 255, 255, 255, 255, 1};
+
+    /* Kinds, counts and addresses; neither a count of 0 nor an address of 0 closes the list. */
+    READS(plain, add);
+    READS(none, counts);
+    READS(kinds, above);
+    READS(most, largest);
+    reads(plain, 0, add, 0);
+
+    /* Kind 0 closes it, in any spelling. */
+    const uint8_t closed[7] = {7, 2, 0, 4, 0, 0, 0}, long_close[7] = {7, 2, 0, 4, 0x80, 0, 0};
+    READS(closed, add);
+    READS(long_close, add);
+
+    /* Spellings that are longer than they need be: of every value, and 0 by 11 and by 41 bytes. */
+    const uint8_t longer[9] = {0x87, 0, 0x82, 0x80, 0, 0x80, 0, 0x84, 0};
+    uint8_t zero[41] = {0};
+    READS(longer, add);
+    memset(zero, 0x80, 10);
+    reads(zero, 11, add, 0);
+    memset(zero, 0x80, 40);
+    reads(zero, 41, add, 0);
+}
+
+static void refused_payloads(void)
+{
+    const uint8_t plain[4] = {7, 2, 0, 4}, open[2] = {0x80, 0x80};
+    const uint8_t most[12] = {7, 1, 255, 255, 255, 255, 255, 255, 255, 255, 255, 1};
+    const uint8_t too_large[12] = {7, 1, 255, 255, 255, 255, 255, 255, 255, 255, 255, 2};
+    const uint8_t many[12] = {7, 255, 255, 255, 255, 255, 255, 255, 255, 255, 1, 0};
+
+    /* Values and hints that are cut off, a value of 2^64 and more, and a count of 2^64 - 1. */
+    for (size_t len = 1; len < 4; len++)
+        refused_payload(HAUKLIVO_MALFORMED, plain, len, MOST);
+    refused_payload(HAUKLIVO_MALFORMED, open, 1, MOST);
+    refused_payload(HAUKLIVO_MALFORMED, open, 2, MOST);
+    refused_payload(HAUKLIVO_MALFORMED, most, 11, MOST);
+    refused_payload(HAUKLIVO_MALFORMED, too_large, 12, MOST);
+    refused_payload(HAUKLIVO_MALFORMED, many, 12, MOST);
+
+    /* After the close no value is read. */
+    const uint8_t trailing[2] = {0, 0x80}, late[7] = {7, 2, 0, 4, 0, 0, 1};
+    refused_payload(HAUKLIVO_TRAILING, trailing, 2, MOST);
+    refused_payload(HAUKLIVO_TRAILING, late, 7, MOST);
+
+    /* A slot for each byte is enough; whether there are as many is looked at first. */
+    refused_payload(HAUKLIVO_SLOTS, plain, 4, 3);
+    refused_payload(HAUKLIVO_SLOTS, plain, 3, 2);
+    refused_payload(HAUKLIVO_MALFORMED, plain, 3, 3);
+    refused_payload(HAUKLIVO_SLOTS, trailing, 2, 1);
+    refused_payload(HAUKLIVO_TRAILING, trailing, 2, 2);
+}
+
+static void rows(void)
+{
+    const uint64_t add[4] = {7, 2, 0, 4}, values[5] = {128, 3, 127, 16383, 16384};
+    const uint64_t large[4] = {7, 2, UINT64_C(1) << 63, UINT64_MAX};
+    const uint8_t plain[4] = {7, 2, 0, 4}, shortest[9] = {128, 1, 3, 127, 255, 127, 128, 128, 1};
+    uint8_t longest[22] = {7, 2};
+    memset(longest + 2, 128, 9);
+    memset(longest + 12, 255, 9);
+    longest[11] = longest[21] = 1;
+
+    /* The shortest spelling of each value, and no zero at the end. */
+    writes(add, 4, plain, 4);
+    writes(add, 0, plain, 0);
+    writes(values, 5, shortest, 9);
+    writes(large, 4, longest, 22);
+
+    /* Rows that end within a hint, the last by a count of 2^64 - 1, and those with a kind 0. */
+    const uint64_t many[4] = {7, UINT64_MAX, 0, 4}, closed[5] = {7, 2, 0, 4, 0}, zero[2] = {0, 0};
+    refused_row(HAUKLIVO_LENGTHS, add, 1, MOST);
+    refused_row(HAUKLIVO_LENGTHS, add, 2, MOST);
+    refused_row(HAUKLIVO_LENGTHS, add, 3, MOST);
+    refused_row(HAUKLIVO_LENGTHS, many, 4, MOST);
+    refused_row(HAUKLIVO_LENGTHS, closed, 5, MOST);
+    refused_row(HAUKLIVO_LENGTHS, zero, 2, MOST);
+
+    /* Ten bytes for each value, which is looked at last. */
+    refused_row(HAUKLIVO_SLOTS, add, 4, 4 * HAUKLIVO_SPELLING - 1);
+    refused_row(HAUKLIVO_LENGTHS, add, 3, 0);
+
+    /* Empty lists succeed, and a count may be uninitialised. */
+    size_t fresh, again;
+    uint64_t slot = 0;
+    uint8_t byte = FILL;
+    CHECK(hauklivo_read_hints(&byte, 0, &slot, 0, &fresh) == HAUKLIVO_DONE && fresh == 0);
+    CHECK(hauklivo_write_hints(&slot, 0, &byte, 0, &again) == HAUKLIVO_DONE && again == 0);
+}
+
 static void classes(void)
 {
     int count = 0;
@@ -336,6 +479,9 @@ int main(void)
     fixup();
     stub_and_thunk();
     hints();
+    payloads();
+    refused_payloads();
+    rows();
     lister();
     classes();
     if (failures == 0)

@@ -13,8 +13,11 @@
 //! - 4, write_thunk. Values: bytes lent, 1. Body: address and target (u64), bytes after.
 //! - 5, apply_hints. Values: bytes of the image, of hints, of entries. Body: tally (four u32), image, hints, entries, image
 //!   after.
-//! - 6, load_store_class. The number is the entry of the table. Body: the word (u32). Only the list of every case has
-//!   such records; the lists that crates replay have none.
+//! - 6, load_store_class. The number is the entry of the table. Body: the word (u32).
+//! - 7, read_hints. Values: bytes of the payload, slots, slots filled. Body: payload, row (u64).
+//! - 8, write_hints. Values: length of the row, bytes lent, bytes filled. Body: row (u64), bytes.
+//!
+//! Only the list of every case has records of 6, 7 and 8; the lists that crates replay have none.
 //!
 //! After a refusal the bytes are those before it and the tally is zeros, which nobody reads. Slots after those filled
 //! keep the pattern of `lent.rs`, and so do the bytes of a stub or thunk that is refused.
@@ -35,6 +38,8 @@ pub const STUB: u8 = 3;
 pub const THUNK: u8 = 4;
 pub const HINTS: u8 = 5;
 pub const CLASS: u8 = 6;
+pub const READ_HINTS: u8 = 7;
+pub const WRITE_HINTS: u8 = 8;
 
 const FILES: [(&str, &[u8]); 3] =
     [("replay_reader", &[READ]), ("replay_fixup", &[FIX, STUB, THUNK]), ("replay_hints", &[HINTS])];

@@ -10,7 +10,7 @@ use std::sync::atomic::{AtomicU64, Ordering};
 use hauklivo::{Record, Reloc, Resolved, Target, flag};
 
 use crate::fixup::{self, is_section, steps};
-use crate::{Difference, World, class, hints, reader, stub};
+use crate::{Difference, World, class, hints, payload_reader, payload_writer, reader, stub};
 
 /// How a row changes what is expected of a case.
 enum Change<C: Call> {
@@ -86,6 +86,26 @@ impl Call for class::Case {
     }
 }
 
+impl Call for payload_reader::Case {
+    type Answer = payload_reader::Answer;
+    const PREDICATES: &[(&str, fn(&Self) -> bool)] = &[("value_too_large", |c| c.too_large().is_some())];
+    const CHANGES: &[(&str, Change<Self>)] = &[("as_cut_off", Change::Asked(as_cut_off))];
+
+    fn rust(&self, world: &World) -> Result<Self::Answer, Difference> {
+        payload_reader::rust(self, world)
+    }
+}
+
+impl Call for payload_writer::Case {
+    type Answer = payload_writer::Answer;
+    const PREDICATES: &[(&str, fn(&Self) -> bool)] = &[];
+    const CHANGES: &[(&str, Change<Self>)] = &[];
+
+    fn rust(&self, world: &World) -> Result<Self::Answer, Difference> {
+        payload_writer::rust(self, world)
+    }
+}
+
 /// The entries of types PAGE21 and PAGEOFF12 whose target, a section or a symbol, has no address.
 fn without_address(case: &fixup::Case, sections: bool) -> Vec<u32> {
     let pairs = case.pairs();
@@ -125,6 +145,13 @@ fn as_past_image(case: &mut hints::Case) {
 fn no_ldrsw(_: &class::Case, answer: &mut class::Answer) {
     if let Some(access) = answer {
         access.is_ldrsw = false;
+    }
+}
+
+/// A value of 2^64 or more is refused like one that ends after its first byte.
+fn as_cut_off(case: &mut payload_reader::Case) {
+    if let Some(at) = case.too_large() {
+        case.payload.truncate(at + 1);
     }
 }
 
@@ -188,6 +215,8 @@ pub struct Differences {
     stub: Vec<Row<stub::Case>>,
     hints: Vec<Row<hints::Case>>,
     class: Vec<Row<class::Case>>,
+    payload_reader: Vec<Row<payload_reader::Case>>,
+    payload_writer: Vec<Row<payload_writer::Case>>,
 }
 
 /// Adds the row of these names to a call's rows, if the call has them.
@@ -216,7 +245,9 @@ impl Differences {
                 || add(&mut rows.fixup, names)
                 || add(&mut rows.stub, names)
                 || add(&mut rows.hints, names)
-                || add(&mut rows.class, names);
+                || add(&mut rows.class, names)
+                || add(&mut rows.payload_reader, names)
+                || add(&mut rows.payload_writer, names);
             if !is_there {
                 return Err(format!("no call has both names of the row: {predicate}, {change}"));
             }
@@ -244,11 +275,28 @@ impl Differences {
         expected(&self.class, case, world)
     }
 
+    pub fn payload_reader(
+        &self,
+        case: &payload_reader::Case,
+        world: &World,
+    ) -> Result<payload_reader::Answer, Difference> {
+        expected(&self.payload_reader, case, world)
+    }
+
+    pub fn payload_writer(
+        &self,
+        case: &payload_writer::Case,
+        world: &World,
+    ) -> Result<payload_writer::Answer, Difference> {
+        expected(&self.payload_writer, case, world)
+    }
+
     /// The rows' counts so far.
     pub fn counts(&self) -> Vec<Count<'_>> {
         let first = self.reader.iter().map(Row::count).chain(self.fixup.iter().map(Row::count));
         let then = self.stub.iter().map(Row::count).chain(self.hints.iter().map(Row::count));
-        first.chain(then).chain(self.class.iter().map(Row::count)).collect()
+        let last = self.class.iter().map(Row::count).chain(self.payload_reader.iter().map(Row::count));
+        first.chain(then).chain(last).chain(self.payload_writer.iter().map(Row::count)).collect()
     }
 
     /// A line for each row, and the names of those that changed nothing.

@@ -1,45 +1,81 @@
-//! Bytes lent to the port, between guards that must stay.
+//! Bytes and 64-bit values lent to the port, between guards that must stay.
 
 const GUARD: usize = 32;
-const GUARD_BYTE: u8 = 0xc3;
 
-/// Bytes that the port may write.
-pub struct Lent {
-    bytes: Vec<u8>,
+/// What a slot may be: a byte, or a 64-bit value.
+pub trait Slot: Copy + PartialEq {
+    const GUARD: Self;
+
+    /// What slot i holds before a call.
+    fn before(i: usize) -> Self;
 }
 
-impl Lent {
-    pub fn new(bytes: &[u8]) -> Self {
-        let guard = [GUARD_BYTE; GUARD];
-        Self { bytes: [&guard, bytes, &guard].concat() }
+impl Slot for u8 {
+    const GUARD: Self = 0xc3;
+
+    fn before(i: usize) -> Self {
+        (i * 37 + 11) as u8
+    }
+}
+
+impl Slot for u64 {
+    const GUARD: Self = 0xc3c3_c3c3_c3c3_c3c3;
+
+    /// The bytes that slots of bytes have there.
+    fn before(i: usize) -> Self {
+        Self::from_le_bytes(std::array::from_fn(|k| u8::before(8 * i + k)))
+    }
+}
+
+/// Slots that the port may write.
+pub struct Lent<T> {
+    slots: Vec<T>,
+}
+
+impl<T: Slot> Lent<T> {
+    pub fn new(slots: &[T]) -> Self {
+        let guard = [T::GUARD; GUARD];
+        Self { slots: [&guard, slots, &guard].concat() }
     }
 
-    /// Bytes with a pattern, so that a slot that should stay and one that was written differ.
+    /// Slots with a pattern, so that a slot that should stay and one that was written differ.
     pub fn slots(len: usize) -> Self {
         Self::new(&pattern(len))
     }
 
-    pub fn bytes(&mut self) -> &mut [u8] {
-        let end = self.bytes.len() - GUARD;
-        &mut self.bytes[GUARD..end]
+    fn lent(&mut self) -> &mut [T] {
+        let end = self.slots.len() - GUARD;
+        &mut self.slots[GUARD..end]
     }
 
-    /// Whether nothing outside the lent bytes was written.
+    /// Whether nothing outside the lent slots was written.
     pub fn is_guarded(&self) -> bool {
-        let end = self.bytes.len() - GUARD;
-        self.bytes[..GUARD].iter().chain(&self.bytes[end..]).all(|&b| b == GUARD_BYTE)
+        let end = self.slots.len() - GUARD;
+        self.slots[..GUARD].iter().chain(&self.slots[end..]).all(|&slot| slot == T::GUARD)
     }
 }
 
-pub fn pattern(len: usize) -> Vec<u8> {
-    (0..len).map(|i| (i * 37 + 11) as u8).collect()
+impl Lent<u8> {
+    pub fn bytes(&mut self) -> &mut [u8] {
+        self.lent()
+    }
 }
 
-/// The slots after records have been filled in from the front.
-pub fn filled(records: &[u8], slots: usize) -> Vec<u8> {
-    let mut bytes = pattern(slots);
-    bytes[..records.len()].copy_from_slice(records);
-    bytes
+impl Lent<u64> {
+    pub fn values(&mut self) -> &mut [u64] {
+        self.lent()
+    }
+}
+
+pub fn pattern<T: Slot>(len: usize) -> Vec<T> {
+    (0..len).map(T::before).collect()
+}
+
+/// The slots after the first of them have been filled.
+pub fn filled<T: Slot>(first: &[T], slots: usize) -> Vec<T> {
+    let mut all = pattern(slots);
+    all[..first.len()].copy_from_slice(first);
+    all
 }
 
 pub fn hex(bytes: &[u8]) -> String {

@@ -14,6 +14,9 @@ mod hint_shape;
 mod hint_ways;
 mod hints;
 mod lent;
+mod payload_groups;
+mod payload_reader;
+mod payload_writer;
 mod reader;
 mod reader_groups;
 mod rng;
@@ -64,6 +67,11 @@ pub struct Oracle {
     pub stub: fn(address: u64, pointer: u64) -> ([u8; 12], bool),
     pub thunk: fn(address: u64, target: u64) -> [u8; 12],
     pub parse_ldst: fn(word: u32) -> Option<Access>,
+    /// A LEB128 value taken off the front.
+    pub read_uleb: fn(bytes: &mut &[u8]) -> Result<u64, Stop>,
+    pub encode_uleb: fn(out: &mut Vec<u8>, value: u64),
+    pub write_uleb: fn(buf: &mut [u8], value: u64) -> usize,
+    pub uleb_size: fn(value: u64) -> usize,
 }
 
 /// What a case is judged with: the Rust, and the rows of expected differences.

@@ -30,6 +30,12 @@ const ORACLE: Oracle = Oracle {
         let a = Arm64::parse_ldst(word)?;
         Some(Access { bytes: a.size, is_store: a.is_store, is_vector: a.is_float, is_ldrsw: a.is_ldrsw })
     },
+    read_uleb: |bytes| {
+        oracle::read_uleb(bytes).map_err(|s| Stop { number: s.payload_number(), text: format!("{s:?}") })
+    },
+    encode_uleb: oracle::encode_uleb,
+    write_uleb: oracle::write_uleb,
+    uleb_size: oracle::uleb_size,
 };
 
 fn main() -> ExitCode {

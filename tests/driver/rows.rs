@@ -38,6 +38,14 @@ pub enum Rows {
     HintEntry,
     ClassKind,
     ClassBits,
+    PayloadNumber,
+    Payload,
+    PayloadFault,
+    PayloadSpelling,
+    PayloadAround,
+    Written,
+    WrittenSize,
+    WrittenSmall,
     Count,
 }
 
@@ -281,6 +289,66 @@ const CLASSES: [&str; 7] = [
     "vector register with LDRSW's size and opc: no LDRSW",
 ];
 
+pub const PAYLOAD_NUMBERS: [u8; 4] = [0, 2, 13, 14];
+
+/// What a payload is.
+#[derive(Clone, Copy)]
+#[rustfmt::skip]
+pub enum Payloads {
+    Empty, AtEnd, ByKind0, ByLongerKind0, Zeros, Count0, Address0, Largest, KindAbove8, KindAbove255, OtherCount,
+    JustSlots, SlotFewer, SlotsBeforeFault, ValueAfterClose, CutOffAfterClose, TooLargeAfterClose,
+}
+
+const PAYLOADS: [&str; 17] = [
+    "empty payload",
+    "closed by its end",
+    "closed by kind 0",
+    "closed by kind 0 in a longer spelling",
+    "zeros after the close",
+    "count of 0",
+    "address of 0",
+    "address of 2^64 - 1",
+    "kind above 8",
+    "kind above 255",
+    "count that is not the kind's number of words",
+    "just as many slots as bytes: fine",
+    "1 slot fewer: 2",
+    "fewer slots, and no value: 2",
+    "value after the close: 14",
+    "value cut off after the close: 14",
+    "value of 2^64 or more after the close: 14",
+];
+
+/// Why there is no value before the close; a payload that ends where a kind comes next is closed.
+const FAULTS: [&str; 3] = ["the payload ends before it", "the payload ends within it", "2^64 or more"];
+
+/// How many bytes a spelling has beside those of the shortest.
+const LONGER: [&str; 4] = ["shortest", "1 more", "2 to 9 more", "10 or more"];
+
+/// What a row is that is to be written.
+#[derive(Clone, Copy)]
+pub enum WrittenRows {
+    Empty,
+    JustBytes,
+    MoreBytes,
+    ByteFewer,
+    Kind0,
+    NoCount,
+    NoAddress,
+    RowBeforeBytes,
+}
+
+const WRITTEN: [&str; 8] = [
+    "empty row",
+    "just ten bytes for each value: fine",
+    "more bytes: fine",
+    "1 byte fewer: 2",
+    "kind 0: 1",
+    "row that ends after a kind: 1",
+    "row that ends before an address: 1",
+    "no whole row, and fewer bytes: 1",
+];
+
 pub fn blocks() -> Vec<Block> {
     let with_rest = || TYPES[..10].iter().copied().chain(["types from 10 on"]);
     let all = |_, _| true;
@@ -324,6 +392,14 @@ pub fn blocks() -> Vec<Block> {
         Block::condensed("Hints, types of the entries of each kind", 8 * 12 * 12),
         Block::list("Load and store classes", CLASSES),
         Block::condensed("Load and store classes, bits 31..22 over low bits all 0, all 1 and random", 3 * 1024),
+        Block::list("Payloads read, calls by number", PAYLOAD_NUMBERS),
+        Block::list("Payloads read", PAYLOADS),
+        Block::grid("Payloads refused by 13", FAULTS, ["kind", "count", "address"], |why, part| why + part > 0),
+        Block::grid("Payloads read, values by bytes of the shortest spelling", 1..11, LONGER, all),
+        Block::condensed("Payloads, seven values around each power of 2 up to 2^64, written and read", 2 * 65),
+        Block::list("Payloads written", WRITTEN),
+        Block::list("Payloads written, values by bytes", 1..11),
+        Block::condensed("Payloads written, values below 2^16", 1 << 16),
     ];
     assert!(blocks.len() == Rows::Count as usize);
     blocks

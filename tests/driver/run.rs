@@ -14,7 +14,9 @@ use std::time::{Duration, Instant};
 use crate::differences::Differences;
 use crate::rows::blocks;
 use crate::table::Table;
-use crate::{Difference, Oracle, World, answers, class, fixup_groups, hint_groups, reader_groups, stub};
+use crate::{
+    Difference, Oracle, World, answers, class, fixup_groups, hint_groups, payload_groups, reader_groups, stub,
+};
 
 pub type Verdict = Result<(), Difference>;
 
@@ -203,7 +205,7 @@ fn reserve(len: usize) -> &'static mut [u8] {
 fn long_lists() -> Result<u64, Difference> {
     let reserved = reserve(64 << 32);
     let others = reader_groups::long_lists(reserved)? + fixup_groups::long_lists(reserved)?;
-    Ok(others + hint_groups::long_lists(reserved)?)
+    Ok(others + hint_groups::long_lists(reserved)? + payload_groups::long_lists(reserved)?)
 }
 
 fn one_case(groups: &[Group], name: &str, number: u64, world: &World) -> ExitCode {
@@ -238,7 +240,14 @@ pub fn main(oracle: &Oracle) -> ExitCode {
         }
     };
     let world = World { oracle, differences: &differences };
-    let calls = [reader_groups::groups, fixup_groups::groups, stub::groups, hint_groups::groups, class::groups];
+    let calls = [
+        reader_groups::groups,
+        fixup_groups::groups,
+        stub::groups,
+        hint_groups::groups,
+        class::groups,
+        payload_groups::groups,
+    ];
     let groups = calls.map(|groups| groups()).concat();
     if let Some(folder) = &options.answers {
         return made(answers::write(&groups, &world, Path::new(folder)));

@@ -80,6 +80,12 @@ impl Table {
         self.hit_cell(block, row, 0);
     }
 
+    pub fn hit_if(&mut self, is_met: bool, block: usize, row: usize) {
+        if is_met {
+            self.hit(block, row);
+        }
+    }
+
     pub fn hit_cell(&mut self, block: usize, row: usize, column: usize) {
         let columns = self.blocks[block].columns.len();
         self.counts[block][row * columns + column] += 1;

@@ -1,15 +1,16 @@
 -- Laws of a table read by steps, over any step: what is left of the records reads to what is left of the answer.
 use mathlib.Core.Path.{_≡_, refl, sym, ap, _∙_, subst}
-use mathlib.Core.List.{List, [], _∷_, _++_}
+use mathlib.Core.List.{List, [], _∷_}
 use mathlib.Core.Bool.{Bool, true, false}
 use Prim.Native.Nat.{ℕ, zero, suc, zero-le, _+_, _-_, _*_, _/_, _%_, _^_, _<_, _≤_}
 use native.Mathlib.Omega.{arith}
-use lib.ListN.{length, drop, length-append}
-use lib.Seq.{sets, sets-eq}
+use lib.ListN.{length, length-append}
+use lib.Seq.{sets}
 use lib.Dec.{ltb, eqb}
 use borrow.Author.Tests.{lt-ltb, le-ltb, ltb-false}
 use Rattle.util.proofs.Choice.{split, chosen}
 use Rattle.util.proofs.Bytes.{sets-append}
+use Rattle.util.proofs.Puts.{put-front}
 use Rattle.macho.specs.Reloc.{relocBytes}
 use Rattle.util.specs.Word.{bytes}
 use Rattle.macho.specs.Record as Record
@@ -192,8 +193,7 @@ stored-all : (k : ℕ) (a : Reading) (s : List ℕ) → AtMost k a → 24 * k �
 unfolding AtMost
 stored-all k (refused x) s f h = refl
 stored-all k (entries es) s f h =
-    let m : 0 + length (bytesOf es) ≡ 24 * length es = omega (arith, length-bytesOf es) in
-    sets-eq (bytesOf es) s 0 (omega (arith, length-bytesOf es)) ∙ ap (λ (j : ℕ). bytesOf es ++ drop j s) m
+    put-front (bytesOf es) s (24 * length es) (length-bytesOf es) (omega arith)
 
 stored-before : (c : ℕ) (e : Reloc) (a : Reading) (s : List ℕ) → Fills a
     → stored (c + 1) a (sets s (24 * c) (relocBytes e)) ≡ stored c (before e a) s

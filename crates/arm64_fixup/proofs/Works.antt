@@ -5,11 +5,12 @@ use mathlib.Core.List.{List, [], _∷_, _++_, append-assoc}
 use Prim.Native.Nat.{ℕ, _+_, _*_, _≤_, _<_}
 use native.Mathlib.Omega.{arith}
 use lib.Dec.{eqb}
-use lib.ListN.{length, drop, length-append}
-use lib.Seq.{sets, sets-eq}
+use lib.ListN.{length, length-append}
+use lib.Seq.{sets}
 use Rattle.util.specs.Word.{le}
 use Rattle.util.proofs.Part.{length-bytes}
 use Rattle.util.proofs.Bytes.{sets-append}
+use Rattle.util.proofs.Puts.{put-front}
 use Rattle.macho.specs.Record.{bytesOf, listBytes}
 use Rattle.macho.specs.Report.{reportBytes}
 use Rattle.macho.specs.declared.reloc.Reloc.{Reloc}
@@ -53,10 +54,7 @@ more slots rs qs =
 
 -- stored reports are the front of the slots
 front : (slots : List ℕ) (f : Fixed) → 24 * length (f .reports) ≤ length slots → sets slots 0 (listBytes reportBytes (f .reports)) ≡ filled f slots
-front slots f h =
-    let n : 0 + length (listBytes reportBytes (f .reports)) ≡ 24 * length (f .reports) = omega (arith, length-reports (f .reports)) in
-    sets-eq (listBytes reportBytes (f .reports)) slots 0 (omega (arith, length-reports (f .reports)))
-    ∙ ap (λ (k : ℕ). listBytes reportBytes (f .reports) ++ drop k slots) n
+front slots f h = put-front (listBytes reportBytes (f .reports)) slots (24 * length (f .reports)) (length-reports (f .reports)) h
 
 -- at most one report an entry
 at-most-one : (t : Told) → length (reportsOf t) ≤ 1

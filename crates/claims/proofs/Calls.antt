@@ -7,7 +7,7 @@ use lib.Dec.{ltb}
 use lib.ListN.{length}
 use Rattle.util.specs.Choice.{choose}
 use Rattle.util.proofs.Choice.{chosen}
-use Rattle.macho.specs.Refusal.{answerNumber}
+use Rattle.macho.specs.Refusal.{answerNumber, outBy}
 use Rattle.macho.proofs.Numbered.{numbered}
 use Rattle.macho.specs.declared.refusal.Answer.{Answer}
 use Rattle.macho.specs.declared.refusal.Answer.the-variants as A
@@ -25,7 +25,10 @@ use Rattle.arm64_hint_run.specs.Run.{runOf, imageOf, runNumber, tallyAfter}
 use Rattle.arm64_hint_run.specs.declared.run.RunAnswer.{RunAnswer}
 use Rattle.arm64_hint_run.specs.declared.run.RunAnswer.the-variants as R
 use Rattle.arm64_hint_run.proofs.Answers.{refused-leaves}
-use Rattle.lister_text.specs.Listing.{lines, listOf, outBy}
+use Rattle.uleb.specs.Shortest.{ulebsOf}
+use Rattle.hint_payload.specs.Payload.{payloadOf}
+use Rattle.hint_payload.specs.Answer.{rowIn, readTo, writeTo}
+use Rattle.lister_text.specs.Listing.{lines, listOf}
 use Rattle.hauklivo.specs.Lent.{lentNumber, lentCount}
 use Rattle.hauklivo.specs.Stub as Stub
 use Rattle.hauklivo.specs.Hints as Hints
@@ -36,6 +39,8 @@ use Rattle.hauklivo.proofs.stub.hauklivo_write_stub.Met as WriteStub
 use Rattle.hauklivo.proofs.stub.hauklivo_write_thunk.Met as WriteThunk
 use Rattle.hauklivo.proofs.hints.hauklivo_apply_hints.Met as ApplyHints
 use Rattle.hauklivo.proofs.lister.hauklivo_list.Met as List′
+use Rattle.hauklivo.proofs.payload.hauklivo_read_hints.Met as ReadHints
+use Rattle.hauklivo.proofs.payload.hauklivo_write_hints.Met as WriteHints
 use Rattle.hauklivo.proofs.ldst.hauklivo_load_store_class.Met as LoadStoreClass
 use Rattle.hauklivo.proofs.version.hauklivo_version.Met as Version
 use Rattle.hauklivo.proofs.version.hauklivo_version_1.Met as Version1
@@ -51,9 +56,9 @@ fix-up : (a : Outcome) (section slots : List ℕ) (count : ℕ) → (answerNumbe
 fix-up (Answer.refused x) section slots count ne = (refl, refl, sym (count-kept x (A.Refused x) count refl))
 fix-up (Answer.fixed f) section slots count ne = absurd (ne refl)
 
-lister : (a : Answer) (text out : List ℕ) (count : ℕ) → (answerNumber a ≡ 0 → ⊥) → (outBy a text out ≡ out) × (lentCount a count ≡ count)
-lister (A.Refused x) text out count ne = (refl, sym (count-kept x (A.Refused x) count refl))
-lister (A.Filled n) text out count ne = absurd (ne refl)
+answered : (a : Answer) (filled out : List ℕ) (count : ℕ) → (answerNumber a ≡ 0 → ⊥) → (outBy a filled out ≡ out) × (lentCount a count ≡ count)
+answered (A.Refused x) filled out count ne = (refl, sym (count-kept x (A.Refused x) count refl))
+answered (A.Filled n) filled out count ne = absurd (ne refl)
 
 stub : (buf : List ℕ) (addr ptr reaches : ℕ) → (Stub.stubNumberTo buf addr ptr ≡ 0 → ⊥)
     → (Stub.stubTo buf addr ptr ≡ buf) × (Stub.reachesTo buf addr ptr reaches ≡ reaches)
@@ -89,6 +94,8 @@ calls =
       write-thunk = λ M. WriteThunk.met;
       apply-hints = λ M. ApplyHints.met;
       list = λ M. List′.met;
+      read-hints = λ M. ReadHints.met;
+      write-hints = λ M. WriteHints.met;
       load-store-class = λ M. LoadStoreClass.met;
       version = λ M. Version.met;
       version-1 = λ M. Version1.met;
@@ -99,5 +106,7 @@ calls =
       write-stub-refused = stub;
       write-thunk-refused = thunk;
       apply-hints-refused = hint-run;
-      list-refused = λ words out count. lister (listOf words (length out)) (lines words) out count;
+      list-refused = λ words out count. answered (listOf words (length out)) (lines words) out count;
+      read-hints-refused = λ payload slots count. answered (readTo payload (length slots)) (rowIn (payloadOf payload)) slots count;
+      write-hints-refused = λ row out count. answered (writeTo row (length out)) (ulebsOf row) out count;
     }

@@ -11,6 +11,7 @@ use Rattle.claims.proofs.Fixup.{fixup}
 use Rattle.claims.proofs.Hints.{hints}
 use Rattle.claims.proofs.Kept.{kept}
 use Rattle.claims.proofs.Lister.{lister}
+use Rattle.claims.proofs.Payloads.{payloads}
 use Rattle.claims.proofs.Twelve.{twelve}
 
 pub claims : Claims
@@ -27,5 +28,6 @@ claims =
       hints = hints;
       kept = kept;
       lister = lister;
+      payloads = payloads;
       twelve = twelve;
     }

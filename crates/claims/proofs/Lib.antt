@@ -11,4 +11,5 @@ pub mod Fixup
 pub mod Hints
 pub mod Kept
 pub mod Lister
+pub mod Payloads
 pub mod Twelve

@@ -9,7 +9,7 @@ use native.Mathlib.Nat.{mod-eq-of-lt, zero-add, add-zero, not-suc-le-zero}
 use borrow.Author.Tests.{ltb-true, ltb-false, eqb-true}
 use lib.Dec.{eqb, ltb}
 use lib.ListN.{length, getD, take, drop, length-append}
-use lib.Seq.{sets, sets-eq, take-all, length-take-le}
+use lib.Seq.{sets, take-all, length-take-le}
 use Rattle.util.specs.All.{All, empty, more}
 use Rattle.util.specs.Bits.{field}
 use Rattle.util.specs.Choice.{choose}
@@ -19,6 +19,7 @@ use Rattle.util.proofs.Below.{every, every-at}
 use Rattle.util.proofs.Bytes.{le-bytes, le-append-left, le-append-right}
 use Rattle.util.proofs.Choice.{chosen}
 use Rattle.util.proofs.Part.{length-bytes}
+use Rattle.util.proofs.Puts.{put-front}
 use Rattle.macho.specs.Refusal.{answerNumber}
 use Rattle.macho.specs.declared.refusal.Answer.{Answer}
 use Rattle.macho.specs.declared.refusal.Answer.the-variants.{Filled}
@@ -186,8 +187,7 @@ call-lists s out count h o n =
     let text : textOf s ≡ lines s = whole-words s h o in
     let left : Leaves s out (Filled (length (lines s))) (sets out 0 (lines s)) =
     list-whole s out h n o (length (lines s)) (sets out 0 (lines s)) (record { ends = sym (zero-add (length (lines s))); stored = refl }) in
-    let stored : sets out 0 (lines s) ≡ lines s ++ drop (length (lines s)) out =
-    sets-eq (lines s) out 0 (omega (arith, lines-length s (length s / 4))) ∙ ap (λ (k : ℕ). lines s ++ drop k out) (zero-add (length (lines s))) in
+    let stored = put-front (lines s) out (length (lines s)) refl (omega (arith, lines-length s (length s / 4))) in
     rw text (
       number s out _ _ left,
       sym (ap (λ (a : Answer). lentCount a count) (left .0)),

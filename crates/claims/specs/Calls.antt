@@ -1,4 +1,4 @@
--- The calls that a linker makes (RULES 1.1 to 1.3, 2.28): each meets its contract, and one that is refused has changed nothing that it was lent.
+-- The calls that a linker makes (RULES 1.1 to 1.3, 2.28, 14.9, 14.10): each meets its contract, and one that is refused has changed nothing that it was lent.
 use mathlib.Core.Path.{_≡_}
 use mathlib.Core.List.{List}
 use Prim.Native.Nat.{ℕ, _≤_}
@@ -7,18 +7,22 @@ use Rattle.macho.specs.declared.refusal.Refusal.{Refusal}
 use Rattle.arm64_reader.specs.Read as Read
 use Rattle.arm64_fixup.specs.Answer as Answer
 use Rattle.arm64_hint_work.specs.declared.tally.Tally.{Tally}
+use Rattle.hint_payload.specs.Answer.{rowTo, bytesTo}
 use Rattle.lister_text.specs.Listing.{outAfter}
 use Rattle.hauklivo.specs.Reader as Reader
 use Rattle.hauklivo.specs.Fixup as Fixup
 use Rattle.hauklivo.specs.Stub as Stub
 use Rattle.hauklivo.specs.Hints as Hints
 use Rattle.hauklivo.specs.Lister as Lister
+use Rattle.hauklivo.specs.Payload as Payload
 use Rattle.hauklivo.proofs.reader.hauklivo_read_relocs.Statement as ReadRelocs
 use Rattle.hauklivo.proofs.fixup.hauklivo_apply_reloc_alloc.Statement as ApplyRelocAlloc
 use Rattle.hauklivo.proofs.stub.hauklivo_write_stub.Statement as WriteStub
 use Rattle.hauklivo.proofs.stub.hauklivo_write_thunk.Statement as WriteThunk
 use Rattle.hauklivo.proofs.hints.hauklivo_apply_hints.Statement as ApplyHints
 use Rattle.hauklivo.proofs.lister.hauklivo_list.Statement as List′
+use Rattle.hauklivo.proofs.payload.hauklivo_read_hints.Statement as ReadHints
+use Rattle.hauklivo.proofs.payload.hauklivo_write_hints.Statement as WriteHints
 use Rattle.hauklivo.proofs.ldst.hauklivo_load_store_class.Statement as LoadStoreClass
 use Rattle.hauklivo.proofs.version.hauklivo_version.Statement as Version
 use Rattle.hauklivo.proofs.version.hauklivo_version_1.Statement as Version1
@@ -38,13 +42,16 @@ pub record Calls : Type 2 where
   pub apply-hints : (M : Type 1) → ApplyHints.statement M
   -- the lister (hauklivo/src/lister.rt)
   pub list : (M : Type 1) → List′.statement M
+  -- the reader and the writer of hint payloads (hauklivo/src/payload.rt)
+  pub read-hints : (M : Type 1) → ReadHints.statement M
+  pub write-hints : (M : Type 1) → WriteHints.statement M
   -- a word's entry in the table of load and store classes (hauklivo/src/ldst.rt)
   pub load-store-class : (M : Type 1) → LoadStoreClass.statement M
   -- the version of the calls, by either name (hauklivo/src/version.rt)
   pub version : (M : Type 1) → Version.statement M
   pub version-1 : (M : Type 1) → Version1.statement M
-  -- RULES 3.1: a refusal's number is one of 1 to 12
-  pub numbered : (x : Refusal) → (1 ≤ Refusal.numberOf x) × (Refusal.numberOf x ≤ 12)
+  -- RULES 3.1: a refusal's number is one of 1 to 14
+  pub numbered : (x : Refusal) → (1 ≤ Refusal.numberOf x) × (Refusal.numberOf x ≤ 14)
   -- RULES 1.3, 3.2: a refused reader leaves slots and count
   pub read-relocs-refused : (contents records sections slots : List ℕ) (count : ℕ) → (Reader.numberTo contents records sections slots ≡ 0 → ⊥)
       → (Read.slotsTo contents records sections slots ≡ slots) × (Reader.countTo contents records sections slots count ≡ count)
@@ -65,3 +72,9 @@ pub record Calls : Type 2 where
   -- a refused lister leaves the bytes for the text and the count
   pub list-refused : (words out : List ℕ) (count : ℕ) → (Lister.numberTo words out ≡ 0 → ⊥)
       → (outAfter words out ≡ out) × (Lister.countTo words out count ≡ count)
+  -- a refused reader of payloads leaves slots and count
+  pub read-hints-refused : (payload slots : List ℕ) (count : ℕ) → (Payload.readNumberTo payload slots ≡ 0 → ⊥)
+      → (rowTo payload slots ≡ slots) × (Payload.readCountTo payload slots count ≡ count)
+  -- a refused writer of payloads leaves the bytes and the count
+  pub write-hints-refused : (row out : List ℕ) (count : ℕ) → (Payload.writeNumberTo row out ≡ 0 → ⊥)
+      → (bytesTo row out ≡ out) × (Payload.writeCountTo row out count ≡ count)

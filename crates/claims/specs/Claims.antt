@@ -10,6 +10,7 @@ use Rattle.claims.specs.Fixup.{Fixup}
 use Rattle.claims.specs.Hints.{Hints}
 use Rattle.claims.specs.Kept.{Kept}
 use Rattle.claims.specs.Lister.{Lister}
+use Rattle.claims.specs.Payloads.{Payloads}
 use Rattle.claims.specs.Twelve.{Twelve}
 
 -- all that is claimed, by record
@@ -29,5 +30,7 @@ pub record Claims : Type 2 where
   pub kept : Kept
   -- the word lister (RULES 10)
   pub lister : Lister
+  -- hint payloads (RULES 14)
+  pub payloads : Payloads
   -- the twelve examples (RULES 11)
   pub twelve : Twelve

@@ -11,5 +11,6 @@ pub mod Fixup
 pub mod Hints
 pub mod Kept
 pub mod Lister
+pub mod Payloads
 pub mod Twelve
 pub mod Lent

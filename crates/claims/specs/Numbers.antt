@@ -1,5 +1,6 @@
 -- Which number a refused call answers (RULES 3.1, 3.3 to 3.6, 3.9 to 3.11): the examples of RULES 3.1, which comes first where several apply, and the
--- lengths. That a refused call leaves all is in Calls, the numbers of stub and thunk entries in Fixup, those of the lister in Lister.
+-- lengths. That a refused call leaves all is in Calls, the numbers of stub and thunk entries in Fixup, those of the lister in Lister, those of payloads in
+-- Payloads.
 use mathlib.Core.Path.{_≡_}
 use mathlib.Core.List.{List, [], _++_}
 use Prim.Native.Nat.{ℕ, _-_, _*_, _/_, _%_, _^_, _≤_, _<_}

@@ -5,4 +5,5 @@ pub mod Fixup
 pub mod Stub
 pub mod Hints
 pub mod Lister
+pub mod Payload
 pub mod Version

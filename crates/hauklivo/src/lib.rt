@@ -4,6 +4,7 @@ pub mod fixup;
 pub mod hints;
 pub mod ldst;
 pub mod lister;
+pub mod payload;
 pub mod reader;
 pub mod stub;
 pub mod version;

@@ -1,5 +1,5 @@
 // Prints the table of classes (RULES 7.33): its file `stdout` is `arm64_ldst_table/src/table.rt`, byte for byte.
-ghost use Rattle.text.specs.Puts.{Puts};
+ghost use Rattle.util.specs.Puts.{Puts};
 ghost use Rattle.ldst_table_text.specs.Text.{tableText};
 
 // Puts the table into `out`, and writes it. What reaches standard output is outside every contract.

@@ -6,7 +6,7 @@ use crate::rows::row_of;
 use text::put;
 ghost use Prim.Native.Nat.{_+_, _≤_};
 ghost use lib.ListN.{length};
-ghost use Rattle.text.specs.Puts.{Puts};
+ghost use Rattle.util.specs.Puts.{Puts};
 ghost use Rattle.ldst_table_rows.specs.Names.{mnemonicName, rowName, nameAt};
 
 // Puts a mnemonic.

@@ -15,9 +15,9 @@ use Rattle.arm64_ldst_class.specs.Row.{classOfIndex}
 use Rattle.arm64_ldst_class.specs.declared.LoadStoreClass.{LoadStoreClass}
 use Rattle.arm64_ldst_class.specs.declared.LoadStoreClass.the-variants.{Moves, Neither}
 use Rattle.text.specs.Digits.{ascii, digitOf, digits, decimal}
-use Rattle.text.specs.Puts.{Puts}
+use Rattle.util.specs.Puts.{Puts}
 use Rattle.text.proofs.Decimal.{decimal-length}
-use Rattle.text.proofs.Stores.{put-then}
+use Rattle.util.proofs.Puts.{put-then}
 use Rattle.ldst_table_rows.proofs.NameLaws.{name-length}
 use Rattle.ldst_table_text.specs.Text.{movedText, registersText, classText}
 use Rattle.ldst_table_text.specs.Text.{number, commentOf, entryLine, entryLines, opening, tableText}

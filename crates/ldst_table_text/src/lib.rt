@@ -8,7 +8,7 @@ use text::put_decimal;
 ghost use Prim.Native.Nat.{_+_, _*_, _≤_};
 ghost use lib.ListN.{length};
 ghost use Rattle.text.specs.Digits.{digits};
-ghost use Rattle.text.specs.Puts.{Puts};
+ghost use Rattle.util.specs.Puts.{Puts};
 ghost use Rattle.ldst_table_text.specs.Text.{movedText, registersText, classText, number, commentOf, entryLine, entryLines, opening, tableText};
 
 // Puts whether a class stores or loads.

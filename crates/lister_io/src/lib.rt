@@ -2,7 +2,7 @@
 ghost use Prim.Native.Nat.{_≤_};
 ghost use lib.ListN.{length, take};
 ghost use Rattle.lister_text.specs.Text.{textOf};
-ghost use Rattle.text.specs.Puts.{Puts};
+ghost use Rattle.util.specs.Puts.{Puts};
 
 // How many bytes were read, and how many bytes of text they came to.
 pub struct Listed {

@@ -9,13 +9,14 @@ use lib.ListN.{length}
 use Rattle.util.specs.Choice.{choose}
 use Rattle.util.proofs.Choice.{split, choose-true, choose-false}
 use Rattle.macho.specs.Refusal as R
+use Rattle.macho.specs.Refusal.{outBy}
 use Rattle.macho.specs.declared.refusal.Refusal.{Refusal}
 use Rattle.macho.specs.declared.refusal.Refusal.the-variants.{Lengths, Slots}
 use Rattle.macho.specs.declared.refusal.Answer.{Answer}
 use Rattle.macho.specs.declared.refusal.Answer.the-variants.{Refused, Filled}
 use Rattle.lister_text.specs.Text.{refused, textOf}
-use Rattle.text.specs.Puts.{Puts}
-use Rattle.lister_text.specs.Listing.{lines, listOf, outAfter, outBy}
+use Rattle.util.specs.Puts.{Puts}
+use Rattle.lister_text.specs.Listing.{lines, listOf, outAfter}
 use Rattle.lister_text.proofs.Printed.{too-long, odd-length, whole-words}
 
 -- an answer, with the bytes as it leaves them

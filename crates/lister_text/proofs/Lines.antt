@@ -10,8 +10,8 @@ use Rattle.util.specs.Word.{le}
 use Rattle.lister_text.specs.Class.{classOf}
 use Rattle.text.proofs.Decimal.{decimal-length}
 use Rattle.lister_text.specs.Text.{hexOf, className, lineOf, linesOf}
-use Rattle.text.specs.Puts.{Puts}
-use Rattle.text.proofs.Stores.{put-then}
+use Rattle.util.specs.Puts.{Puts}
+use Rattle.util.proofs.Puts.{put-then}
 use Rattle.lister_text.specs.declared.class.Class.{Class}
 use Rattle.lister_text.specs.declared.class.Class.the-variants.{Adrp, Add, Load, Store, Other}
 

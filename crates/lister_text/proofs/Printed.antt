@@ -8,7 +8,7 @@ use lib.Dec.{ltb, eqb, lit≤}
 use lib.ListN.{length}
 use Rattle.util.proofs.Choice.{split, choose-true, choose-false}
 use Rattle.lister_text.specs.Text.{linesOf, refused, textOf}
-use Rattle.text.specs.Puts.{Puts}
+use Rattle.util.specs.Puts.{Puts}
 use Rattle.lister_text.proofs.Lines.{lines-length}
 
 module _ (s : List ℕ) where

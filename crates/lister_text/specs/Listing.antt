@@ -3,8 +3,8 @@ use Prim.Native.Nat.{ℕ, _*_, _/_, _%_}
 use mathlib.Core.List.{List}
 use lib.Dec.{ltb, eqb}
 use lib.ListN.{length}
-use lib.Seq.{sets}
 use Rattle.util.specs.Choice.{choose}
+use Rattle.macho.specs.Refusal.{outBy}
 use Rattle.macho.specs.declared.refusal.Refusal.the-variants.{Lengths, Slots}
 use Rattle.macho.specs.declared.refusal.Answer.{Answer}
 use Rattle.macho.specs.declared.refusal.Answer.the-variants.{Refused, Filled}
@@ -21,11 +21,6 @@ listOf s room =
     choose (ltb 16384 (length s)) (Refused Slots)
     (choose (ltb room (27 * (length s / 4))) (Refused Slots)
     (choose (eqb (length s % 4) 0) (Filled (length (lines s))) (Refused Lengths)))
-
--- the lent bytes with a text at their start, or as they were
-abbrev pub outBy : Answer → List ℕ → List ℕ → List ℕ
-outBy (Refused x) text out = out
-outBy (Filled n) text out = sets out 0 text
 
 -- the lent bytes after a listing
 abbrev pub outAfter : List ℕ → List ℕ → List ℕ

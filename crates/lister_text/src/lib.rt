@@ -13,7 +13,7 @@ ghost use mathlib.Core.List.{_∷_, [], _++_};
 ghost use Prim.Native.Nat.{_+_, _*_, _/_, _≤_, _<_};
 ghost use lib.ListN.{length};
 ghost use Rattle.text.specs.Digits.{decimal};
-ghost use Rattle.text.specs.Puts.{Puts};
+ghost use Rattle.util.specs.Puts.{Puts};
 ghost use Rattle.lister_text.specs.Text.{hexOf, className, lineOf, linesOf, refused, textOf};
 ghost use Rattle.lister_text.specs.Listing.{listOf, outAfter};
 

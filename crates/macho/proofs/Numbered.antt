@@ -1,12 +1,12 @@
--- Each refusal has one of the numbers 1 to 12 (RULES 3.1).
+-- Each refusal has one of the numbers 1 to 14 (RULES 3.1).
 use Prim.Native.Nat.{_≤_}
 use lib.Dec.{lit≤}
 use Rattle.macho.specs.Refusal.{numberOf}
 use Rattle.macho.specs.declared.refusal.Refusal.{Refusal}
 use Rattle.macho.specs.declared.refusal.Refusal.the-variants.{Lengths, Slots, Bounds, LoneAddend, Unsupported, Unfit}
-use Rattle.macho.specs.declared.refusal.Refusal.the-variants.{NoSection, LoneSubtractor, Overflow, NeedsSymbol, Flags, NoEntry}
+use Rattle.macho.specs.declared.refusal.Refusal.the-variants.{NoSection, LoneSubtractor, Overflow, NeedsSymbol, Flags, NoEntry, Malformed, Trailing}
 
-pub numbered : (x : Refusal) → (1 ≤ numberOf x) × (numberOf x ≤ 12)
+pub numbered : (x : Refusal) → (1 ≤ numberOf x) × (numberOf x ≤ 14)
 numbered Lengths = (lit≤ tt, lit≤ tt)
 numbered Slots = (lit≤ tt, lit≤ tt)
 numbered Bounds = (lit≤ tt, lit≤ tt)
@@ -19,3 +19,5 @@ numbered Overflow = (lit≤ tt, lit≤ tt)
 numbered NeedsSymbol = (lit≤ tt, lit≤ tt)
 numbered Flags = (lit≤ tt, lit≤ tt)
 numbered NoEntry = (lit≤ tt, lit≤ tt)
+numbered Malformed = (lit≤ tt, lit≤ tt)
+numbered Trailing = (lit≤ tt, lit≤ tt)

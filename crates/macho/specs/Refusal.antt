@@ -1,8 +1,10 @@
 -- The numbers of RULES 3.1, and what a call says with them.
 use Prim.Native.Nat.{ℕ}
+use mathlib.Core.List.{List}
+use lib.Seq.{sets}
 use Rattle.macho.specs.declared.refusal.Refusal.{Refusal}
 use Rattle.macho.specs.declared.refusal.Refusal.the-variants.{Lengths, Slots, Bounds, LoneAddend, Unsupported, Unfit}
-use Rattle.macho.specs.declared.refusal.Refusal.the-variants.{NoSection, LoneSubtractor, Overflow, NeedsSymbol, Flags, NoEntry}
+use Rattle.macho.specs.declared.refusal.Refusal.the-variants.{NoSection, LoneSubtractor, Overflow, NeedsSymbol, Flags, NoEntry, Malformed, Trailing}
 use Rattle.macho.specs.declared.refusal.Check.{Check}
 use Rattle.macho.specs.declared.refusal.Check.the-variants as C
 use Rattle.macho.specs.declared.refusal.Answer.{Answer}
@@ -22,6 +24,8 @@ numberOf Overflow = 9
 numberOf NeedsSymbol = 10
 numberOf Flags = 11
 numberOf NoEntry = 12
+numberOf Malformed = 13
+numberOf Trailing = 14
 
 -- the number of a check: 0 where it is fit
 abbrev pub checkNumber : Check → ℕ
@@ -42,3 +46,8 @@ answerNumber (A.Refused x) = numberOf x
 abbrev pub filledOf : Answer → ℕ
 filledOf (A.Filled n) = n
 filledOf (A.Refused x) = 0
+
+-- what an answer leaves in lent slots: the elements that it fills at their start, or what they held where it refuses
+abbrev pub outBy : Answer → List ℕ → List ℕ → List ℕ
+outBy (A.Refused x) filled slots = slots
+outBy (A.Filled n) filled slots = sets slots 0 filled

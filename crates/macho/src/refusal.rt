@@ -2,7 +2,7 @@
 ghost use mathlib.Core.Path.{_≡_};
 ghost use Rattle.macho.specs.Refusal.{numberOf, checkNumber, answerNumber};
 
-// The table's rows, 1 to 12.
+// The table's rows, 1 to 14.
 pub enum Refusal {
     Lengths,
     Slots,
@@ -16,6 +16,8 @@ pub enum Refusal {
     NeedsSymbol,
     Flags,
     NoEntry,
+    Malformed,
+    Trailing,
 }
 
 // What a check says.
@@ -48,6 +50,8 @@ impl Refusal {
             Refusal::NeedsSymbol => 10,
             Refusal::Flags => 11,
             Refusal::NoEntry => 12,
+            Refusal::Malformed => 13,
+            Refusal::Trailing => 14,
         }
     }
 }

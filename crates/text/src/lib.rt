@@ -3,7 +3,7 @@ ghost use mathlib.Core.Path.{_≡_};
 ghost use Prim.Native.Nat.{_+_, _≤_, _<_};
 ghost use lib.ListN.{length};
 ghost use Rattle.text.specs.Digits.{digitOf, decimal};
-ghost use Rattle.text.specs.Puts.{Puts};
+ghost use Rattle.util.specs.Puts.{Puts};
 
 // Puts a text at `at`, and answers where it ends.
 pub fn put(out: &mut [u8], at: usize, text: &[u8]) -> usize

@@ -11,3 +11,4 @@ pub mod Bytes
 pub mod Below
 pub mod Cases
 pub mod All
+pub mod Puts

@@ -6,3 +6,4 @@ pub mod Word
 pub mod Part
 pub mod Diagram
 pub mod All
+pub mod Puts

@@ -8,6 +8,8 @@
 //!   stub ADDRESS POINTER                    stub BYTES reaches|short
 //!   thunk ADDRESS TARGET                    thunk BYTES
 //!   word WORD                               adrp | add | load N | store N | other
+//!   spelt BYTES                             values VALUE.., unsigned LEB128 until the bytes end
+//!   value VALUE                             spelt BYTES
 //!
 //! Where the Rust stops: stop, the number of RULES 3.1, and the Rust's words.
 
@@ -38,6 +40,7 @@ fn stopped(number: Option<u8>, stop: &Stop) -> String {
     | Stop::Slice(text)
     | Stop::Overflow(text)
     | Stop::NoneUnwrap(text)
+    | Stop::CutOff(text)
     | Stop::Other(text)) = stop;
     format!("stop {number} {text}")
 }
@@ -62,6 +65,17 @@ fn outcomes(run: &HintRun) -> String {
         Outcome::TurnedDown => '9',
     };
     if run.outcomes.is_empty() { "-".into() } else { run.outcomes.iter().map(letter).collect() }
+}
+
+fn values(mut list: &[u8]) -> String {
+    let mut line = String::from("values");
+    while !list.is_empty() {
+        match oracle::read_uleb(&mut list) {
+            Ok(n) => line += &format!(" {n:x}"),
+            Err(stop) => return stopped(stop.payload_number(), &stop),
+        }
+    }
+    line
 }
 
 fn answer(line: &str) -> String {
@@ -98,6 +112,12 @@ fn answer(line: &str) -> String {
             format!("thunk {}", hex(&oracle::thunk(number(address), number(target))))
         }
         ["word", insn] => class(number(insn) as u32),
+        ["spelt", list] => values(&bytes(list)),
+        ["value", n] => {
+            let mut spelling = Vec::new();
+            oracle::encode_uleb(&mut spelling, number(n));
+            format!("spelt {}", hex(&spelling))
+        }
         _ => "unknown call".into(),
     }
 }

@@ -1,6 +1,6 @@
 //! The oracle's self-test: the twelve examples (RULES 11), the examples of turned-down
-//! input, one of each stop, each kind of report, and the oracle's own hint walk against the
-//! Rust's on generated runs.
+//! input, one of each stop, each kind of report, some LEB128 values, and the oracle's own hint walk
+//! against the Rust's on generated runs.
 
 use oracle::{Arm64, Outcome, Stop, Words};
 
@@ -421,10 +421,30 @@ fn overlaps() {
     assert!(cases > 100_000);
 }
 
+/// Values: each end of a width, a spelling that is longer than it need be, bits that are dropped, and bytes that end.
+fn values() {
+    let read = |mut bytes: &[u8]| oracle::read_uleb(&mut bytes).map(|n| (n, bytes.len()));
+    for (value, spelling) in [(0, &[0][..]), (127, &[0x7f]), (128, &[0x80, 1]), (0x4fc4, &[0xc4, 0x9f, 1])] {
+        let mut encoded = Vec::new();
+        oracle::encode_uleb(&mut encoded, value);
+        assert_eq!((&encoded[..], oracle::uleb_size(value)), (spelling, spelling.len()));
+        assert_eq!(read(&[spelling, &[9]].concat()), Ok((value, 1)));
+    }
+    let nine = [0xff; 9];
+    assert_eq!(read(&[&nine[..], &[1]].concat()), Ok((u64::MAX, 0)));
+    assert_eq!(read(&[&nine[..], &[3]].concat()), Ok((u64::MAX, 0)));
+    assert_eq!(read(&[0x80, 0x80, 0]), Ok((0, 0)));
+    for cut_off in [&[][..], &[0x80], &nine] {
+        let stop = read(cut_off).unwrap_err();
+        assert!(matches!(stop, Stop::CutOff(_)) && stop.payload_number() == Some(13), "{stop:?}");
+    }
+}
+
 fn main() {
     twelve_examples();
     stops();
     facts();
+    values();
     overlaps();
     hint_runs();
     println!("self-test passed");

@@ -153,6 +153,29 @@ fn write_thunk(ctx: &Context<Arm64>, addr: u64, syms: &[SymbolId], buf: &mut [u8
     }
 }
 
+fn read_loh(file_name: &Path, payload: &[u8]) -> Vec<(u8, Vec<u64>)> {
+    let mut row = vec![0; payload.len()]; // a value for each byte
+    match hauklivo::read_hints(payload, &mut row) {
+        Ok(n) => row.truncate(n),
+        Err(refusal) => fatal!("{}: LC_LINKER_OPTIMIZATION_HINT: {refusal}", file_name.display()),
+    }
+    // A kind must not be cut to 8 bits: 263 would be 7.
+    let known = |(kind, addrs): (u64, &[u64])| Some((u8::try_from(kind).ok()?, addrs.to_vec()));
+    hauklivo::hints(&row).filter_map(known).collect()
+}
+
+fn write_loh(loh: &[(u8, Vec<u64>)]) -> Vec<u8> {
+    let mut row = Vec::new();
+    for (kind, addrs) in loh {
+        row.extend([u64::from(*kind), addrs.len() as u64]);
+        row.extend(addrs);
+    }
+    let mut payload = vec![0; hauklivo::SPELLING * row.len()];
+    let n = hauklivo::write_hints(&row, &mut payload).expect("whole hints, none of kind 0");
+    payload.resize(n.next_multiple_of(8), 0); // zeros close the list
+    payload
+}
+
 fn hint_insns(ctx: &Context<Arm64>, obj: &ObjectFile, addrs: &[u64]) -> Option<(usize, Range<usize>, [HintInsn; 3])> {
     let id = obj.hint_subsec(&ctx.isecs, addrs)?;
     let isec = &ctx.isecs[id];
@@ -232,7 +255,7 @@ fn context(rels: Vec<Reloc>) -> Context<Arm64> {
     let near = Symbol { addr: 0x2010, got: 0x3000, thunk: Some(0x1800), ..Symbol::default() };
     let far = Symbol { got: 0x3008, is_imported: true, site: Some(SiteKind::IsEnabled), ..Symbol::default() };
     let probe = Symbol { site: Some(SiteKind::Probe), ..Symbol::default() };
-    let loh = vec![(7, vec![0, 4]), (9, vec![]), (7, vec![0])];
+    let loh = read_loh(Path::new("a.o"), &[7, 2, 0, 4, 9, 0, 0x87, 2, 0, 7, 1, 0, 0, 0, 0, 0]);
     Context {
         objs: vec![ObjectFile { is_reachable: true, symbols: vec![0, 1, 2], loh, rels, ..ObjectFile::default() }],
         isecs: vec![InputSection { size: 40, ..InputSection::default() }],
@@ -269,6 +292,21 @@ fn reads_fixes_and_works_hints() {
     apply_hints(&ctx, &mut section);
     assert_eq!(section[..8], bytes(&[0x10008080, 0xd503201f])); // adr x0, 0x2010; nop
     assert_eq!(section[8..], bytes(&fixed)[8..]);
+}
+
+#[test]
+fn payloads_of_hints() {
+    let loh = vec![(7, vec![0, 0x80]), (9, vec![]), (1, vec![0, 4])];
+    let payload = write_loh(&loh);
+    assert_eq!(payload, [7, 2, 0, 0x80, 1, 9, 0, 1, 2, 0, 4, 0, 0, 0, 0, 0]);
+    assert_eq!(read_loh(Path::new("a.o"), &payload), loh);
+    assert_eq!(write_loh(&[]), []);
+}
+
+#[test]
+#[should_panic(expected = "a.o: LC_LINKER_OPTIMIZATION_HINT: 13: a value or a hint of a payload is cut off")]
+fn refused_payloads_are_fatal() {
+    read_loh(Path::new("a.o"), &[7, 2, 0]);
 }
 
 #[test]

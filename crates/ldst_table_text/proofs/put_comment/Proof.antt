@@ -1,6 +1,6 @@
 -- `put_comment` meets its contract: six texts, one after another. Assumes nothing.
 use native.Mathlib.Omega.{arith}
-use Rattle.text.proofs.Stores.{put-then}
+use Rattle.util.proofs.Puts.{put-then}
 use Rattle.ldst_table_text.specs.Text.{commentOf}
 use Rattle.ldst_table_rows.proofs.NameLaws.{name-length}
 use Rattle.ldst_table_text.proofs.Lines.{class-length}

@@ -1,6 +1,6 @@
 -- `put_line` meets its contract: three texts, one after another. Assumes nothing.
 use native.Mathlib.Omega.{arith}
-use Rattle.text.proofs.Stores.{put-then}
+use Rattle.util.proofs.Puts.{put-then}
 use Rattle.ldst_table_text.specs.Text.{entryLine}
 use Rattle.ldst_table_text.proofs.Lines.{number-length}
 use borrow.Author.Needs.{needs}

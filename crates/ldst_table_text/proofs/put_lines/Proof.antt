@@ -3,7 +3,7 @@ use mathlib.Core.Path.{_≡_, refl}
 use Prim.Native.Nat.{_-_, _≤_}
 use native.Mathlib.Omega.{arith}
 use lib.ListN.{length}
-use Rattle.text.specs.Puts.{Puts}
+use Rattle.util.specs.Puts.{Puts}
 use Rattle.ldst_table_text.specs.Text.{entryLines}
 use Rattle.ldst_table_text.proofs.Lines.{lines-length, no-line, next-line}
 use Rattle.ldst_table_text.proofs.put_lines.Statement.{statement}

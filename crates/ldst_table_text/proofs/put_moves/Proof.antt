@@ -1,7 +1,7 @@
 -- `put_moves` meets its contract: three texts, one after another, or one. Assumes nothing.
 use native.Mathlib.Omega.{arith}
 use Rattle.text.proofs.Decimal.{decimal-length}
-use Rattle.text.proofs.Stores.{put-then}
+use Rattle.util.proofs.Puts.{put-then}
 use Rattle.ldst_table_text.specs.Text.{classText}
 use Rattle.ldst_table_text.proofs.Lines.{moved-length}
 use borrow.Author.Needs.{needs}

@@ -1,5 +1,5 @@
 -- `put_opening` meets its contract: three lines, one after another. Assumes nothing.
-use Rattle.text.proofs.Stores.{put-then}
+use Rattle.util.proofs.Puts.{put-then}
 use Rattle.ldst_table_text.specs.Text.{opening}
 use borrow.Author.Needs.{needs}
 use Rattle.ldst_table_text.proofs.put_opening.Statement.{statement}

@@ -1,6 +1,6 @@
 -- `text` meets its contract: the opening, the lines and the end, one after another. Assumes nothing.
 use native.Mathlib.Omega.{arith}
-use Rattle.text.proofs.Stores.{put-then}
+use Rattle.util.proofs.Puts.{put-then}
 use Rattle.ldst_table_text.specs.Text.{tableText}
 use Rattle.ldst_table_text.proofs.Lines.{opening-length, lines-length, counts}
 use borrow.Author.Needs.{needs}

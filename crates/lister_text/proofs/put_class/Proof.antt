@@ -1,6 +1,6 @@
 -- `put_class` meets its contract: a text, or a text and a number after it. Assumes nothing.
 use Rattle.lister_text.specs.Text.{className}
-use Rattle.text.proofs.Stores.{put-then}
+use Rattle.util.proofs.Puts.{put-then}
 use borrow.Author.Needs.{needs}
 use Rattle.lister_text.proofs.put_class.Statement.{statement}
 use Rattle.lister_text.proofs.put_class.Tie as tie

@@ -1,6 +1,6 @@
 -- `put_line` meets its contract: three texts, one after another. Assumes nothing.
 use Rattle.lister_text.specs.Text.{lineOf}
-use Rattle.text.proofs.Stores.{put-then}
+use Rattle.util.proofs.Puts.{put-then}
 use borrow.Author.Needs.{needs}
 use Rattle.lister_text.proofs.put_line.Statement.{statement}
 use Rattle.lister_text.proofs.put_line.Tie as tie

@@ -5,7 +5,7 @@ use Prim.Native.Nat.{_-_, _/_, _≤_}
 use native.Mathlib.Omega.{arith}
 use lib.ListN.{length}
 use Rattle.lister_text.specs.Text.{linesOf}
-use Rattle.text.specs.Puts.{Puts}
+use Rattle.util.specs.Puts.{Puts}
 use Rattle.lister_text.proofs.Lines.{lines-length, no-line, next-line}
 use Rattle.lister_text.proofs.put_lines.Statement.{statement}
 use Rattle.lister_text.proofs.put_lines.Tie as tie

@@ -2,7 +2,7 @@
 use mathlib.Core.List.{List, [], _∷_}
 use Prim.Native.Nat.{ℕ, _+_}
 use mathlib.Core.Path.{_≡_, subst, _∙_}
-use Rattle.text.specs.Puts.{Puts}
+use Rattle.util.specs.Puts.{Puts}
 use Rattle.util.proofs.Choice.{choose-true}
 use borrow.Author.Tests.{lt-ltb}
 use borrow.Author.Needs.{needs}

@@ -1,7 +1,7 @@
 -- `put_size` meets its contract: a number, and a newline after it. Assumes nothing.
 use native.Mathlib.Omega.{arith}
 use Rattle.text.proofs.Decimal.{decimal-length}
-use Rattle.text.proofs.Stores.{put-then}
+use Rattle.util.proofs.Puts.{put-then}
 use borrow.Author.Needs.{needs}
 use Rattle.lister_text.proofs.put_size.Statement.{statement}
 use Rattle.lister_text.proofs.put_size.Tie as tie

@@ -3,7 +3,7 @@ use mathlib.Core.Path.{refl, sym, _∙_}
 use native.Mathlib.Nat.{div-one}
 use native.Mathlib.Omega.{arith}
 use Rattle.util.proofs.Choice.{choose-true, choose-false}
-use Rattle.text.proofs.Stores.{put-then}
+use Rattle.util.proofs.Puts.{put-then}
 use Rattle.ldst_table_rows.specs.Names.{nameAt}
 use Rattle.ldst_table_rows.proofs.NameLaws.{row-length}
 use borrow.Author.Needs.{needs}

@@ -1,13 +1,13 @@
--- Texts stored one byte after another: a run of stores is one run after another.
+-- Bytes stored one after another: a run of stores is one run after another.
 use mathlib.Core.Path.{_≡_, sym, ap, _∙_}
 use mathlib.Core.List.{List, [], _∷_, _++_}
-use Prim.Native.Nat.{ℕ, _+_, _<_}
+use Prim.Native.Nat.{ℕ, _+_, _≤_, _<_}
 use native.Mathlib.Omega.{arith}
 use native.Mathlib.Numerals.{add-one}
-use lib.ListN.{length, getD, set, take, length-append}
-use lib.Seq.{sets, take-suc, take-length, length-take-le}
+use lib.ListN.{length, getD, set, take, drop, length-append}
+use lib.Seq.{sets, sets-eq, take-suc, take-length, length-take-le}
 use Rattle.util.proofs.Bytes.{sets-append}
-use Rattle.text.specs.Puts.{Puts}
+use Rattle.util.specs.Puts.{Puts}
 
 -- one byte more
 pub put-next : (l t : List ℕ) (at i : ℕ) → i < length t → set (sets l at (take i t)) (at + i) (getD t i 0) ≡ sets l at (take (i + 1) t)
@@ -26,3 +26,9 @@ put-then {l} {m} {n} {s} {t} {at} {i} p q =
       ends = simp length-append (omega arith);
       stored = q .stored ∙ ap (λ (k : List ℕ). sets k i t) (p .stored) ∙ sym (sets-append s t l at i (sym (p .ends)));
     }
+
+-- a run stored at the front, and what is left after it
+pub put-front : (xs l : List ℕ) (n : ℕ) → length xs ≡ n → n ≤ length l → sets l 0 xs ≡ xs ++ drop n l
+put-front xs l n e h =
+    let k : 0 + length xs ≡ n = omega arith in
+    sets-eq xs l 0 (omega arith) ∙ ap (λ (j : ℕ). xs ++ drop j l) k

@@ -1,4 +1,4 @@
--- A text put into bytes that are lent.
+-- A text, or any run of bytes, put into bytes that are lent.
 use mathlib.Core.Path.{_≡_}
 use mathlib.Core.List.{List}
 use Prim.Native.Nat.{ℕ, _+_}
