@@ -2,7 +2,7 @@
 //! folder that HAUKLIVO_LIB_DIR names, or else from where tools/library leaves it. Where HAUKLIVO_LIB_DIR is empty no archive
 //! is looked for: for what does not link.
 //!
-//! The version is a part of a name, hauklivo_version_1: names can be read from the archive's table of symbols, on any
+//! The version is a part of a name, hauklivo_version_N: names can be read from the archive's table of symbols, on any
 //! machine and without running what is in the archive. A value could not.
 
 use std::io::ErrorKind;

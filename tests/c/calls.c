@@ -469,7 +469,7 @@ static void classes(void)
 static void version(void)
 {
     CHECK(hauklivo_version() == HAUKLIVO_VERSION);
-    CHECK(hauklivo_version_1() == HAUKLIVO_VERSION);
+    CHECK(hauklivo_version_2() == HAUKLIVO_VERSION);
 }
 
 int main(void)

@@ -2,15 +2,16 @@
 //! name of a predicate on cases and the name of what is expected there.
 //!
 //! Rows apply in the order of the table. Where a row's predicate holds of what the Rust is asked, its
-//! expectation changes either what the Rust is asked or what it answered. A row that no case reaches,
-//! or that changes no answer, fails the run.
+//! expectation changes either what the Rust is asked or what it answered. Rows about one hint, those of
+//! hint_steps.rs, apply after these, at the hint's turn. A row that no case reaches, or that changes no
+//! answer, fails the run, and so does a row about one hint that leaves the answer as it was.
 
 use std::sync::atomic::{AtomicU64, Ordering};
 
 use hauklivo::{Record, Reloc, Resolved, Target, flag};
 
 use crate::fixup::{self, is_section, steps};
-use crate::{Difference, World, class, hints, payload_reader, payload_writer, reader, stub};
+use crate::{Difference, World, class, hint_steps, hints, payload_reader, payload_writer, reader, stub};
 
 /// How a row changes what is expected of a case.
 enum Change<C: Call> {
@@ -155,19 +156,57 @@ fn as_cut_off(case: &mut payload_reader::Case) {
     }
 }
 
-/// A row's name, in how many cases it held, and in how many it changed the answer.
+/// What a row holds of.
+#[derive(Clone, Copy, PartialEq)]
+pub enum Of {
+    Cases,
+    Hints,
+}
+
+/// A row's name, what it holds of, of how many of these it held, and how many of them it changed.
 pub struct Count<'a> {
     pub name: &'a str,
+    pub of: Of,
     pub reached: u64,
     pub changed: u64,
 }
 
-struct Row<C: Call> {
+impl Count<'_> {
+    /// Whether the row did what it must: of cases it changes some, of hints all.
+    fn is_met(&self) -> bool {
+        self.changed > 0 && (self.of == Of::Cases || self.changed == self.reached)
+    }
+}
+
+/// How often a row was met so far.
+pub struct Met {
     name: String,
-    holds: fn(&C) -> bool,
-    change: &'static Change<C>,
+    of: Of,
     reached: AtomicU64,
     changed: AtomicU64,
+}
+
+impl Met {
+    pub fn new(name: &str, of: Of) -> Self {
+        let (reached, changed) = (AtomicU64::new(0), AtomicU64::new(0));
+        Self { name: name.into(), of, reached, changed }
+    }
+
+    pub fn add(&self, is_changed: bool) {
+        self.reached.fetch_add(1, Ordering::Relaxed);
+        self.changed.fetch_add(u64::from(is_changed), Ordering::Relaxed);
+    }
+
+    fn count(&self) -> Count<'_> {
+        let (reached, changed) = (self.reached.load(Ordering::Relaxed), self.changed.load(Ordering::Relaxed));
+        Count { name: &self.name, of: self.of, reached, changed }
+    }
+}
+
+struct Row<C: Call> {
+    met: Met,
+    holds: fn(&C) -> bool,
+    change: &'static Change<C>,
 }
 
 impl<C: Call> Row<C> {
@@ -175,34 +214,26 @@ impl<C: Call> Row<C> {
     fn named([name, predicate, change]: [&str; 3]) -> Option<Self> {
         let holds = C::PREDICATES.iter().find(|n| n.0 == predicate)?.1;
         let change = &C::CHANGES.iter().find(|n| n.0 == change)?.1;
-        let (reached, changed) = (AtomicU64::new(0), AtomicU64::new(0));
-        Some(Self { name: name.into(), holds, change, reached, changed })
-    }
-
-    fn count(&self) -> Count<'_> {
-        let (reached, changed) = (self.reached.load(Ordering::Relaxed), self.changed.load(Ordering::Relaxed));
-        Count { name: &self.name, reached, changed }
+        Some(Self { met: Met::new(name, Of::Cases), holds, change })
     }
 }
 
-/// What is expected of a case whose lists agree.
-fn expected<C: Call>(rows: &[Row<C>], case: &C, world: &World) -> Result<C::Answer, Difference> {
-    let mut asked = case.clone();
-    let mut answer = case.rust(world)?;
+/// What is expected of a case whose lists agree; `asked` becomes what the Rust is asked in the end.
+fn expected<C: Call>(rows: &[Row<C>], asked: &mut C, world: &World) -> Result<C::Answer, Difference> {
+    let mut answer = asked.rust(world)?;
     for row in rows {
-        if !(row.holds)(&asked) {
+        if !(row.holds)(asked) {
             continue;
         }
         let before = answer.clone();
         match row.change {
             Change::Asked(change) => {
-                change(&mut asked);
+                change(asked);
                 answer = asked.rust(world)?;
             }
-            Change::Answered(change) => change(&asked, &mut answer),
+            Change::Answered(change) => change(asked, &mut answer),
         }
-        row.reached.fetch_add(1, Ordering::Relaxed);
-        row.changed.fetch_add(u64::from(answer != before), Ordering::Relaxed);
+        row.met.add(answer != before);
     }
     Ok(answer)
 }
@@ -214,14 +245,14 @@ pub struct Differences {
     fixup: Vec<Row<fixup::Case>>,
     stub: Vec<Row<stub::Case>>,
     hints: Vec<Row<hints::Case>>,
+    hint_steps: Vec<hint_steps::Row>,
     class: Vec<Row<class::Case>>,
     payload_reader: Vec<Row<payload_reader::Case>>,
     payload_writer: Vec<Row<payload_writer::Case>>,
 }
 
-/// Adds the row of these names to a call's rows, if the call has them.
-fn add<C: Call>(rows: &mut Vec<Row<C>>, names: [&str; 3]) -> bool {
-    let row = Row::named(names);
+/// Adds the row of some names to a call's rows, if the call has them.
+fn add<R>(rows: &mut Vec<R>, row: Option<R>) -> bool {
     let is_there = row.is_some();
     rows.extend(row);
     is_there
@@ -241,13 +272,14 @@ impl Differences {
                 return Err(format!("a row has four cells: {line}"));
             };
             let names = [name, predicate, change];
-            let is_there = add(&mut rows.reader, names)
-                || add(&mut rows.fixup, names)
-                || add(&mut rows.stub, names)
-                || add(&mut rows.hints, names)
-                || add(&mut rows.class, names)
-                || add(&mut rows.payload_reader, names)
-                || add(&mut rows.payload_writer, names);
+            let is_there = add(&mut rows.reader, Row::named(names))
+                || add(&mut rows.fixup, Row::named(names))
+                || add(&mut rows.stub, Row::named(names))
+                || add(&mut rows.hints, Row::named(names))
+                || add(&mut rows.hint_steps, hint_steps::Row::named(names))
+                || add(&mut rows.class, Row::named(names))
+                || add(&mut rows.payload_reader, Row::named(names))
+                || add(&mut rows.payload_writer, Row::named(names));
             if !is_there {
                 return Err(format!("no call has both names of the row: {predicate}, {change}"));
             }
@@ -256,23 +288,28 @@ impl Differences {
     }
 
     pub fn reader(&self, case: &reader::Case, world: &World) -> Result<reader::Answer, Difference> {
-        expected(&self.reader, case, world)
+        expected(&self.reader, &mut case.clone(), world)
     }
 
     pub fn fixup(&self, case: &fixup::Case, world: &World) -> Result<fixup::Answer, Difference> {
-        expected(&self.fixup, case, world)
+        expected(&self.fixup, &mut case.clone(), world)
     }
 
     pub fn stub(&self, case: &stub::Case, world: &World) -> Result<stub::Answer, Difference> {
-        expected(&self.stub, case, world)
+        expected(&self.stub, &mut case.clone(), world)
     }
 
     pub fn hints(&self, case: &hints::Case, world: &World) -> Result<hints::Answer, Difference> {
-        expected(&self.hints, case, world)
+        let mut asked = case.clone();
+        let answer = expected(&self.hints, &mut asked, world)?;
+        match answer.number {
+            0 => hint_steps::expected(&self.hint_steps, &asked, answer, world),
+            _ => Ok(answer),
+        }
     }
 
     pub fn class(&self, case: &class::Case, world: &World) -> Result<class::Answer, Difference> {
-        expected(&self.class, case, world)
+        expected(&self.class, &mut case.clone(), world)
     }
 
     pub fn payload_reader(
@@ -280,7 +317,7 @@ impl Differences {
         case: &payload_reader::Case,
         world: &World,
     ) -> Result<payload_reader::Answer, Difference> {
-        expected(&self.payload_reader, case, world)
+        expected(&self.payload_reader, &mut case.clone(), world)
     }
 
     pub fn payload_writer(
@@ -288,24 +325,28 @@ impl Differences {
         case: &payload_writer::Case,
         world: &World,
     ) -> Result<payload_writer::Answer, Difference> {
-        expected(&self.payload_writer, case, world)
+        expected(&self.payload_writer, &mut case.clone(), world)
     }
 
     /// The rows' counts so far.
     pub fn counts(&self) -> Vec<Count<'_>> {
-        let first = self.reader.iter().map(Row::count).chain(self.fixup.iter().map(Row::count));
-        let then = self.stub.iter().map(Row::count).chain(self.hints.iter().map(Row::count));
-        let last = self.class.iter().map(Row::count).chain(self.payload_reader.iter().map(Row::count));
-        first.chain(then).chain(last).chain(self.payload_writer.iter().map(Row::count)).collect()
+        fn met<C: Call>(rows: &[Row<C>]) -> impl Iterator<Item = &Met> {
+            rows.iter().map(|row| &row.met)
+        }
+        let first = met(&self.reader).chain(met(&self.fixup)).chain(met(&self.stub)).chain(met(&self.hints));
+        let then = self.hint_steps.iter().map(|row| &row.met).chain(met(&self.class));
+        first.chain(then).chain(met(&self.payload_reader)).chain(met(&self.payload_writer)).map(Met::count).collect()
     }
 
-    /// A line for each row, and the names of those that changed nothing.
+    /// A line for each row, and the names of those that changed too little.
     pub fn show(&self) -> (String, Vec<String>) {
         let mut text = String::from("Expected differences\n");
         let mut idle = Vec::new();
-        for Count { name, reached, changed } in self.counts() {
-            text += &format!("  {name}: holds in {reached} cases, changes {changed} answers\n");
-            if changed == 0 {
+        for row in self.counts() {
+            let Count { name, of, reached, changed } = row;
+            let of = if of == Of::Cases { "cases" } else { "hints" };
+            text += &format!("  {name}: holds in {reached} {of}, changes {changed} of them\n");
+            if !row.is_met() {
                 idle.push(format!("expected difference {name}"));
             }
         }

@@ -15,7 +15,7 @@ pub fn groups() -> Vec<Group> {
     let classed = CLASSED.len() as u64;
     vec![
         Group::new("hints/classes", classed * 1024 * 4 * 3, 40_000, classes),
-        Group::new("hints/limits", LIMITED.len() as u64 * 47 * 6 * 4 * 2, 20_000, limits),
+        Group::new("hints/limits", measured().len() as u64 * 47 * 6 * 4 * 2, 26_000, limits),
         Group::new("hints/entries", 8 * 12 * 12 * 3 * 4, 13_824, entries),
         Group::new("hints/registers", 256 * 8 * 2 * 2 * 2, 8_000, registers),
         Group::new("hints/counts", 256 * 256, 8_000, counts),
@@ -24,6 +24,7 @@ pub fn groups() -> Vec<Group> {
         Group::new("hints/bounds", 2 * 2 * 9 * 23 * 22 * 21, 20_000, bounds),
         Group::new("hints/absent", 216 * 3 * 2 * 2 * 4 * 2, 10_000, absent),
         Group::new("hints/lengths", 201 * 61, 2_000, lengths),
+        Group::new("hints/one-adrp", 2 * 2 * 5 * 2 * 3 * SECONDS.len() as u64 * 2 * 2 * 3, 8_000, one_adrp),
         Group::new("hints/overlaps", 300_000, 10_000, overlaps),
         Group::new("hints/lists", 600_000, 20_000, lists),
         Group::new("hints/damaged", 600_000, 20_000, damaged),
@@ -64,7 +65,7 @@ fn place_at(shape: &mut Shape, distance: usize) {
     match distance {
         0 => {}
         1 => shape.addresses[last] = shape.page - (1 << 21),
-        _ => shape.page += 1 << 28,
+        _ => shape.page = shape.page.wrapping_add(1 << 28),
     }
 }
 
@@ -116,10 +117,17 @@ pub const LIMITED: [(u8, Reach); 14] = [
     (8, Reach::Slot),
 ];
 
+/// Each of these by its number, and once more, with an offset in the access, those with an ADR before an access.
+fn measured() -> Vec<(usize, u32)> {
+    let has_offset = |&i: &usize| LIMITED[i].1 == Reach::Adr && word_count(LIMITED[i].0) == 3;
+    let all = 0..LIMITED.len();
+    all.clone().map(|i| (i, 0)).chain(all.filter(has_offset).map(|i| (i, 1))).collect()
+}
+
 /// Displacements around the limits of reach.
 fn limits(index: u64, world: &World, table: &mut Table) -> Verdict {
     let mut d = Digits(index);
-    let (rewrite, i) = (d.next(LIMITED.len()), d.next(47));
+    let ((rewrite, offset), i) = (d.pick(&measured()), d.next(47));
     let (kind, reach) = LIMITED[rewrite];
     let far = [1 << 21, -(1 << 21), 1 << 31, -(1 << 31), 1 << 32, 1 << 62, i64::MAX, i64::MIN];
     let distance = match i {
@@ -133,6 +141,7 @@ fn limits(index: u64, world: &World, table: &mut Table) -> Verdict {
     let loads = [LOADS.as_slice(), &[LDRSW]].concat();
     shape.class = if [5, 6].contains(&kind) { STORES[class.min(4)] } else { loads[class] };
     shape.addresses = [0, 4, 8].map(|n| base.wrapping_add(n));
+    shape.immediates[1] = offset;
     measure(&mut shape, reach, distance, d.pick(&[1 << 22, 0x100]));
     check(&shape.case(), world, table)?;
     if i < 39 {
@@ -158,7 +167,10 @@ fn measure(shape: &mut Shape, reach: Reach, distance: i64, other: u64) {
         }
         Reach::Adr => {
             let target = shape.addresses[0].wrapping_add_signed(distance);
-            (shape.page, shape.immediates[0]) = (target & !0xfff, target as u32 & 0xfff);
+            // Kinds 3 and 5 measure to what is accessed, the others to what the ADD makes.
+            let offset = if [3, 5].contains(&shape.kind) { u64::from(shape.immediates[1]) * shape.size() } else { 0 };
+            let made = target.wrapping_sub(offset);
+            (shape.page, shape.immediates[0]) = (made & !0xfff, made as u32 & 0xfff);
             if last == 2 {
                 shape.addresses[2] = target.wrapping_sub(other);
             }
@@ -217,12 +229,13 @@ fn counts(index: u64, world: &World, table: &mut Table) -> Verdict {
     Ok(())
 }
 
-/// Folds of every immediate into accesses of each size, with offsets of their own.
+/// Folds of every immediate into accesses of each size, with offsets of their own. Of those without, ADRP_ADD_LDR and
+/// ADRP_ADD_STR have some in reach of an ADR.
 fn folds(index: u64, world: &World, table: &mut Table) -> Verdict {
     let mut d = Digits(index);
     let (immediate, size, kind, offset) = (d.next(4096), d.next(5), d.next(4), d.next(6));
     let mut shape = Shape { is_relaxed: true, ..Shape::new(3 + kind as u8) };
-    shape.page += 1 << 28;
+    place_at(&mut shape, if offset == 1 && kind % 2 == 0 { 1 } else { 2 });
     shape.class = if d.next(2) == usize::from(kind > 1) { LOADS[size] } else { STORES[size] };
     let left = (4096 - immediate as u32) / shape.size() as u32;
     let random = Rng::new("hints/folds", index).word() & 0xfff;
@@ -368,6 +381,79 @@ fn lengths(index: u64, world: &World, table: &mut Table) -> Verdict {
     check(&case, world, table).map(|_| ())
 }
 
+/// A second hint that names the ADRP of a first one.
+#[derive(Clone, Copy)]
+struct Second {
+    kind: u8,
+    offsets: [u32; 3],
+    /// How far the page of its own ADRP, if it has one, is from the first hint's.
+    page: u64,
+    /// Whether the ADRP makes the last page, and the hint's own offset passes the end.
+    is_past_end: bool,
+}
+
+const fn second(kind: u8, offsets: [u32; 3], page: u64) -> Second {
+    Second { kind, offsets, page, is_past_end: false }
+}
+
+const fn past_end(kind: u8) -> Second {
+    Second { kind, offsets: APART, page: 0, is_past_end: true }
+}
+
+const APART: [u32; 3] = [4, 16, 20];
+
+/// ADRP_ADRP with an ADRP before or after the first hint's; a hint of another kind with words of its own, in the end one
+/// over the last byte of the first hint's access; and hints that 9 turns down.
+const SECONDS: [Second; 12] = [
+    second(1, [0, 4, 20], 0),
+    second(1, [0, 4, 20], 0x1000),
+    second(1, APART, 0),
+    second(1, APART, 0x1000),
+    second(2, APART, 0),
+    second(3, APART, 0),
+    second(5, APART, 0),
+    second(7, APART, 0),
+    second(7, [4, 15, 20], 0),
+    past_end(2),
+    past_end(3),
+    past_end(5),
+];
+
+/// ADRP, ADD and an access, and a second hint that names the ADRP.
+fn one_adrp(index: u64, world: &World, table: &mut Table) -> Verdict {
+    let mut d = Digits(index);
+    let mut first = Shape::new(d.pick(&[3, 5]));
+    first.class = d.pick(&[LOADS, STORES])[d.next(5)];
+    first.immediates[1] = d.next(2) as u32;
+    let (distance, Second { kind, offsets, page, is_past_end }) = (d.next(3), d.pick(&SECONDS));
+    let base = if is_past_end { 0x5000u64.wrapping_neg() } else { BASE };
+    (first.page, first.addresses) = (base + 0x4000, [base, base + 4, base + 8]);
+    place_at(&mut first, distance);
+    let mut other = Shape { page: first.page.wrapping_add(page), ..Shape::new(kind) };
+    other.addresses = offsets.map(|offset| base - 4 + u64::from(offset));
+    if is_past_end {
+        other.immediates[usize::from(kind != 2)] = 0xfff;
+    }
+    (other.adrp, other.second[0]) = d.pick(&[(1, 1), (2, 2)]);
+    let mut image = bytes(&[NOP; 6]);
+    let mut entries = Vec::new();
+    let mut laid = |shape: &Shape, offsets: [u32; 3]| {
+        let mut places = places(&shape.named(), &mut entries);
+        for ((place, offset), word) in places.iter_mut().zip(offsets).zip(shape.words()) {
+            place.offset = offset;
+            image[offset as usize..][..4].copy_from_slice(&word.to_le_bytes());
+        }
+        let words = word_count(shape.kind) as u8;
+        HintRecord { kind: shape.kind, words, length: 24, places, ..HintRecord::default() }
+    };
+    // The first hint's words stand in the end, where both have one.
+    let second = laid(&other, offsets);
+    let mut list = [laid(&first, [4, 8, 12]), second];
+    list.swap(0, d.next(2));
+    (list[0].object, list[1].object) = d.pick(&[(0, 0), (0, 1), (1, 0)]);
+    check(&Case::new(image, &list, &entries), world, table).map(|_| ())
+}
+
 /// A hint whose words share bytes: each is laid over those before it, where its bytes can be theirs.
 fn overlaps(index: u64, world: &World, table: &mut Table) -> Verdict {
     let mut rng = Rng::new("hints/overlaps", index);
@@ -375,11 +461,14 @@ fn overlaps(index: u64, world: &World, table: &mut Table) -> Verdict {
     if shape.kind == 1 && rng.one_in(2) {
         shape.addresses[1] = shape.addresses[0];
     }
+    let shifts = [0; 2].map(|_| rng.pick(&[0, 1, 2, 3, 3, 4, 4]));
+    if shape.kind != 1 && rng.one_in(2) {
+        link_by_shared_byte(&mut rng, &mut shape, shifts);
+    }
     let mut case = shape.case();
     let mut list = case.list();
-    let count = word_count(shape.kind);
-    for i in 1..count {
-        list[0].places[i].offset = list[0].places[i - 1].offset + rng.pick(&[0, 1, 2, 3, 3, 4, 4]) as u32;
+    for i in 1..word_count(shape.kind) {
+        list[0].places[i].offset = list[0].places[i - 1].offset + shifts[i - 1];
     }
     for (i, word) in shape.words().into_iter().enumerate() {
         let at = 4 + list[0].places[i].offset as usize;
@@ -395,6 +484,19 @@ fn overlaps(index: u64, world: &World, table: &mut Table) -> Verdict {
     }
     case.set_list(&list);
     check(&case, world, table).map(|_| ())
+}
+
+/// Takes registers that link a word to the next one, where that begins with the last byte of the first.
+fn link_by_shared_byte(rng: &mut Rng, shape: &mut Shape, shifts: [u32; 2]) {
+    let registers = |rng: &mut Rng, byte: u32| [byte >> 5 | rng.word() & 0x18, byte & 0x1f];
+    let words = shape.words();
+    if shifts[0] == 3 {
+        shape.second = registers(rng, words[0] >> 24);
+        (shape.adrp, shape.third[0]) = (shape.second[0], shape.second[1]);
+    } else if shifts[1] == 3 {
+        shape.third = registers(rng, words[1] >> 24);
+        shape.second[1] = shape.third[0];
+    }
 }
 
 /// A shape of some kind, mostly one that its rule rewrites.

@@ -1,4 +1,5 @@
-//! How a single hint ends, told from its words, addresses and entries: for the rows of the table alone.
+//! How a single hint ends, told from its words, addresses and entries: for the rows of the table alone. What it reads in
+//! a word serves hint_steps.rs, too.
 
 use hauklivo::Reloc;
 
@@ -6,14 +7,15 @@ use hauklivo::Reloc;
 #[derive(Clone, Copy, Debug, PartialEq)]
 #[rustfmt::skip]
 pub enum Way {
-    SecondAdrp, Literal, Adr, AdrSmall, AdrStore, AdrUnaligned, AdrLoadFar, Fold, FoldStore, SlotLiteral,
+    SecondAdrp, Literal, Adr, AdrSmall, AdrStore, AdrUnaligned, AdrLoadFar, Fold, FoldStore, FoldNear, FoldNearStore,
+    SlotLiteral,
     FirstSum, SecondSum,
     FirstEntry, SecondEntry, Targets, Addends, ThirdEntry,
     NoAdrp, NoSecond, NoAccess, NoStore, NoGotLoad, FirstLink, SecondLink, Pages,
     NoLiteralForm, Unaligned, Far, FarSlot, FarEnd, FoldUnaligned, FoldOffset,
 }
 
-pub const HINT_WAYS: [&str; 32] = [
+pub const HINT_WAYS: [&str; 34] = [
     "rewritten: the second ADRP is NOP",
     "rewritten: a literal load",
     "rewritten: ADR",
@@ -21,8 +23,10 @@ pub const HINT_WAYS: [&str; 32] = [
     "rewritten: ADR, a store",
     "rewritten: ADR, no multiple of 4",
     "rewritten: ADR, out of the load's reach",
-    "rewritten: ADD folded",
-    "rewritten: ADD folded into a store",
+    "rewritten: ADD folded, out of ADR's reach",
+    "rewritten: ADD folded into a store, out of ADR's reach",
+    "rewritten: ADD folded, in ADR's reach",
+    "rewritten: ADD folded into a store, in ADR's reach",
     "rewritten: a literal load of the slot",
     "9: page and offset",
     "9: address and the access's offset",
@@ -52,10 +56,15 @@ impl Way {
     /// 0 rewritten, 2 declined, 3 turned down by 9.
     pub fn outcome(self) -> usize {
         match self as usize {
-            0..10 => 0,
-            10 | 11 => 3,
+            0..12 => 0,
+            12 | 13 => 3,
             _ => 2,
         }
+    }
+
+    /// Whether the Rust has ADR in place of this fold.
+    pub fn is_fold_near(self) -> bool {
+        [Way::FoldNear, Way::FoldNearStore].contains(&self)
     }
 }
 
@@ -66,12 +75,15 @@ pub fn can_end(way: usize, kind: usize) -> bool {
     let ways: &[Way] = match kind {
         1 => &[SecondAdrp, Pages],
         2 => &[Literal, FirstSum, NoLiteralForm, Far],
-        3 => &[Literal, AdrSmall, AdrStore, AdrUnaligned, AdrLoadFar, Fold, FoldStore, FoldUnaligned, FoldOffset],
+        3 => &[
+            Literal, AdrSmall, AdrStore, AdrUnaligned, AdrLoadFar, Fold, FoldStore, FoldNear, FoldNearStore,
+            FoldUnaligned, FoldOffset,
+        ],
         4 => &[
             Literal, AdrSmall, AdrStore, AdrUnaligned, AdrLoadFar, Fold, FoldStore, FoldUnaligned, FoldOffset,
             SlotLiteral, FirstSum, Unaligned, FarSlot, FarEnd, NoGotLoad,
         ],
-        5 => &[Adr, Fold, NoStore, FoldUnaligned, FoldOffset],
+        5 => &[Adr, Fold, FoldNear, NoStore, FoldUnaligned, FoldOffset],
         6 => &[
             Adr, Fold, NoStore, FoldUnaligned, FoldOffset, SlotLiteral, FirstSum, Unaligned, FarSlot, FarEnd, NoGotLoad,
         ],
@@ -108,15 +120,15 @@ pub fn is_add(word: u32) -> bool {
     word >> 22 == 0x244
 }
 
-fn destination(word: u32) -> u32 {
+pub fn destination(word: u32) -> u32 {
     word & 31
 }
 
-fn base(word: u32) -> u32 {
+pub fn base(word: u32) -> u32 {
     word >> 5 & 31
 }
 
-fn immediate(word: u32) -> u64 {
+pub fn immediate(word: u32) -> u64 {
     u64::from(word >> 10 & 0xfff)
 }
 
@@ -133,6 +145,11 @@ pub fn access(word: u32) -> Option<(u64, bool)> {
     }
 }
 
+/// Whether a word is a load of 4 bytes or more.
+pub fn has_literal_form(word: u32) -> bool {
+    access(word).is_some_and(|(size, is_store)| size >= 4 && !is_store)
+}
+
 /// Whether a type is a page's, of a GOT slot's alone if `got`.
 fn is_page(entry: Option<Reloc>, got: bool) -> bool {
     entry.is_some_and(|e| [5, 8].contains(&e.ty) || e.ty == 3 && !got)
@@ -143,7 +160,7 @@ fn is_page_offset(entry: Option<Reloc>, got: bool) -> bool {
 }
 
 /// Why the entries are no page and page offset of one reference.
-fn unpaired(n: &[Named], got: bool) -> Option<Way> {
+pub fn unpaired(n: &[Named], got: bool) -> Option<Way> {
     let (a, b) = (n[0].entry, n[1].entry);
     if !is_page(a, got) {
         return Some(Way::FirstEntry);
@@ -160,7 +177,7 @@ fn unpaired(n: &[Named], got: bool) -> Option<Way> {
     (n.len() > 2 && n[2].entry.is_some()).then_some(Way::ThirdEntry)
 }
 
-fn is_near(from: u64, to: u64) -> bool {
+pub fn is_near(from: u64, to: u64) -> bool {
     (to.wrapping_sub(from) as i64).unsigned_abs() < 1 << 20
 }
 
@@ -226,28 +243,31 @@ fn adrp_add_access(n: &[Named], stores: bool) -> Ended {
     let address = page_of(&n[0]) + immediate(n[1].word);
     let offset = immediate(n[2].word) * size;
     let target = address.checked_add(offset).ok_or(Way::SecondSum)?;
-    if let Some(way) = literal_or_adr(n, target % 4 == 0, target, target, stores) {
-        return Ok(way);
-    }
+    let is_aligned = target.is_multiple_of(4);
+    when(has_literal_form(n[2].word) && is_aligned && is_near(n[2].address, target), Way::Literal)?;
+    let reaches = is_near(n[0].address, target);
+    let folds = address.is_multiple_of(size) && offset == 0;
+    when(reaches && !folds, adr(n, is_aligned, stores))?;
     when(!address.is_multiple_of(size), Way::FoldUnaligned)?;
     when(offset != 0, Way::FoldOffset)?;
-    Ok(if is_store && !stores { Way::FoldStore } else { Way::Fold })
+    Ok(match (reaches, is_store && !stores) {
+        (false, false) => Way::Fold,
+        (false, true) => Way::FoldStore,
+        (true, false) => Way::FoldNear,
+        (true, true) => Way::FoldNearStore,
+    })
 }
 
-/// A literal load of `target`, or an ADR of `address`, if one of the two reaches.
-fn literal_or_adr(n: &[Named], is_aligned: bool, target: u64, address: u64, stores: bool) -> Option<Way> {
-    let (size, is_store) = access(n[2].word)?;
-    let has_form = !is_store && size >= 4 && !stores;
-    if has_form && is_aligned && is_near(n[2].address, target) {
-        return Some(Way::Literal);
-    }
-    is_near(n[0].address, address).then_some(match (stores, is_store, has_form) {
+/// An ADR, by why it is no literal load.
+fn adr(n: &[Named], is_aligned: bool, stores: bool) -> Way {
+    let is_store = access(n[2].word).is_some_and(|(_, is_store)| is_store);
+    match (stores, is_store, has_literal_form(n[2].word)) {
         (true, ..) => Way::Adr,
         (_, true, _) => Way::AdrStore,
         (_, _, false) => Way::AdrSmall,
         _ if !is_aligned => Way::AdrUnaligned,
         _ => Way::AdrLoadFar,
-    })
+    }
 }
 
 fn got(n: &[Named], kind: u8) -> Ended {
@@ -289,14 +309,30 @@ fn relaxed(n: &[Named], kind: u8, target: u64) -> Ended {
     let (size, is_store) = access(n[2].word).ok_or(Way::NoAccess)?;
     let offset = immediate(n[2].word) * size;
     let stores = kind == 6;
-    let mut end = target;
-    if !stores && !is_store && size >= 4 && target.is_multiple_of(4) {
-        end = target.checked_add(offset).ok_or(Way::SecondSum)?;
+    let is_aligned = target.is_multiple_of(4);
+    if has_literal_form(n[2].word) && is_aligned {
+        let end = target.checked_add(offset).ok_or(Way::SecondSum)?;
+        when(is_near(n[2].address, end), Way::Literal)?;
     }
-    if let Some(way) = literal_or_adr(n, target.is_multiple_of(4), end, target, stores) {
-        return Ok(way);
-    }
+    when(is_near(n[0].address, target), adr(n, is_aligned, stores))?;
     when(!target.is_multiple_of(size), Way::FoldUnaligned)?;
     when(if stores { offset != 0 } else { immediate(n[1].word) + offset >= 4096 }, Way::FoldOffset)?;
     Ok(if is_store && !stores { Way::FoldStore } else { Way::Fold })
+}
+
+/// The rows and columns of the table of ADRP_ADD_LDR and ADRP_ADD_STR in reach of an ADR, where it is no literal load.
+pub const IN_REACH: [&str; 3] = ["ADRP_ADD_LDR, a load", "ADRP_ADD_LDR, a store", "ADRP_ADD_STR"];
+pub const FOLD_OR_ADR: [&str; 7] = ["1", "2", "4", "8", "16", "offset", "unaligned"];
+
+/// Row and column of a hint of these kinds that ends in a fold, of so many bytes, or in an ADR: of an access with an offset
+/// of its own, or of an address that is no multiple of the bytes moved.
+pub fn in_reach(kind: u8, n: &[Named], way: Way) -> Option<(usize, usize)> {
+    let (size, is_store) = access(n.get(2)?.word)?;
+    let row = if kind == 5 { 2 } else { usize::from(is_store) };
+    let is_adr = [Way::Adr, Way::AdrSmall, Way::AdrStore, Way::AdrUnaligned, Way::AdrLoadFar].contains(&way);
+    match (kind, way) {
+        (3 | 5, way) if way.is_fold_near() => Some((row, size.ilog2() as usize)),
+        (3 | 5, _) if is_adr => Some((row, if immediate(n[2].word) != 0 { 5 } else { 6 })),
+        _ => None,
+    }
 }

@@ -5,7 +5,7 @@ use std::collections::{BTreeMap, BTreeSet};
 use hauklivo::{HintInsn, HintRecord, Record, Reloc, raw};
 
 use crate::answers::{HINTS, record};
-use crate::hint_ways::{Named, way};
+use crate::hint_ways::{Named, in_reach, way};
 use crate::lent::{Lent, hex};
 use crate::rows::{HINT_NUMBERS, HintList, Rows};
 use crate::table::Table;
@@ -39,6 +39,9 @@ pub struct Case {
     pub entries: Vec<u8>,
 }
 
+/// The outcome of a hint that is rewritten.
+pub const REWRITTEN: usize = 0;
+
 /// What a run leaves: the number, the image's bytes, the tally, and how each hint of the list ended
 /// (0 rewritten, 1 skipped, 2 declined, 3 turned down by 9).
 #[derive(Clone, PartialEq)]
@@ -47,7 +50,9 @@ pub struct Answer {
     pub image: Vec<u8>,
     pub tally: [u32; 4],
     pub outcomes: Vec<usize>,
-    /// Whether the Rust's own walk came to the same.
+    /// Of which hints a row of docs/DIFFERENCES.md says how they end; empty where of none.
+    pub by_row: Vec<bool>,
+    /// Whether the Rust's own walk came to the same as its rules hint by hint.
     pub by_own_walk: bool,
 }
 
@@ -69,10 +74,11 @@ impl Case {
     }
 
     fn refused(&self, number: u8) -> Answer {
-        Answer { number, image: self.image.clone(), tally: TALLY, outcomes: Vec::new(), by_own_walk: false }
+        let (image, outcomes, by_row) = (self.image.clone(), Vec::new(), Vec::new());
+        Answer { number, image, tally: TALLY, outcomes, by_row, by_own_walk: false }
     }
 
-    fn show(&self) -> String {
+    pub fn show(&self) -> String {
         let Self { image, hints, entries } = self;
         let hints: String = hints.chunks(HintRecord::SIZE).map(|h| format!("\n    hint {}", hex(h))).collect();
         format!("apply_hints: image {}{hints}\n    entries {}", hex(image), hex(entries))
@@ -92,7 +98,14 @@ pub fn rust(case: &Case, world: &World) -> Result<Answer, Difference> {
     let run = |hints: &[u8]| {
         let mut image = case.image.clone();
         let done = (world.oracle.apply_hints)(&mut image, hints, &case.entries);
-        done.map(|run| Answer { number: 0, image, tally: run.tally, outcomes: run.outcomes, by_own_walk: false })
+        done.map(|run| Answer {
+            number: 0,
+            image,
+            tally: run.tally,
+            outcomes: run.outcomes,
+            by_row: Vec::new(),
+            by_own_walk: false,
+        })
     };
     let stop = match run(&case.hints) {
         Ok(answer) => return linked(case, answer, world),
@@ -194,23 +207,29 @@ fn record_answer(case: &Case, answer: &Answer, table: &mut Table) {
     }
     record_order(&list, &mut hit);
     record_sharing(&list, &mut hit);
+    record_folds(&list, answer, &mut hit);
     if let [hint] = list[..]
         && !is_skipped(&hint)
     {
-        let way = way(hint.kind, &named(case, &hint));
-        assert!(way.outcome() == answer.outcomes[0], "the table's row {way:?} of {}", case.show());
+        let words = named(&case.image, &case.entries, &hint);
+        let way = way(hint.kind, &words);
+        let is_due = way.outcome() == answer.outcomes[0] && way.is_fold_near() == answer.by_row.contains(&true);
+        assert!(is_due, "the table's row {way:?} of {}", case.show());
         table.hit_cell(Rows::HintWay as usize, way as usize, hint.kind as usize - 1);
+        if let Some((row, column)) = in_reach(hint.kind, &words, way) {
+            table.hit_cell(Rows::HintInReach as usize, row, column);
+        }
     }
 }
 
-/// The words of a hint as they stand in the lent image.
-fn named(case: &Case, hint: &HintRecord) -> Vec<Named> {
+/// The words of a hint as they stand in an image.
+pub fn named(image: &[u8], entries: &[u8], hint: &HintRecord) -> Vec<Named> {
     let one = |p: &HintInsn| {
         let at = hint.start as usize + p.offset as usize;
-        let word = u32::from_le_bytes(case.image[at..at + 4].try_into().expect("4 bytes"));
+        let word = u32::from_le_bytes(image[at..at + 4].try_into().expect("4 bytes"));
         let entry = (p.entry != HintInsn::WITHOUT_ENTRY).then(|| {
             let at = 24 * p.entry as usize;
-            Reloc::from_bytes(&case.entries[at..at + 24]).expect("an entry")
+            Reloc::from_bytes(&entries[at..at + 24]).expect("an entry")
         });
         Named { word, address: p.address, entry }
     };
@@ -243,8 +262,7 @@ fn record_order(list: &[HintRecord], hit: &mut impl FnMut(HintList)) {
 fn record_sharing(list: &[HintRecord], hit: &mut impl FnMut(HintList)) {
     let mut before: BTreeMap<u64, usize> = BTreeMap::new();
     for (i, hint) in list.iter().enumerate() {
-        for p in looked_at(hint) {
-            let at = u64::from(hint.start) + u64::from(p.offset);
+        for at in starts(hint) {
             for (&other, &of) in before.range(at.saturating_sub(3)..at + 4) {
                 hit(match (other == at, of == i) {
                     (true, true) => HintList::SameWord,
@@ -254,6 +272,46 @@ fn record_sharing(list: &[HintRecord], hit: &mut impl FnMut(HintList)) {
                 });
             }
             before.insert(at, i);
+        }
+    }
+}
+
+/// Where the words that a hint looks at stand in the image.
+fn starts(hint: &HintRecord) -> Vec<u64> {
+    looked_at(hint).iter().map(|p| u64::from(hint.start) + u64::from(p.offset)).collect()
+}
+
+fn distances(some: &[u64], others: &[u64]) -> impl Iterator<Item = u64> {
+    some.iter().flat_map(|a| others.iter().map(|b| a.abs_diff(*b)))
+}
+
+/// Folds that a row of docs/DIFFERENCES.md has in place of the Rust's ADR, and hints that share words with them.
+fn record_folds(list: &[HintRecord], answer: &Answer, hit: &mut impl FnMut(HintList)) {
+    let is_fold = |i: usize| answer.by_row.get(i) == Some(&true);
+    if answer.by_row.contains(&true) && answer.tally[3] > 0 {
+        hit(HintList::FoldAndNine);
+    }
+    for i in (0..list.len()).filter(|&i| is_fold(i)) {
+        let own = starts(&list[i]);
+        if distances(&own, &own).any(|d| (1..4).contains(&d)) {
+            hit(HintList::FoldOverlap);
+        }
+        for j in (0..list.len()).filter(|&j| j != i) {
+            let others = starts(&list[j]);
+            if distances(&own, &others).any(|d| d == 0) {
+                hit(HintList::FoldSharedWord);
+            }
+            if distances(&own, &others).any(|d| (1..4).contains(&d)) {
+                hit(HintList::FoldSharedBytes);
+            }
+            let is_later = list[j].kind == 1 && list[j].object >= list[i].object;
+            match answer.outcomes[j] {
+                _ if !others.contains(&own[0]) => {}
+                0 if is_later => hit(HintList::FoldThenDropped),
+                2 if is_later => hit(HintList::FoldThenDeclined),
+                _ if is_fold(j) && others[0] == own[0] => hit(HintList::FoldsOfOneAdrp),
+                _ => {}
+            }
         }
     }
 }

@@ -11,6 +11,7 @@ mod fixup;
 mod fixup_groups;
 mod hint_groups;
 mod hint_shape;
+mod hint_steps;
 mod hint_ways;
 mod hints;
 mod lent;
@@ -85,4 +86,36 @@ struct Difference {
     input: String,
     port: String,
     expected: String,
+}
+
+/// What is expected of the port: what the Rust does, but for the rows of docs/DIFFERENCES.md.
+pub struct Expected<'a> {
+    oracle: &'a Oracle,
+    differences: differences::Differences,
+}
+
+/// What is expected of a hint run.
+pub struct ExpectedRun {
+    pub number: u8,
+    pub tally: [u32; 4],
+    /// Whether the Rust's own walk over the hints can say them, with none turned down by 9, and came to the same as its
+    /// rules hint by hint.
+    pub by_own_walk: bool,
+}
+
+impl<'a> Expected<'a> {
+    /// From the text of docs/DIFFERENCES.md.
+    pub fn new(oracle: &'a Oracle, document: &str) -> Result<Self, String> {
+        Ok(Self { oracle, differences: differences::Differences::read(document)? })
+    }
+
+    /// Runs the hints of whole lists, or says what is wrong with the Rust's run.
+    pub fn apply_hints(&self, image: &mut [u8], hints: &[u8], entries: &[u8]) -> Result<ExpectedRun, String> {
+        let case = hints::Case { image: image.to_vec(), hints: hints.to_vec(), entries: entries.to_vec() };
+        let world = World { oracle: self.oracle, differences: &self.differences };
+        let wrong = |d: Difference| format!("{}\n  port     {}\n  expected {}", d.input, d.port, d.expected);
+        let due = self.differences.hints(&case, &world).map_err(wrong)?;
+        image.copy_from_slice(&due.image);
+        Ok(ExpectedRun { number: due.number, tally: due.tally, by_own_walk: due.by_own_walk })
+    }
 }

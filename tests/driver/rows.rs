@@ -1,7 +1,7 @@
 //! The blocks of the table, and what each row is.
 
 use crate::hint_groups::{CLASSED, LIMITED};
-use crate::hint_ways::{HINT_WAYS, can_end};
+use crate::hint_ways::{FOLD_OR_ADR, HINT_WAYS, IN_REACH, can_end};
 use crate::table::Block;
 
 /// The blocks, in the order in which they are shown.
@@ -29,6 +29,7 @@ pub enum Rows {
     HintNumber,
     HintKind,
     HintWay,
+    HintInReach,
     HintBound,
     HintList,
     HintClass,
@@ -251,9 +252,13 @@ fn hint_outcome(kind: usize, outcome: usize) -> bool {
 /// What a list of hints is.
 #[derive(Clone, Copy)]
 #[rustfmt::skip]
-pub enum HintList { Empty, OwnWalk, Objects, Falling, Mixed, AdrpAdrpFirst, SameWord, Overlap, SharedWord, SharedBytes }
+pub enum HintList {
+    Empty, OwnWalk, Objects, Falling, Mixed, AdrpAdrpFirst, SameWord, Overlap, SharedWord, SharedBytes,
+    FoldOverlap, FoldSharedWord, FoldSharedBytes, FoldsOfOneAdrp, FoldThenDropped, FoldThenDeclined,
+    FoldAndNine,
+}
 
-const HINT_LISTS: [&str; 10] = [
+const HINT_LISTS: [&str; 17] = [
     "empty list",
     "walked by the Rust's own apply_hints",
     "several objects",
@@ -264,6 +269,13 @@ const HINT_LISTS: [&str; 10] = [
     "a hint whose words overlap",
     "hints that share a word",
     "hints whose words overlap",
+    "a fold in ADR's reach, its words overlap",
+    "a fold in ADR's reach, a word shared with another hint",
+    "a fold in ADR's reach, bytes shared with another hint",
+    "two folds in ADR's reach, of one ADRP",
+    "a fold in ADR's reach, then ADRP_ADRP of its ADRP: rewritten",
+    "a fold in ADR's reach, then ADRP_ADRP of its ADRP: declined",
+    "a fold in ADR's reach, and a hint turned down by 9",
 ];
 
 pub const HINT_BOUNDS: [&str; 10] = [
@@ -380,6 +392,12 @@ pub fn blocks() -> Vec<Block> {
             hint_outcome,
         ),
         Block::grid("Hints, single hints by kind", HINT_WAYS, 1..9, |way, i| can_end(way, i + 1)),
+        Block::grid(
+            "Hints, single hints in reach of an ADR: a fold by its bytes, or ADR by why no fold",
+            IN_REACH,
+            FOLD_OR_ADR,
+            all,
+        ),
         Block::list("Hints, bounds", HINT_BOUNDS),
         Block::list("Hints, lists", HINT_LISTS),
         Block::condensed("Hints, classes of bits 31..22 as each word of each kind", CLASSED.len() * 1024),

@@ -1,5 +1,7 @@
 //! Real objects: the port against the unchanged Rust, and both against the LLVM tools.
 
+#[path = "../driver/binding.rs"]
+mod binding;
 mod linking;
 mod llvm;
 mod reading;
@@ -36,7 +38,7 @@ fn main() -> ExitCode {
     }
     table.print();
     let missing = table.missing();
-    missing.iter().for_each(|kind| println!("NO HINT of kind {kind}"));
+    missing.iter().for_each(|hint| println!("NO HINT: {hint}"));
     println!("{} objects, {differences} differences, {} kinds of hint missing", files.len(), missing.len());
     match differences == 0 && missing.is_empty() && !files.is_empty() {
         true => ExitCode::SUCCESS,

@@ -1,8 +1,14 @@
-//! The calls of the unchanged Rust.
+//! The calls of the unchanged Rust, and its hint run with the rows of docs/DIFFERENCES.md.
 
+use std::fs;
+use std::sync::LazyLock;
+
+use driver::Expected;
 use oracle::Stop;
 use relink::Calls;
 use relink::hauklivo::{HintRecord, MachRel, Record, Refusal, Reloc, Report, Resolved, Tally};
+
+use crate::binding::ORACLE;
 
 pub const RUST: Calls = Calls {
     read_relocs,
@@ -54,20 +60,18 @@ fn apply_reloc_alloc(
     }
 }
 
-fn apply_hints(image: &mut [u8], hints: &[HintRecord], entries: &[Reloc]) -> Result<Tally, Refusal> {
-    match oracle::apply_hints(image, HintRecord::bytes(hints), Reloc::bytes(entries)) {
-        Ok(run) => {
-            let [rewritten, skipped, declined, turned_down] = run.tally;
-            Ok(Tally { rewritten, skipped, declined, turned_down })
-        }
-        Err(stop) => panic!("the hints of an object stop the Rust: {stop:?}"),
-    }
-}
+static EXPECTED: LazyLock<Expected> = LazyLock::new(|| {
+    let document = fs::read_to_string("docs/DIFFERENCES.md").expect("the page of differences");
+    Expected::new(&ORACLE, &document).expect("the table of differences")
+});
 
-/// The image after the Rust's own walk over the hints; None where that walk cannot say it.
-pub fn walked(image: &[u8], hints: &[HintRecord], entries: &[Reloc]) -> Option<Vec<u8>> {
-    let mut image = image.to_vec();
-    let done = oracle::apply_hints_linked(&mut image, HintRecord::bytes(hints), Reloc::bytes(entries))?;
-    done.expect("the hints of an object do not stop the Rust");
-    Some(image)
+/// The Rust's run, but for the rows of docs/DIFFERENCES.md. Its own walk over the hints must come to what its rules come to
+/// hint by hint.
+fn apply_hints(image: &mut [u8], hints: &[HintRecord], entries: &[Reloc]) -> Result<Tally, Refusal> {
+    let run = EXPECTED.apply_hints(image, HintRecord::bytes(hints), Reloc::bytes(entries));
+    let run = run.unwrap_or_else(|words| panic!("the hints of an object: {words}"));
+    assert_eq!(run.number, 0, "the hints of an object are refused");
+    assert!(run.by_own_walk, "the Rust's own walk cannot say the hints of an object");
+    let [rewritten, skipped, declined, turned_down] = run.tally;
+    Ok(Tally { rewritten, skipped, declined, turned_down })
 }

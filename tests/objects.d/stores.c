@@ -13,6 +13,7 @@ struct __attribute__((packed)) reading {
 };
 
 typedef unsigned long anywhere __attribute__((aligned(1)));
+typedef short half_anywhere __attribute__((aligned(1)));
 
 /* Sections of alignment 1. The first ones come to even places, the last one does not. */
 __attribute__((section("__DATA,__wire"))) struct reading reading = {1, 2.0};
@@ -30,6 +31,7 @@ long reading_signed(void) { return (int)reading.raw; }
 double reading_value(void) { return reading.value; }
 unsigned later_raw(void) { return readings[3].raw; }
 unsigned long any(void) { return *(anywhere *)&bytes[8]; }
+int any_half(void) { return *(half_anywhere *)&bytes[9]; }
 
 void set_code(unsigned short v) { frame.code = v; }
 void set_raw(unsigned v) { frame.raw = v; }

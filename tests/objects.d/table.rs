@@ -2,8 +2,8 @@
 
 use std::collections::{BTreeMap, BTreeSet};
 
-use relink::hauklivo::ReportKind;
-use relink::{Linked, Object, Outcome, kind_name, type_name};
+use relink::hauklivo::{ReportKind, kind};
+use relink::{Linked, Object, Outcome, Rewrite, kind_name, type_name};
 
 use crate::linking::{LAYOUTS, NamedLayout};
 
@@ -42,11 +42,21 @@ impl Table {
         }
     }
 
-    /// The hint kinds that no object has.
-    pub fn missing(&self) -> Vec<&'static str> {
+    /// The hint kinds that no object has; and of the kinds that fold before ADR, both of these where the data are near.
+    pub fn missing(&self) -> Vec<String> {
         let found: BTreeSet<_> = self.hints.keys().map(|row| row.0).collect();
         let kinds = (1..).map_while(|kind| Some((kind, kind_name(kind)?)));
-        kinds.filter(|(kind, _)| !found.contains(kind)).map(|(_, name)| name).collect()
+        let mut missing: Vec<String> =
+            kinds.filter(|(kind, _)| !found.contains(kind)).map(|(_, name)| name.into()).collect();
+        let near = LAYOUTS[0].name;
+        for kind in [kind::ADRP_ADD_LDR, kind::ADRP_ADD_STR].map(u64::from) {
+            for outcome in [Rewrite::Fold, Rewrite::Adr].map(Outcome::Rewritten) {
+                if self.hints.get(&(kind, outcome)).is_none_or(|row| !row.contains_key(near)) {
+                    missing.push(format!("{}, {}, data {near}", kind_name(kind).unwrap_or("unknown"), outcome.words()));
+                }
+            }
+        }
+        missing
     }
 
     pub fn print(&self) {

@@ -48,17 +48,22 @@ throughWith s (A.Adrp a) (D.Add d) (L.LoadStore ls) = addAccess s a d ls
 unfoldable pub through : Insns → Bool → Through
 through s pair = choose pair (throughWith s (adrpOf (s .w0)) (addOf (s .w1)) (loadStoreOf (s .w2))) T.Neither
 
--- the fold of the ADD's immediate into an access with no offset of its own
-unfoldable pub foldThird : ℕ → Add → LoadStore → Decision
-foldThird addr d ls = choose (eqb (addr % ls .size) 0 && eqb (ls .offset) 0) (folded ls (d .rn) (d .imm)) Declined
+-- whether the ADD folds into an access: that has no offset of its own, and the ADD makes a multiple of the bytes moved
+unfoldable pub folds : ℕ → LoadStore → Bool
+folds addr ls = eqb (ls .offset) 0 && eqb (addr % ls .size) 0
 
--- the accessed address by an ADR, in reach of the ADRP; else the fold
-unfoldable pub adrOrFold : Insns → ℕ → Add → LoadStore → ℕ → Decision
-adrOrFold s addr d ls target = choose (within1mb (s .p0) target) (adrThird s ls target) (foldThird addr d ls)
+-- the fold of the ADD's immediate into an access
+unfoldable pub foldThird : ℕ → Add → LoadStore → Decision
+foldThird addr d ls = choose (folds addr ls) (folded ls (d .rn) (d .imm)) Declined
+
+-- the fold; else the accessed address by an ADR, in reach of the ADRP
+unfoldable pub foldOrAdr : Insns → ℕ → Add → LoadStore → ℕ → Decision
+foldOrAdr s addr d ls target =
+    choose (folds addr ls) (folded ls (d .rn) (d .imm)) (choose (within1mb (s .p0) target) (adrThird s ls target) Declined)
 
 -- an access of target through addr: a literal load, else as above
 unfoldable pub loadThrough : Insns → ℕ → Add → LoadStore → ℕ → Decision
-loadThrough s addr d ld target = choose (fitsLiteral ld target (s .p2)) (literalThird s ld target) (adrOrFold s addr d ld target)
+loadThrough s addr d ld target = choose (fitsLiteral ld target (s .p2)) (literalThird s ld target) (foldOrAdr s addr d ld target)
 
 -- by what the words make
 abbrev pub adrpAddLdrWith : Insns → Through → Decision
@@ -66,7 +71,7 @@ adrpAddLdrWith s T.Neither = Declined
 adrpAddLdrWith s T.Over = Nine
 adrpAddLdrWith s (T.At addr d ld) = summed (sumOf addr (ld .offset)) (loadThrough s addr d ld)
 
--- ADRP_ADD_LDR: literal load, ADR or fold; a store passes on to the last two
+-- ADRP_ADD_LDR: literal load, fold or ADR; a store passes on to the last two
 unfoldable pub adrpAddLdr : Insns → Bool → Decision
 adrpAddLdr s pair = adrpAddLdrWith s (through s pair)
 
@@ -74,8 +79,8 @@ adrpAddLdr s pair = adrpAddLdrWith s (through s pair)
 abbrev pub adrpAddStrWith : Insns → Through → Decision
 adrpAddStrWith s T.Neither = Declined
 adrpAddStrWith s T.Over = Nine
-adrpAddStrWith s (T.At addr d st) = choose (st .«is_store») (summed (sumOf addr (st .offset)) (adrOrFold s addr d st)) Declined
+adrpAddStrWith s (T.At addr d st) = choose (st .«is_store») (summed (sumOf addr (st .offset)) (foldOrAdr s addr d st)) Declined
 
--- ADRP_ADD_STR: ADR or fold, of a store
+-- ADRP_ADD_STR: fold or ADR, of a store
 unfoldable pub adrpAddStr : Insns → Bool → Decision
 adrpAddStr s pair = adrpAddStrWith s (through s pair)

@@ -15,8 +15,9 @@ use arm64_insn::ldst::LoadStore;
 use arm64_insn::ldst::LoadStoreWord;
 use arm64_insn::page::within_1mb;
 ghost use mathlib.Core.Path.{_≡_};
+ghost use Prim.Native.Nat.{_<_};
 ghost use Rattle.arm64_hint_terms.specs.Operands.{Operands};
-ghost use Rattle.arm64_hint_adrp.specs.Three.{addAccess, through, foldThird, adrOrFold, adrpAddLdr, adrpAddStr};
+ghost use Rattle.arm64_hint_adrp.specs.Three.{addAccess, through, folds, foldThird, foldOrAdr, adrpAddLdr, adrpAddStr};
 
 // The address that ADRP and ADD make, the ADD, and the access through it; or a sum above 2^64 - 1; or neither.
 pub enum Through {
@@ -60,33 +61,46 @@ fn adrp_add_ldst(s: Insns, pair: bool) -> Through
     add_access(s, a, d, ls)
 }
 
-// The fold of the ADD's immediate into an access with no offset of its own.
+// Whether the ADD folds into an access: that has no offset of its own, and the ADD makes a multiple of the bytes moved. The division comes last, for
+// its time.
+fn folds(addr: u64, ls: LoadStore) -> bool
+    requires { ⌜ 0 < ls .size ⌝ }
+    ensures { λ r. ⌜ r ≡ folds addr ls ⌝ }
+{
+    if ls.offset != 0 {
+        return false;
+    }
+    let size = ls.size;
+    addr % size == 0
+}
+
+// The fold of the ADD's immediate into an access.
 pub fn fold_third(addr: u64, d: Add, ls: LoadStore) -> Decision
     requires { ⌜ Operands d ls ⌝ }
     ensures { λ r. ⌜ r ≡ foldThird addr d ls ⌝ }
 {
-    let size = ls.size;
-    if addr % size != 0 {
-        return Decision::Declined;
-    }
-    if ls.offset != 0 {
+    if !folds(addr, ls) {
         return Decision::Declined;
     }
     fold(ls, d.rn, d.imm)
 }
 
-// The accessed address by an ADR, in reach of the ADRP; else the fold.
-fn adr_or_fold(s: Insns, addr: u64, d: Add, ls: LoadStore, target: u64) -> Decision
+// The fold; else the accessed address by an ADR, in reach of the ADRP.
+fn fold_or_adr(s: Insns, addr: u64, d: Add, ls: LoadStore, target: u64) -> Decision
     requires { ⌜ Operands d ls ⌝ }
-    ensures { λ r. ⌜ r ≡ adrOrFold s addr d ls target ⌝ }
+    ensures { λ r. ⌜ r ≡ foldOrAdr s addr d ls target ⌝ }
 {
+    if folds(addr, ls) {
+        return fold(ls, d.rn, d.imm);
+    }
     if !within_1mb(s.p0, target) {
-        return fold_third(addr, d, ls);
+        return Decision::Declined;
     }
     adr_third(s, ls, target)
 }
 
-// A load through ADRP and ADD: a literal load within 1 MiB of the load, an ADR within 1 MiB of the ADRP, else the fold.
+// A load through ADRP and ADD: a literal load within 1 MiB of the load, else the fold, else an ADR within 1 MiB of the ADRP. The Rust has the ADR
+// before the fold.
 pub fn adrp_add_ldr(s: Insns, pair: bool) -> Decision
     ensures { λ r. ⌜ r ≡ adrpAddLdr s pair ⌝ }
 {
@@ -98,7 +112,7 @@ pub fn adrp_add_ldr(s: Insns, pair: bool) -> Decision
                 return Decision::Nine;
             };
             if !fits_literal(ld, target, s.p2) {
-                return adr_or_fold(s, addr, d, ld, target);
+                return fold_or_adr(s, addr, d, ld, target);
             }
             literal_third(s, ld, target)
         }
@@ -119,7 +133,7 @@ pub fn adrp_add_str(s: Insns, pair: bool) -> Decision
             let Sum::Of(target) = sum_of(addr, st.offset) else {
                 return Decision::Nine;
             };
-            adr_or_fold(s, addr, d, st, target)
+            fold_or_adr(s, addr, d, st, target)
         }
     }
 }

@@ -18,7 +18,7 @@ use Rattle.arm64_insn.specs.Literal.{hasLiteralForm, literalOpc, literalV, lite
 use Rattle.arm64_hint_terms.specs.Rels.{relAt, isPageRel, isPageoffRel, sameReference, isAbsent, hasPagePair, bothPages}
 use Rattle.arm64_hint_terms.specs.Answer.{sumOf, fitsLiteral}
 use Rattle.arm64_hint_adrp.specs.Two.{samePage, adrpAdrp, ldrSecond, ldrAtPage, adrpLdr, adrTo, addAtPage, adrpAdd}
-use Rattle.arm64_hint_adrp.specs.Three.{addAccess, through, foldThird, adrOrFold, loadThrough, adrpAddLdr, adrpAddStr}
+use Rattle.arm64_hint_adrp.specs.Three.{addAccess, through, folds, foldThird, foldOrAdr, loadThrough, adrpAddLdr, adrpAddStr}
 use Rattle.arm64_hint_got.specs.Got.{loadsSlot, slotLoad, relaxedLoad, gotLoad, adrpLdrGot, slotTo, gotLiteral, foldLoad, adrOrFoldLoad, relaxedTo}
 use Rattle.arm64_hint_got.specs.Got.{relaxedLdr, adrpLdrGotLdr, relaxedStr, adrpLdrGotStr}
 use Rattle.arm64_hint_laws.specs.Decide.{decide}
@@ -43,7 +43,7 @@ words = tt
 unfoldable pub rules : Unit {0}
 unfolding
     isPageRel isPageoffRel sameReference isAbsent hasPagePair bothPages sumOf fitsLiteral samePage adrpAdrp ldrSecond ldrAtPage adrpLdr
-    adrTo addAtPage adrpAdd addAccess through foldThird adrOrFold loadThrough adrpAddLdr adrpAddStr loadsSlot slotLoad relaxedLoad gotLoad
+    adrTo addAtPage adrpAdd addAccess through folds foldThird foldOrAdr loadThrough adrpAddLdr adrpAddStr loadsSlot slotLoad relaxedLoad gotLoad
     adrpLdrGot slotTo gotLiteral foldLoad adrOrFoldLoad relaxedTo relaxedLdr adrpLdrGotLdr relaxedStr adrpLdrGotStr decide
 rules = tt
 

@@ -16,7 +16,7 @@ use Rattle.arm64_hint_terms.specs.declared.rels.Rels.{Rels}
 use Rattle.arm64_hint_adrp.proofs.Adds.{Adds}
 use Rattle.arm64_hint_laws.proofs.Cases as Cases
 use Rattle.arm64_hint_laws.proofs.Cases.{EachRule}
-use Rattle.arm64_machine.specs.SameRun.{SameRun}
+use Rattle.arm64_machine.specs.SameRun.{CloseRun}
 use Rattle.arm64_machine.specs.Premises.{FairWords}
 use Rattle.arm64_machine.proofs.Rewrites.{unchanged}
 use Rattle.arm64_machine.proofs.Words as Words
@@ -30,7 +30,7 @@ pub record Addressed (s : Insns) : Type 0 where
 
 -- the words that a decision leaves, of a hint of n words, run as those that it was asked of
 abbrev pub Keeps : ℕ → Insns → Decision → Type 0
-Keeps n s d = SameRun (placedOf n s) (placedOf n (after d s))
+Keeps n s d = CloseRun (placedOf n s) (placedOf n (after d s))
 
 -- what an access through ADRP and ADD moves at
 reached : {s : Insns} {addr to : ℕ} {d : Add} {ls : LoadStore} (t : Adds s addr d ls) → Cases.Accesses addr ls to
@@ -94,10 +94,10 @@ each-rule s r at =
       adrp-ldr-got = λ pair _ fair. Cases.adrp-ldr-got s (Keeps 2 s) same2 (adr-first s at fair) same2 (literal-second s at fair R.Slot) pair;
     }
   where
-    same2 : SameRun (placedOf 2 s) (placedOf 2 s)
+    same2 : CloseRun (placedOf 2 s) (placedOf 2 s)
     same2 = unchanged (placedOf 2 s)
 
-    same3 : SameRun (placedOf 3 s) (placedOf 3 s)
+    same3 : CloseRun (placedOf 3 s) (placedOf 3 s)
     same3 = unchanged (placedOf 3 s)
 
 -- THE LAW of the decisions: fair words run as what is decided of them, for every kind and whatever the entries say

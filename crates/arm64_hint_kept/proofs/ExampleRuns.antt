@@ -22,7 +22,7 @@ use Rattle.arm64_hint_places.specs.Hint.{isSkipped, addrsOf}
 use Rattle.arm64_hint_work.specs.declared.tally.Tally.{Tally}
 use Rattle.arm64_hint_run.specs.Run.{worked, runOf, imageOf}
 use Rattle.arm64_hint_run.specs.declared.run.RunAnswer.the-variants.{Done}
-use Rattle.arm64_hint_kept.specs.HintsKept.{codes, KeepsOrder, PartsApart, Alone, Fair, Same, HintsKept, Premises, NoneData}
+use Rattle.arm64_hint_kept.specs.HintsKept.{codes, KeepsOrder, PartsApart, Alone, Fair, Close, HintsKept, Premises, NoneData}
 use Rattle.arm64_hint_kept.specs.Examples.{words, lent, pair, counts}
 use Rattle.arm64_hint_kept.specs.ExampleRuns.{four, fourWords, fourAfter, beside, besideWords, besideAfter, falling, late, AllEnd}
 use Rattle.arm64_hint_kept.proofs.Computing.{records, runs, machine}
@@ -74,10 +74,10 @@ alone-first : Alone (lent four) 0
 unfolding runs
 alone-first = alone-by (lent four) 0 refl
 
-pub other-ends : Same (hintOf (lent four) 0) fourWords fourAfter
+pub other-ends : Close (hintOf (lent four) 0) fourWords fourAfter
 unfolding runs
 other-ends =
-    subst (Same (hintOf (lent four) 0) fourWords) (ap (λ (w : Work Tally). w .image) other-list)
+    subst (Close (hintOf (lent four) 0) fourWords) (ap (λ (w : Work Tally). w .image) other-list)
     (hints-kept fourWords (lent four) pair (counts 1 1 1 1) one-of-each other once .ends 0 (lit< tt) refl alone-first fair-first)
 
 -- ---- three hints, each of which meets every premise
@@ -101,7 +101,7 @@ module _ (image hints entries l last : List ℕ) (t : Tally) (o : Other) (s : St
     none-data = none-data;
     meets = meets;
     agree = λ k h. subst (Ran k) leaves (literally image hints entries l t kept .ends alone k h (not-skipped k h) o s (none-data k h) (meets k h));
-    same = λ k h. subst (Same (hintOf hints k) image) leaves (kept .ends k h (not-skipped k h) (alone k h) (literal (hintOf hints k) image o s (meets k h)));
+    close = λ k h. subst (Close (hintOf hints k) image) leaves (kept .ends k h (not-skipped k h) (alone k h) (literal (hintOf hints k) image o s (meets k h)));
   }
     where
       Ran : ℕ → List ℕ → Type 0
@@ -153,12 +153,12 @@ pub fall-left : imageOf (words (0xf9400401 ∷ 0x90000000 ∷ [])) (lent falling
 unfolding runs
 fall-left = refl
 
-pub falling-ends : Same (hintOf (lent falling) 0) (words (0xf9400401 ∷ 0x90000000 ∷ [])) (words (0x58000041 ∷ 0xd503201f ∷ []))
+pub falling-ends : Close (hintOf (lent falling) 0) (words (0xf9400401 ∷ 0x90000000 ∷ [])) (words (0x58000041 ∷ 0xd503201f ∷ []))
 unfolding runs machine
 falling-ends =
     let image = words (0xf9400401 ∷ 0x90000000 ∷ []) in
     let d = hints-kept image (lent falling) pair (counts 1 0 0 0) fall-done (0 ∷ []) (once-by 1 (0 ∷ []) refl refl) in
-    subst (Same (hintOf (lent falling) 0) image) fall-leaves
+    subst (Close (hintOf (lent falling) 0) image) fall-leaves
     (d .ends 0 (lit< tt) refl (alone-by (lent falling) 0 refl) (fair-when (hintOf (lent falling) 0) image refl))
 
 -- ---- an object whose hint of kind 1 stands first, and is worked last
@@ -178,9 +178,9 @@ abbrev first : List ℕ
 first = words (0x90000000 ∷ 0x90000000 ∷ 0xf9400401 ∷ [])
 
 -- position 1 on the first image; position 0, which declines, on what it left; position 0 on the first image, where it drops the second ADRP
-pub each-turn : Same (hintOf (lent late) 1) first (words (0x90000000 ∷ 0xd503201f ∷ 0x58000001 ∷ []))
-    × Same (hintOf (lent late) 0) (words (0x90000000 ∷ 0xd503201f ∷ 0x58000001 ∷ [])) (words (0x90000000 ∷ 0xd503201f ∷ 0x58000001 ∷ []))
-    × Same (hintOf (lent late) 0) first (words (0x90000000 ∷ 0xd503201f ∷ 0xf9400401 ∷ []))
+pub each-turn : Close (hintOf (lent late) 1) first (words (0x90000000 ∷ 0xd503201f ∷ 0x58000001 ∷ []))
+    × Close (hintOf (lent late) 0) (words (0x90000000 ∷ 0xd503201f ∷ 0x58000001 ∷ [])) (words (0x90000000 ∷ 0xd503201f ∷ 0x58000001 ∷ []))
+    × Close (hintOf (lent late) 0) first (words (0x90000000 ∷ 0xd503201f ∷ 0xf9400401 ∷ []))
 unfolding runs machine
 each-turn =
     let own = hints-kept first (lent late) pair (counts 1 0 1 0) (late-run .0) (1 ∷ 0 ∷ []) (once-by 2 (1 ∷ 0 ∷ []) refl refl) in

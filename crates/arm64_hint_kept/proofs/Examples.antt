@@ -30,7 +30,7 @@ use Rattle.arm64_hint_work.specs.declared.tally.Tally.{Tally}
 use Rattle.arm64_hint_run.specs.Run.{worked, runOf, imageOf}
 use Rattle.arm64_hint_run.specs.declared.run.RunAnswer.the-variants.{Done}
 use Rattle.arm64_hint_run.proofs.Answers.{run-is}
-use Rattle.arm64_hint_kept.specs.HintsKept.{Same}
+use Rattle.arm64_hint_kept.specs.HintsKept.{Close}
 use Rattle.arm64_hint_kept.specs.Examples.{words, lent, single, counts, rewriteIn, Shows, Shown, EachRewrite}
 use Rattle.arm64_hint_kept.proofs.HintsKept.{hints-kept, own-list, literal}
 use Rattle.arm64_hint_kept.proofs.Computing.{records, runs, machine}
@@ -62,8 +62,8 @@ module _ {entries : List ℕ} {kind p : ℕ} {ws : List ℕ} {r : Rewrite} {new 
         by = b;
         done = d;
         leaves = l;
-        same =
-            subst (Same h (words ws)) last
+        close =
+            subst (Close h (words ws)) last
             (kept .ends 0 (lit< tt) (not-skipped entries h ws r b) (λ j l ne. absurd (ne (omega arith))) (literal h (words ws) idle start meets));
       }
 
@@ -82,12 +82,14 @@ each-rewrite = record {
   ldr-wraps = shown refl refl refl refl;
   add-ldr-literal = shown refl refl refl refl;
   add-ldr-adr = shown refl refl refl refl;
+  add-ldr-near = shown refl refl refl refl;
   add-ldr-fold = shown refl refl refl refl;
   got-ldr-slot = shown refl refl refl refl;
   got-ldr-literal = shown refl refl refl refl;
   got-ldr-adr = shown refl refl refl refl;
   got-ldr-fold = shown refl refl refl refl;
   add-str-adr = shown refl refl refl refl;
+  add-str-near = shown refl refl refl refl;
   add-str-fold = shown refl refl refl refl;
   got-str-slot = shown refl refl refl refl;
   got-str-adr = shown refl refl refl refl;

@@ -18,7 +18,8 @@ use Rattle.arm64_hint_order.proofs.Lists.{run-append, count-append, count-here}
 use Rattle.arm64_hint_order.proofs.Own.{own-once}
 use Rattle.arm64_hint_order.proofs.Runs as Runs
 use Rattle.arm64_machine.specs.Machine.{Other, State}
-use Rattle.arm64_machine.specs.SameRun.{SameRun}
+use Rattle.arm64_machine.specs.SameRun.{CloseRun}
+use Rattle.arm64_machine.proofs.Close.{close-same}
 use Rattle.arm64_machine.proofs.FairLaws as FairLaws
 use Rattle.arm64_hint_places.specs.Hint.{isSkipped}
 use Rattle.arm64_hint_check.proofs.Checks.{Ready, ready, each-fit}
@@ -30,7 +31,7 @@ use Rattle.arm64_hint_run.specs.declared.run.RunAnswer.{RunAnswer}
 use Rattle.arm64_hint_run.specs.declared.run.RunAnswer.the-variants as A
 use Rattle.arm64_hint_run.proofs.Parts.{places-inside, in-part}
 use Rattle.arm64_hint_run.proofs.Answers.{done-fit, run-is}
-use Rattle.arm64_hint_kept.specs.HintsKept.{codes, partBytes, wordBytes, KeepsOrder, PartsApart, Alone, Fair, Same, HintsKept, Premises, Literally}
+use Rattle.arm64_hint_kept.specs.HintsKept.{codes, partBytes, wordBytes, KeepsOrder, PartsApart, Alone, Fair, Close, HintsKept, Premises, Literally}
 use Rattle.arm64_hint_kept.proofs.Step.{codes-same, addresses, step-same}
 
 -- the run's own list has each hint once, and keeps each object's own order
@@ -50,7 +51,7 @@ module _ (image hints entries : List ℕ) (t : Tally) (e : runOf image hints ent
 
   -- a hint's step on an image as long as the lent one
   step : (k : ℕ) → k < hintCount hints → isSkipped (hintOf hints k) ≡ false → (x : List ℕ) → length x ≡ length image → Fair (hintOf hints k) x
-      → Same (hintOf hints k) x (written (stepsOf hints entries) k x)
+      → Close (hintOf hints k) x (written (stepsOf hints entries) k x)
   step k l s x size fair =
       let h = hintOf hints k in
       let r = checked k l s in
@@ -74,9 +75,9 @@ module _ (image hints entries : List ℕ) (t : Tally) (e : runOf image hints ent
 
     turned : (a : List ℕ) (k : ℕ) (b : List ℕ) → l ≡ a ++ k ∷ b → isSkipped (hintOf hints k) ≡ false
         → Fair (hintOf hints k) (worked image hints entries a .image)
-        → Same (hintOf hints k) (worked image hints entries a .image) (worked image hints entries (a ++ k ∷ []) .image)
+        → Close (hintOf hints k) (worked image hints entries a .image) (worked image hints entries (a ++ k ∷ []) .image)
     turned a k b q s fair =
-        subst (λ (y : List ℕ). Same (hintOf hints k) (worked image hints entries a .image) y) (sym next)
+        subst (λ (y : List ℕ). Close (hintOf hints k) (worked image hints entries a .image) y) (sym next)
         (step k (position a k b q) s (worked image hints entries a .image) size fair)
       where
         next : worked image hints entries (a ++ k ∷ []) .image ≡ written (stepsOf hints entries) k (worked image hints entries a .image)
@@ -88,9 +89,9 @@ module _ (image hints entries : List ℕ) (t : Tally) (e : runOf image hints ent
             ap length (Runs.image-of (stepsOf hints entries) (hintCount hints) a (start image)) ∙ Runs.size (stepsOf hints entries) (hintCount hints) a image
 
     ended : (k : ℕ) → k < hintCount hints → isSkipped (hintOf hints k) ≡ false → Alone hints k → Fair (hintOf hints k) image
-        → Same (hintOf hints k) image (worked image hints entries l .image)
+        → Close (hintOf hints k) image (worked image hints entries l .image)
     ended k h s alone fair =
-        subst (SameRun (codes (hintOf hints k) image)) (sym (codes-same (hintOf hints k) _ _ own)) (step k h s image refl fair)
+        subst (CloseRun (codes (hintOf hints k) image)) (sym (codes-same (hintOf hints k) _ _ own)) (step k h s image refl fair)
       where
         own : wordsAt (placesOf (hintOf hints k)) (worked image hints entries l .image)
             ≡ wordsAt (placesOf (hintOf hints k)) (written (stepsOf hints entries) k image)
@@ -118,25 +119,25 @@ pub literally : (image hints entries : List ℕ) (l : List ℕ) (t : Tally) → 
 literally image hints entries l t d =
     record {
       order = d .order;
-      turn = λ a k b q s o z p. d .turn a k b q s (literal _ _ o z p) .agree o z;
-      ends = λ apart k h s o z data′ p. d .ends k h s (apart k h) (literal _ _ o z p) .agree o z;
+      turn = λ a k b q s o z p. close-same (d .turn a k b q s (literal _ _ o z p)) .agree o z;
+      ends = λ apart k h s o z data′ p. close-same (d .ends k h s (apart k h) (literal _ _ o z p)) .agree o z;
     }
 
 -- The claim of the compiled run (RULES 9.30): `answer` is what arm64_hint_run's `run` returns and `left` the image that it leaves, each with its promise.
--- Where it is done, its own list ends with what it left, is one of those spoken of, and of each of them the claim holds with every premise
+-- Where it is done, its own list ends with what it left, is one of those spoken of, and of each of them the claim holds, and with every premise
 pub of-the-run : (image hints entries left : List ℕ) (answer : RunAnswer) → answer ≡ runOf image hints entries → left ≡ imageOf image hints entries
     → (t : Tally) → answer ≡ A.Done t
     → (worked image hints entries (orderOf hints) ≡ record { image = left; tally = t })
     × (Once (hintCount hints) (orderOf hints))
     × (KeepsOrder hints (orderOf hints))
-    × ((l : List ℕ) → Once (hintCount hints) l → Literally image hints entries l t)
+    × ((l : List ℕ) → Once (hintCount hints) l → HintsKept image hints entries l t × Literally image hints entries l t)
 of-the-run image hints entries left answer says leaves t done =
     let e = sym says ∙ done in
     let own = own-list hints in (
       run-is image hints entries t e ∙ ap (λ (image : List ℕ). record { image = image; tally = t }) (sym leaves),
       own .0,
       own .1,
-      λ l once. literally image hints entries l t (hints-kept image hints entries t e l once),
+      λ l once. let k = hints-kept image hints entries t e l once in (k, literally image hints entries l t k),
     )
 
 -- ---- the exported call
@@ -152,7 +153,7 @@ pub of-the-call : (image hints entries left : List ℕ) (old tally : Tally) (num
     → (worked image hints entries (orderOf hints) ≡ record { image = left; tally = tally })
     × (Once (hintCount hints) (orderOf hints))
     × (KeepsOrder hints (orderOf hints))
-    × ((l : List ℕ) → Once (hintCount hints) l → Literally image hints entries l tally)
+    × ((l : List ℕ) → Once (hintCount hints) l → HintsKept image hints entries l tally × Literally image hints entries l tally)
 of-the-call image hints entries left old tally number says counts leaves zero =
     of-the-run image hints entries left (runOf image hints entries) refl leaves tally
     (zero-done old (runOf image hints entries) (sym says ∙ zero) ∙ ap (λ (t : Tally). A.Done t) (sym counts))

@@ -1,5 +1,6 @@
 -- What a run of hints keeps (RULES 9): each decision of a hint rule keeps what a program does, and so does every list of a run's hint steps.
 pub mod Decisions
+pub mod Folds
 pub mod Image
 pub mod Step
 pub mod HintsKept

@@ -21,13 +21,13 @@ use Rattle.arm64_hint_terms.specs.declared.answer.Decision.{Decision}
 use Rattle.arm64_hint_terms.specs.declared.answer.Decision.the-variants.{Declined, Nine, Rewritten}
 use Rattle.arm64_hint_laws.proofs.Written.{AllFit, all-fit}
 use Rattle.arm64_machine.specs.Machine.{Placed, placed}
-use Rattle.arm64_machine.specs.SameRun.{SameRun}
+use Rattle.arm64_machine.specs.SameRun.{CloseRun}
 use Rattle.arm64_machine.specs.Premises.{FairWords}
 use Rattle.arm64_hint_places.specs.Hint.{isSkipped, insnsIn, addrsOf, insnsOf, relsOf}
 use Rattle.arm64_hint_places.proofs.Places.{count-is, count-two, insns-three, insns-two}
 use Rattle.arm64_hint_rules.specs.Rule.{ruled, hintOutcome, newsIn, newsOf}
 use Rattle.arm64_hint_work.specs.Step.{placesOf}
-use Rattle.arm64_hint_kept.specs.HintsKept.{codes, Disjoint, Fair, Same}
+use Rattle.arm64_hint_kept.specs.HintsKept.{codes, Disjoint, Fair, Close}
 use Rattle.arm64_hint_kept.specs.Decided.{placedOf, after}
 use Rattle.arm64_hint_kept.proofs.Decisions.{Addressed, decided}
 use Rattle.arm64_hint_kept.proofs.Image.{wordsAfter, reads-back}
@@ -105,7 +105,7 @@ addressed h e low words =
 
 -- THE LAW of a hint's step
 pub step-same : (entries : List ℕ) (h : HintRecord) → isSkipped h ≡ false → Addresses h → (x : List ℕ) → All (λ at. at + 4 ≤ length x) (placesOf h)
-    → Fair h x → Same h x (putWords (placesOf h) (newsOf (hintOutcome entries h (wordsAt (placesOf h) x))) x)
+    → Fair h x → Close h x (putWords (placesOf h) (newsOf (hintOutcome entries h (wordsAt (placesOf h) x))) x)
 step-same entries h e low x inside fair =
     let words = wordsAt (placesOf h) x in
     let s = insnsOf h words in
@@ -113,4 +113,4 @@ step-same entries h e low x inside fair =
     let old = old-codes h e x in
     let new = new-codes h e d x (fair .disjoint) inside (all-fit (h .kind) s (relsOf entries h)) in
     rw (outcome-is h e entries words)
-    (subst₂ SameRun old new (decided (h .kind) s (relsOf entries h) (addressed h e low words) (subst FairWords (sym old) (fair .words))))
+    (subst₂ CloseRun old new (decided (h .kind) s (relsOf entries h) (addressed h e low words) (subst FairWords (sym old) (fair .words))))

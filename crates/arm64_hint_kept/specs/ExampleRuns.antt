@@ -10,7 +10,7 @@ use Rattle.arm64_machine.specs.SameRun.{spared, Agree}
 use Rattle.arm64_hint_places.specs.Hint.{isSkipped, addrsOf}
 use Rattle.arm64_hint_work.specs.declared.tally.Tally.{Tally}
 use Rattle.arm64_hint_run.specs.Run.{worked}
-use Rattle.arm64_hint_kept.specs.HintsKept.{codes, Alone, Same, Premises, NoneData}
+use Rattle.arm64_hint_kept.specs.HintsKept.{codes, Alone, Close, Premises, NoneData}
 use Rattle.arm64_hint_kept.specs.PartCalls.{Call}
 use Rattle.arm64_hint_kept.specs.Examples.{words, place, none-at, hintIn, lent, pair, counts}
 
@@ -94,4 +94,4 @@ pub record AllEnd (image hints entries l last : List ℕ) (o : Other) (s : State
   pub meets : (k : ℕ) → k < hintCount hints → Premises (hintOf hints k) image o s
   pub agree : (k : ℕ) → k < hintCount hints
       → let h = hintOf hints k in Agree (spared (codes h image)) (run o (codes h image) s) (run o (codes h last) s)
-  pub same : (k : ℕ) → k < hintCount hints → Same (hintOf hints k) image last
+  pub close : (k : ℕ) → k < hintCount hints → Close (hintOf hints k) image last

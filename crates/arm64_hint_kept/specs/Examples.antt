@@ -22,7 +22,7 @@ use Rattle.arm64_hint_rules.specs.declared.outcome.HintOutcome.the-variants.{Sk
 use Rattle.arm64_hint_work.specs.declared.tally.Tally.{Tally}
 use Rattle.arm64_hint_run.specs.Run.{runOf, imageOf}
 use Rattle.arm64_hint_run.specs.declared.run.RunAnswer.the-variants.{Done}
-use Rattle.arm64_hint_kept.specs.HintsKept.{Same, Premises}
+use Rattle.arm64_hint_kept.specs.HintsKept.{Close, Premises}
 
 -- an image of words
 abbrev pub words : List ℕ → List ℕ
@@ -78,13 +78,13 @@ rewriteIn (Worked Nine s) = none
 rewriteIn (Worked (Rewritten p) s) = some (p .rewrite)
 
 -- a run of one hint of a kind with the words ws, the first at address p: they meet every premise (RULES 9.12 to 9.20), from one state; the rewrite r
--- makes new words of them, which run as the old ones from every state
+-- makes new words of them, which run closely as the old ones from every state
 pub record Shows (entries : List ℕ) (kind p : ℕ) (ws : List ℕ) (r : Rewrite) (new : List ℕ) : Type 0 where
   pub meets : Premises (hintOf (lent (single kind p (length ws))) 0) (words ws) idle start
   pub by : rewriteIn (hintOutcome entries (hintOf (lent (single kind p (length ws))) 0) ws) ≡ some r
   pub done : runOf (words ws) (lent (single kind p (length ws))) entries ≡ Done (counts 1 0 0 0)
   pub leaves : imageOf (words ws) (lent (single kind p (length ws))) entries ≡ words new
-  pub same : Same (hintOf (lent (single kind p (length ws))) 0) (words ws) (words new)
+  pub close : Close (hintOf (lent (single kind p (length ws))) 0) (words ws) (words new)
 
 -- where a decision of a kind is a rewrite, a hint of the kind shows it
 abbrev pub Shown : ℕ → Decision → Type 0
@@ -110,8 +110,10 @@ pub record EachRewrite : Type 0 where
   pub ldr-wraps : Shows pair 2 0x1000 (0xd0ffffe0 ∷ 0xf9400401 ∷ []) Literal (0xd503201f ∷ 0x58ff0021 ∷ [])
   -- adrp x1; add x1, x1, #0; ldr q5, [x1, #0x7000]
   pub add-ldr-literal : Shows pair 3 0x33db2ef9865cfeb4 (0x90000001 ∷ 0x91000021 ∷ 0x3ddc0025 ∷ []) Literal (0xd503201f ∷ 0xd503201f ∷ 0x9c030a25 ∷ [])
-  -- adrp x0, below the code; add x1, x0, #16; ldr b2, [x1]
-  pub add-ldr-adr : Shows pair 3 0xfffffffffffff000 (0xf0fff800 ∷ 0x91004001 ∷ 0x3d400022 ∷ []) Adr (0x10818081 ∷ 0xd503201f ∷ 0x3d400022 ∷ [])
+  -- adrp x0, below the code; add x1, x0, #16; ldr b2, [x1, #1]: the ADR takes the load's own offset
+  pub add-ldr-adr : Shows pair 3 0xfffffffffffff000 (0xf0fff800 ∷ 0x91004001 ∷ 0x3d400422 ∷ []) Adr (0x30818081 ∷ 0xd503201f ∷ 0x3d400022 ∷ [])
+  -- adrp x1; add x2, x1, #8; ldrb w5, [x2], in reach of an ADR
+  pub add-ldr-near : Shows pair 3 0x100000000 (0x90000241 ∷ 0x91002022 ∷ 0x39400045 ∷ []) Fold (0x90000241 ∷ 0xd503201f ∷ 0x39402025 ∷ [])
   -- adrp x0; add x1, x0, #0xbc8; str b5, [x1]: a store passes on to the fold
   pub add-ldr-fold : Shows pair 3 0x1000 (0x905bed00 ∷ 0x912f2001 ∷ 0x3d000025 ∷ []) Fold (0x905bed00 ∷ 0xd503201f ∷ 0x3d2f2005 ∷ [])
   -- adrp x0; ldr x2, [x0, #8]; ldrsb w2, [x2]
@@ -124,6 +126,8 @@ pub record EachRewrite : Type 0 where
   pub got-ldr-fold : Shows gotPair 4 0x1000 (0x90008000 ∷ 0x91004000 ∷ 0x3dc00800 ∷ []) Fold (0x90008000 ∷ 0xd503201f ∷ 0x3dc00c00 ∷ [])
   -- adrp x1; add x2, x1, #4; str x5, [x2]
   pub add-str-adr : Shows pair 5 0x100000000 (0x90000241 ∷ 0x91001022 ∷ 0xf9000045 ∷ []) Adr (0x10240022 ∷ 0xd503201f ∷ 0xf9000045 ∷ [])
+  -- adrp x1; add x2, x1, #8; str x5, [x2], in reach of an ADR
+  pub add-str-near : Shows pair 5 0x100000000 (0x90000241 ∷ 0x91002022 ∷ 0xf9000045 ∷ []) Fold (0x90000241 ∷ 0xd503201f ∷ 0xf9000425 ∷ [])
   -- adrp x0; add x0, x0, #16; str x1, [x0], example 8 (RULES 11.8)
   pub add-str-fold : Shows pair 5 0x1000 (0x90001000 ∷ 0x91004000 ∷ 0xf9000001 ∷ []) Fold (0x90001000 ∷ 0xd503201f ∷ 0xf9000801 ∷ [])
   -- adrp x0; ldr x1, [x0]; str xzr, [x1, #0x7bf8]

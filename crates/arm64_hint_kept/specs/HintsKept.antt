@@ -14,7 +14,7 @@ use Rattle.arm64_hint_order.specs.Runs as Runs
 use Rattle.arm64_hint_order.specs.Cursor.{objectAt, lateAt}
 use Rattle.arm64_hint_order.specs.Runs.{ObjectsApart}
 use Rattle.arm64_machine.specs.Machine.{Access, State, Placed, placed, Other, run}
-use Rattle.arm64_machine.specs.SameRun.{spared, Agree, SameRun}
+use Rattle.arm64_machine.specs.SameRun.{spared, Agree, SameRun, CloseRun}
 use Rattle.arm64_machine.specs.Premises.{Each, touches, FairWords, WordPremises}
 use Rattle.arm64_hint_places.specs.Hint.{isSkipped, insnsIn, addrsOf}
 use Rattle.arm64_hint_work.specs.Step.{placesOf}
@@ -66,17 +66,21 @@ pub record Fair (h : HintRecord) (image : List ℕ) : Type 0 where
 abbrev pub Same : HintRecord → List ℕ → List ℕ → Type 0
 Same h image later = SameRun (codes h image) (codes h later)
 
+-- and closely: but for registers alone that a word which is replaced wrote (arm64_machine, CloseRun)
+abbrev pub Close : HintRecord → List ℕ → List ℕ → Type 0
+Close h image later = CloseRun (codes h image) (codes h later)
+
 -- what is claimed of a list l of the hint steps of a run that counts t
 pub record HintsKept (image hints entries l : List ℕ) (t : Tally) : Type 0 where
   -- different objects' parts apart and each object's own order kept: image and tally are the run's
   pub order : PartsApart hints → KeepsOrder hints l → worked image hints entries l ≡ record { image = imageOf image hints entries; tally = t }
-  -- each hint at its turn, on the image that the steps before it left: its words run after its step as before it
+  -- each hint at its turn, on the image that the steps before it left: its words run after its step closely as before it
   pub turn : (a : List ℕ) (k : ℕ) (b : List ℕ) → l ≡ a ++ k ∷ b → isSkipped (hintOf hints k) ≡ false
       → Fair (hintOf hints k) (worked image hints entries a .image)
-      → Same (hintOf hints k) (worked image hints entries a .image) (worked image hints entries (a ++ k ∷ []) .image)
-  -- each hint that shares no byte with another: its words run in the list's last image as in its first
+      → Close (hintOf hints k) (worked image hints entries a .image) (worked image hints entries (a ++ k ∷ []) .image)
+  -- each hint that shares no byte with another: its words run in the list's last image closely as in its first
   pub ends : (k : ℕ) → k < hintCount hints → isSkipped (hintOf hints k) ≡ false → Alone hints k
-      → Fair (hintOf hints k) image → Same (hintOf hints k) image (worked image hints entries l .image)
+      → Fair (hintOf hints k) image → Close (hintOf hints k) image (worked image hints entries l .image)
 
 -- ---- the claim with every premise (RULES 1.9 to 1.13)
 

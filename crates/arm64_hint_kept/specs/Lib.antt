@@ -1,6 +1,7 @@
 -- The statement of RULES 9, and what its examples are made of.
 pub mod HintsKept
 pub mod Decided
+pub mod Folded
 pub mod PartCalls
 pub mod Tests
 pub mod Examples

@@ -31,7 +31,7 @@ use Rattle.arm64_hint_terms.specs.Answer.{sumOf, summed, fitsLiteral}
 use Rattle.arm64_hint_terms.specs.Plans.{dropped, literalSecond, literalThird, adrFirst, adrThird, folded}
 use Rattle.arm64_hint_terms.specs.Rels.{hasPagePair, bothPages}
 use Rattle.arm64_hint_adrp.specs.Two.{samePage, adrpAdrpWith, adrpAdrp, ldrSecond, ldrAtPage, adrpLdrWith, adrpLdr, adrTo, addAtPage, adrpAddWith, adrpAdd}
-use Rattle.arm64_hint_adrp.specs.Three.{through, foldThird, adrOrFold, loadThrough, adrpAddLdrWith, adrpAddLdr, adrpAddStrWith, adrpAddStr}
+use Rattle.arm64_hint_adrp.specs.Three.{through, folds, foldThird, foldOrAdr, loadThrough, adrpAddLdrWith, adrpAddLdr, adrpAddStrWith, adrpAddStr}
 use Rattle.arm64_hint_got.specs.Got.{gotLoad, adrpLdrGotWith, adrpLdrGot, slotTo, gotLiteral, foldLoad, adrOrFoldLoad, relaxedTo, relaxedLdr}
 use Rattle.arm64_hint_got.specs.Got.{gotLdrBy, gotLdrWith, adrpLdrGotLdr, relaxedStr, gotStrBy, gotStrWith, adrpLdrGotStr}
 use Rattle.arm64_hint_laws.specs.Decide.{decide}
@@ -248,15 +248,16 @@ module _ (s : Insns) (P : Decision → Type 0) (declined : P Declined) where
 
   -- ADRP, ADD and an access: the fold
   module _ (fold : Folds s P) (d : Add) (ls : LoadStore) (addr : ℕ) (t : Adds s addr d ls) where
+    fold-fits : folds addr ls ≡ true → P (folded ls (d .rn) (d .imm))
+    unfolding folds
+    fold-fits e =
+        let f = both (eqb (ls .offset) 0) (eqb (addr % ls .size) 0) e in
+        let z : d .imm ≡ d .imm + ls .offset = omega (arith, eqb-true (ls .offset) 0 (f .0)) in
+        fold d ls addr (d .imm) t z (decoded-add (s .w1) d (t .second) .immediate) (eqb-true (addr % ls .size) 0 (f .1))
+
     fold-third : P (foldThird addr d ls)
     unfolding foldThird
-    fold-third =
-        split P (eqb (addr % ls .size) 0 && eqb (ls .offset) 0) _ Declined
-        (λ e.
-        let f = both (eqb (addr % ls .size) 0) (eqb (ls .offset) 0) e in
-        let z : d .imm ≡ d .imm + ls .offset = omega (arith, eqb-true (ls .offset) 0 (f .1)) in
-        fold d ls addr (d .imm) t z (decoded-add (s .w1) d (t .second) .immediate) (eqb-true (addr % ls .size) 0 (f .0)))
-        (λ e. declined)
+    fold-third = split P (folds addr ls) _ Declined fold-fits (λ e. declined)
 
     fold-load : P (foldLoad addr d ls)
     unfolding foldLoad
@@ -269,20 +270,22 @@ module _ (s : Insns) (P : Decision → Type 0) (declined : P Declined) where
 
   -- ADRP_ADD_LDR and ADRP_ADD_STR
   module _ (nine : P Nine) (fold : Folds s P) (adr : ThirdAdr s P) where
-    adr-or-fold : (d : Add) (ls : LoadStore) (addr : ℕ) → Adds s addr d ls → (target : ℕ) → target ≡ addr + ls .offset → target < 2 ^ 64
-        → P (adrOrFold s addr d ls target)
-    unfolding adrOrFold
-    adr-or-fold d ls addr t target e lt =
-        split P (within1mb (s .p0) target) _ _
+    fold-or-adr : (d : Add) (ls : LoadStore) (addr : ℕ) → Adds s addr d ls → (target : ℕ) → target ≡ addr + ls .offset → target < 2 ^ 64
+        → P (foldOrAdr s addr d ls target)
+    unfolding foldOrAdr
+    fold-or-adr d ls addr t target e lt =
+        split P (folds addr ls) _ _ (fold-fits fold d ls addr t)
+        (λ _.
+        split P (within1mb (s .p0) target) _ Declined
         (λ near. adr d ls addr target t (record { made = e; below = lt }) near)
-        (λ near. fold-third fold d ls addr t)
+        (λ near. declined))
 
     adrp-add-str-with : (x : Through) → ((addr : ℕ) (d : Add) (ls : LoadStore) → x ≡ T.At addr d ls → Adds s addr d ls) → P (adrpAddStrWith s x)
     adrp-add-str-with T.Neither f = declined
     adrp-add-str-with T.Over f = nine
     adrp-add-str-with (T.At addr d st) f =
         chosen P (st .«is_store») _ Declined
-        (by-sum P addr (st .offset) (adrOrFold s addr d st) nine (adr-or-fold d st addr (f addr d st refl)))
+        (by-sum P addr (st .offset) (foldOrAdr s addr d st) nine (fold-or-adr d st addr (f addr d st refl)))
         declined
 
     pub adrp-add-str : (pair : Bool) → P (adrpAddStr s pair)
@@ -298,7 +301,7 @@ module _ (s : Insns) (P : Decision → Type 0) (declined : P Declined) where
           (λ g.
           let f = fits-is ls target (s .p2) g in
           literal d ls addr target t (record { made = e; below = lt }) (f .0) (f .1) (f .2))
-          (λ g. adr-or-fold d ls addr t target e lt)
+          (λ g. fold-or-adr d ls addr t target e lt)
 
       adrp-add-ldr-with : (x : Through) → ((addr : ℕ) (d : Add) (ls : LoadStore) → x ≡ T.At addr d ls → Adds s addr d ls) → P (adrpAddLdrWith s x)
       adrp-add-ldr-with T.Neither f = declined

@@ -21,10 +21,11 @@ use Rattle.arm64_hint_terms.specs.Answer.{sumOf, fitsLiteral}
 use Rattle.arm64_hint_terms.specs.Plans.{rewritten}
 use Rattle.arm64_hint_terms.specs.Rels.{isPageRel, isPageoffRel, sameReference, isAbsent, hasPagePair, bothPages}
 use Rattle.arm64_hint_adrp.specs.Two.{samePage, adrpAdrp, ldrSecond, ldrAtPage, adrpLdr, adrTo, addAtPage, adrpAdd}
-use Rattle.arm64_hint_adrp.specs.Three.{addAccess, through, foldThird, adrOrFold, loadThrough, adrpAddLdr, adrpAddStr}
+use Rattle.arm64_hint_adrp.specs.Three.{addAccess, through, folds, foldThird, foldOrAdr, loadThrough, adrpAddLdr, adrpAddStr}
 use Rattle.arm64_hint_got.specs.Got.{loadsSlot, slotLoad, relaxedLoad, gotLoad, adrpLdrGot, slotTo, gotLiteral}
 use Rattle.arm64_hint_got.specs.Got.{foldLoad, adrOrFoldLoad, relaxedTo, relaxedLdr, adrpLdrGotLdr, relaxedStr, adrpLdrGotStr}
 use Rattle.arm64_hint_laws.specs.Decide.{decide}
+use Rattle.arm64_hint_laws.specs.RustOrder.{halves}
 use Rattle.arm64_hint_terms.specs.declared.answer.Insns.{Insns}
 use Rattle.arm64_hint_terms.specs.declared.answer.Rewrite.the-variants.{Drop, Literal, Adr, Fold, Slot}
 use Rattle.arm64_hint_terms.specs.declared.answer.NewWord.the-variants.{Keep, Set}
@@ -51,7 +52,7 @@ abbrev pages : Rels
 pages = rels (entry ARM64-RELOC-PAGE21 5) (entry ARM64-RELOC-PAGE21 5) Absent
 
 abbrev pair : Rels
-pair = rels (entry ARM64-RELOC-PAGE21 5) (entry ARM64-RELOC-PAGEOFF12 5) Absent
+pair = halves
 
 abbrev gotPair : Rels
 gotPair = rels (entry ARM64-RELOC-GOT-LOAD-PAGE21 5) (entry ARM64-RELOC-GOT-LOAD-PAGEOFF12 5) Absent
@@ -116,7 +117,7 @@ rewrites =
     ∷ row MCLOH-AdrpLdr pair (at 0x1000 0x90000000 0x3dc00401 0) (rewritten Literal (Set nopWord) (Set 0x9c000061) Keep)
     ∷ row MCLOH-AdrpLdr pair (at 0xfffffffffffff000 0x90000001 0xbd29d025 0) Nine
     ∷ row MCLOH-AdrpAddLdr pair (at 0x33db2ef9865cfeb4 0x90000001 0x91000021 0x3ddc0025) (rewritten Literal (Set nopWord) (Set nopWord) (Set 0x9c030a25))
-    ∷ row MCLOH-AdrpAddLdr pair (at 0xfffffffffffff000 0xf0fff800 0x91004001 0x3d400022) (rewritten Adr (Set 0x10818081) (Set nopWord) (Set 0x3d400022))
+    ∷ row MCLOH-AdrpAddLdr pair (at 0xfffffffffffff000 0xf0fff800 0x91004001 0x3d400022) (rewritten Fold Keep (Set nopWord) (Set 0x3d404002))
     ∷ row MCLOH-AdrpAddLdr pair (at 0x100000000 0x90000241 0x91001022 0xf9000045) (rewritten Adr (Set 0x10240022) (Set nopWord) (Set 0xf9000045))
     ∷ row MCLOH-AdrpAddLdr pair (at 0x1000 0x905bed00 0x912f2001 0x3d000025) (rewritten Fold Keep (Set nopWord) (Set 0x3d2f2005))
     ∷ row MCLOH-AdrpAddLdr pair (at 0xfffffffffffff000 0x90000000 0x913ffc01 0x39400422) Nine
@@ -154,6 +155,11 @@ orders =
     ∷ row MCLOH-AdrpLdrGotLdr gotPair (at 0xfffffffffffff000 0x90000000 0x913ffc01 0xb9400422) (rewritten Adr (Set 0x70007fe1) (Set nopWord) Keep)
     -- a load with an offset of its own does not fold in ADRP_ADD_LDR
     ∷ row MCLOH-AdrpAddLdr pair (at 0x1000 0x905bed00 0x912f2001 0x3d000425) Declined
+    -- a literal load comes before the fold
+    ∷ row MCLOH-AdrpAddLdr pair (at 0x1000 0x90000000 0x91004000 0xf9400001) (rewritten Literal (Set nopWord) (Set nopWord) (Set 0x58000041))
+    -- the kinds of a GOT load have the ADR first
+    ∷ row MCLOH-AdrpLdrGotLdr gotPair (at 0x100000000 0x90000241 0x91002022 0x39400045) (rewritten Adr (Set 0x10240042) (Set nopWord) Keep)
+    ∷ row MCLOH-AdrpLdrGotStr gotPair (at 0x100000000 0x90000241 0x91002022 0xf9000045) (rewritten Adr (Set 0x10240042) (Set nopWord) Keep)
     -- a load of a vector register is no GOT load
     ∷ row MCLOH-AdrpLdrGot gotPair (at 0x1000 0x90000000 0xfd400401 0) Declined
     -- one byte short of 1 MiB away is in reach, 1 MiB is not
@@ -193,6 +199,6 @@ orders =
 pub examples : (decidedOf rewrites ≡ givenOf rewrites) × (decidedOf orders ≡ givenOf orders)
 unfolding choose inRange pageOf adrpPage within1mb adrpOf adrWord addOf rowOf accessOf loadStoreOf hasLiteralForm literalOpc literalV literalWord
     baseWord sumOf fitsLiteral isPageRel isPageoffRel sameReference isAbsent hasPagePair bothPages samePage adrpAdrp ldrSecond ldrAtPage adrpLdr adrTo
-    addAtPage adrpAdd addAccess through foldThird adrOrFold loadThrough adrpAddLdr adrpAddStr loadsSlot slotLoad relaxedLoad gotLoad adrpLdrGot slotTo
+    addAtPage adrpAdd addAccess through folds foldThird foldOrAdr loadThrough adrpAddLdr adrpAddStr loadsSlot slotLoad relaxedLoad gotLoad adrpLdrGot slotTo
     gotLiteral foldLoad adrOrFoldLoad relaxedTo relaxedLdr adrpLdrGotLdr relaxedStr adrpLdrGotStr decide
 examples = (refl, refl)

@@ -33,7 +33,7 @@ use Rattle.arm64_insn.specs.declared.ldst.LoadStoreWord.{LoadStoreWord}
 use Rattle.arm64_insn.specs.declared.ldst.LoadStoreWord.the-variants as L
 use Rattle.arm64_hint_terms.specs.Answer.{sumOf, summed}
 use Rattle.arm64_hint_adrp.specs.Two.{adrpAdrp, adrpLdr, adrpAdd}
-use Rattle.arm64_hint_adrp.specs.Three.{through, adrOrFold, adrpAddLdrWith, adrpAddLdr, adrpAddStrWith, adrpAddStr}
+use Rattle.arm64_hint_adrp.specs.Three.{through, foldOrAdr, adrpAddLdrWith, adrpAddLdr, adrpAddStrWith, adrpAddStr}
 use Rattle.arm64_hint_got.specs.Got.{gotLoad, adrpLdrGotWith, adrpLdrGot, gotLdrBy, gotLdrWith, adrpLdrGotLdr, gotStrBy, gotStrWith, adrpLdrGotStr}
 use Rattle.arm64_hint_laws.specs.Decide.{decide}
 use Rattle.arm64_hint_terms.specs.Kinds.{Word, Adrp-Page, Adrp-GotPage, Add-PageOff, Ldr-PageOff, Ldr-GotPageOff, Ldr, Str}
@@ -303,7 +303,7 @@ module _ (s : Insns) where
       let t = f addr d st refl in
       split (Worded s MCLOH-AdrpAddStr) (st .«is_store») _ Declined
       (λ b. adds-words MCLOH-AdrpAddStr Str (unfold choose in refl) addr d st t (inl (store-word (s .w2) st (t .third) b))
-      (summed (sumOf addr (st .offset)) (adrOrFold s addr d st)))
+      (summed (sumOf addr (st .offset)) (foldOrAdr s addr d st)))
       (λ b. tt)
 
   got-ldr-words : (pair : Bool) (z : LoadStoreWord) → loadStoreOf (s .w2) ≡ z → Worded s MCLOH-AdrpLdrGotLdr (gotLdrWith s pair z)

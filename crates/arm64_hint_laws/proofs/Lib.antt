@@ -5,4 +5,6 @@ pub mod Hinted
 pub mod Entries
 pub mod Twice
 pub mod Examples
+pub mod RustOrder
+pub mod AdrFirst
 pub mod Occurs

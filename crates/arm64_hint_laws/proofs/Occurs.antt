@@ -29,7 +29,7 @@ use Rattle.arm64_hint_terms.specs.declared.rels.Rels.{Rels}
 use Rattle.arm64_hint_terms.proofs.References.{passes-adrp-adrp, passes-adrp-ldr, passes-adrp-add-ldr, passes-adrp-ldr-got-ldr, passes-adrp-add-str}
 use Rattle.arm64_hint_terms.proofs.References.{passes-adrp-ldr-got-str, passes-adrp-add, passes-adrp-ldr-got}
 use Rattle.arm64_hint_adrp.specs.Two.{samePage, adrpAdrp, ldrSecond, ldrAtPage, adrpLdr, adrTo, addAtPage, adrpAdd}
-use Rattle.arm64_hint_adrp.specs.Three.{addAccess, through, foldThird, adrOrFold, loadThrough, adrpAddLdr, adrpAddStr}
+use Rattle.arm64_hint_adrp.specs.Three.{addAccess, through, folds, foldOrAdr, loadThrough, adrpAddLdr, adrpAddStr}
 use Rattle.arm64_hint_got.specs.Got.{loadsSlot, slotLoad, gotLoad, adrpLdrGot, slotTo, gotLiteral, adrpLdrGotLdr, adrpLdrGotStr}
 use Rattle.arm64_hint_laws.specs.Decide.{decide, Occurs}
 
@@ -60,7 +60,7 @@ module _ (r : Rels) where
 
   adrp-add-ldr : Refers MCLOH-AdrpAddLdr r → Occurs MCLOH-AdrpAddLdr r
   unfolding decide choose adrpAddLdr through adrpOf addOf loadStoreOf rowOf accessOf addAccess adrpPage pageOf sumOf loadThrough fitsLiteral hasLiteralForm
-      within1mb inRange adrOrFold foldThird baseWord
+      within1mb inRange folds foldOrAdr baseWord
   adrp-add-ldr f = record {
     words = at 0x905bed00 0x912f2001 0x3d000025;
     plan = writes Fold Keep (Set nopWord) (Set 0x3d2f2005);
@@ -77,7 +77,7 @@ module _ (r : Rels) where
   }
 
   adrp-add-str : Refers MCLOH-AdrpAddStr r → Occurs MCLOH-AdrpAddStr r
-  unfolding decide choose adrpAddStr through adrpOf addOf loadStoreOf rowOf accessOf addAccess adrpPage pageOf sumOf within1mb inRange adrOrFold foldThird
+  unfolding decide choose adrpAddStr through adrpOf addOf loadStoreOf rowOf accessOf addAccess adrpPage pageOf sumOf within1mb inRange folds foldOrAdr
       baseWord
   adrp-add-str f = record {
     words = at 0x90001000 0x91004000 0xf9000001;

@@ -22,7 +22,7 @@ use Rattle.arm64_insn.specs.Literal.{hasLiteralForm, literalOpc, literalV, lite
 use Rattle.arm64_hint_terms.specs.Answer.{sumOf, fitsLiteral}
 use Rattle.arm64_hint_terms.specs.Rels.{relAt, isPageRel, isPageoffRel, sameReference, isAbsent, hasPagePair}
 use Rattle.arm64_hint_adrp.specs.Two.{ldrSecond, ldrAtPage, adrpLdr, adrTo, addAtPage, adrpAdd}
-use Rattle.arm64_hint_adrp.specs.Three.{addAccess, through, foldThird, adrOrFold, adrpAddStr}
+use Rattle.arm64_hint_adrp.specs.Three.{addAccess, through, folds, foldThird, foldOrAdr, adrpAddStr}
 use Rattle.arm64_hint_laws.specs.Decide.{decide}
 use Rattle.arm64_hint_places.specs.Hint.{isSkipped, insnsIn, insnsOf, relsOf}
 use Rattle.arm64_hint_check.specs.Check.{isList, checkLists, checkHint, checkTo, checkAll}
@@ -75,7 +75,7 @@ pub pieces : Rewrites MCLOH-AdrpLdr (0x90000000 ∷ 0xf9400401 ∷ []) (0xd50320
     × Rewrites MCLOH-AdrpAddStr (0x90001000 ∷ 0x91004000 ∷ 0xf9000001 ∷ []) (0x90001000 ∷ 0xd503201f ∷ 0xf9000801 ∷ [])
 unfolding choose le put bytes inRange bytesOf relocAt relocBytes insnAt hintAt hintBytes wordCount rowOf pageOf adrpPage within1mb adrpOf adrWord addOf
     accessOf loadStoreOf hasLiteralForm literalOpc literalV literalWord baseWord sumOf fitsLiteral relAt isPageRel isPageoffRel sameReference isAbsent
-    hasPagePair ldrSecond ldrAtPage adrpLdr adrTo addAtPage adrpAdd addAccess through foldThird adrOrFold adrpAddStr decide isSkipped insnsIn
+    hasPagePair ldrSecond ldrAtPage adrpLdr adrTo addAtPage adrpAdd addAccess through folds foldThird foldOrAdr adrpAddStr decide isSkipped insnsIn
     insnsOf relsOf hintOutcome isList checkLists checkHint checkTo checkAll worked runOf imageOf
 pieces = ((refl, refl), (refl, refl), (refl, refl))
 

@@ -43,6 +43,17 @@ left f d u {s} {t} h a =
 pub flip : {f : ℕ → Bool} {s t : State} → Agree f s t → Agree f t s
 flip a = record { log = sym (a .log); memory = sym (a .memory); sp = sym (a .sp); v = λ r. sym (a .v r); x = λ r l h. sym (a .x r l h) }
 
+-- two states that agree with a third agree
+pub through-one : {f : ℕ → Bool} {s t u : State} → Agree f s t → Agree f s u → Agree f t u
+through-one a b =
+    record {
+      log = sym (a .log) ∙ b .log;
+      memory = sym (a .memory) ∙ b .memory;
+      sp = sym (a .sp) ∙ b .sp;
+      v = λ r. sym (a .v r) ∙ b .v r;
+      x = λ r l h. sym (a .x r l h) ∙ b .x r l h;
+    }
+
 pub right : (f : ℕ → Bool) (d u : ℕ) {s t : State} → f d ≡ true → Agree f s t → Agree f s (setX d u t)
 right f d u h a = flip (left f d u h (flip a))
 
@@ -119,3 +130,12 @@ accesses f (Table.store m c n) t a l h k =
     rw (source-same f m c n t l h k) (weaken (λ r e. and-true (f r) e) (writes f n a _ (lists f store a n _ k)))
 accesses f (Table.prefetch m) t a l h k = weaken (λ r e. and-true (f r) e) k
 accesses f Table.unallocated t a l h k = weaken (λ r e. and-true (f r) e) k
+
+-- an access leaves every general register that it does not load
+pub moved-keeps : (row : Row) (t a r : ℕ) (s : State) → r < 31 → loadsTo row t r ≡ false → (moved row t a s) .x r ≡ s .x r
+unfolding moved listed setV setMemory
+moved-keeps (Table.load m general n g) t a r s l h = set-at t _ r _ l ∙ choose-false _ _ _ h
+moved-keeps (Table.load m vector n g) t a r s l h = refl
+moved-keeps (Table.store m c n) t a r s l h = refl
+moved-keeps (Table.prefetch m) t a r s l h = refl
+moved-keeps Table.unallocated t a r s l h = refl

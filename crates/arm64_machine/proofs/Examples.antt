@@ -10,7 +10,7 @@ use Rattle.arm64_insn.specs.Page.{pageOf, adrpPage}
 use Rattle.arm64_insn.specs.Manual as Manual
 use Rattle.arm64_machine.specs.Examples.{start, logged, idle}
 use Rattle.arm64_machine.specs.Premises.{Each, links31, adds31, storesMade, FairWords}
-use Rattle.arm64_machine.specs.SameRun.{SameRun}
+use Rattle.arm64_machine.specs.SameRun.{SameRun, CloseRun}
 use Rattle.arm64_machine.proofs.FairLaws.{load-literal, add-adr, chain}
 use Rattle.arm64_machine.proofs.FairTest.{fair-by}
 use Rattle.arm64_machine.proofs.Rewrites.{folded}
@@ -94,7 +94,7 @@ pub fair-6 : FairWords (placed 0x90000000 0x1000 ∷ placed 0xf9400401 0x1004 �
 unfolding Manual.allocated links31 adds31 storesMade action decode choose rowOf
 fair-6 = fair-by refl refl refl refl refl
 
-pub piece-6 : SameRun (placed 0x90000000 0x1000 ∷ placed 0xf9400401 0x1004 ∷ []) (placed 0xd503201f 0x1000 ∷ placed 0x58000021 0x1004 ∷ [])
+pub piece-6 : CloseRun (placed 0x90000000 0x1000 ∷ placed 0xf9400401 0x1004 ∷ []) (placed 0xd503201f 0x1000 ∷ placed 0x58000021 0x1004 ∷ [])
 unfolding action decode choose rowOf literalRowOf pageOf adrpPage literalTarget accessAddress
 piece-6 = load-literal fair-6 refl refl refl refl refl
 
@@ -102,7 +102,7 @@ pub fair-7 : FairWords (placed 0x90000000 0x1000 ∷ placed 0x91000c00 0x1004 �
 unfolding Manual.allocated links31 adds31 storesMade action decode choose
 fair-7 = fair-by refl refl refl refl refl
 
-pub piece-7 : SameRun (placed 0x90000000 0x1000 ∷ placed 0x91000c00 0x1004 ∷ []) (placed 0x70000000 0x1000 ∷ placed 0xd503201f 0x1004 ∷ [])
+pub piece-7 : CloseRun (placed 0x90000000 0x1000 ∷ placed 0x91000c00 0x1004 ∷ []) (placed 0x70000000 0x1000 ∷ placed 0xd503201f 0x1004 ∷ [])
 unfolding action decode choose pageOf adrpPage adrTarget addValue
 piece-7 = add-adr fair-7 refl refl refl refl refl
 
@@ -110,7 +110,7 @@ pub fair-8 : FairWords (placed 0x90001000 0x1000 ∷ placed 0x91004000 0x1004 �
 unfolding Manual.allocated links31 adds31 storesMade action decode choose rowOf
 fair-8 = fair-by refl refl refl refl refl
 
-pub piece-8 : SameRun (placed 0x90001000 0x1000 ∷ placed 0x91004000 0x1004 ∷ placed 0xf9000001 0x1008 ∷ [])
+pub piece-8 : CloseRun (placed 0x90001000 0x1000 ∷ placed 0x91004000 0x1004 ∷ placed 0xf9000001 0x1008 ∷ [])
     (placed 0x90001000 0x1000 ∷ placed 0xd503201f 0x1004 ∷ placed 0xf9000801 0x1008 ∷ [])
 unfolding action decode choose rowOf pageOf adrpPage accessAddress addValue
 piece-8 = folded (chain fair-8 refl refl refl) refl refl refl
@@ -165,3 +165,9 @@ unfolding action decode choose rowOf accessAddress base moved write setMemory li
 store-memory same =
     let z : _≡_ {A = ℕ} 0x10 0xf9 = ap (λ (m : ℕ → ℕ). m 0x10f9) (same .agree idle start .memory) in
     omega arith
+
+-- a register that a kept word made counts: adrp x1; add x2, x1, #8; ldrb w5, [x2], and the same access by add x1, x1, #8, which spoils the page in x1
+pub page-spoilt : CloseRun (placed 0x90000001 0x1000 ∷ placed 0x91002022 0x1004 ∷ placed 0x39400045 0x1008 ∷ [])
+    (placed 0x90000001 0x1000 ∷ placed 0x91002021 0x1004 ∷ placed 0x39400025 0x1008 ∷ []) → ⊥
+unfolding action decode choose rowOf pageOf adrpPage accessAddress addValue base moved read setX listed
+page-spoilt same = let z : _≡_ {A = ℕ} 0x1000 0x1008 = same .agree idle start .x 1 (lit< tt) refl in omega arith

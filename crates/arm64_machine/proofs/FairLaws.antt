@@ -1,21 +1,21 @@
 -- What fair words give, one test at a time, and the rewrites of fair words. Carried by taking the tests of a list apart.
 use mathlib.Core.Path.{_≡_, refl, sym, ap₂, _∙_}
 use mathlib.Core.Logic.{_≢_}
-use mathlib.Core.Bool.{Bool, true, false, _&&_, _||_}
+use mathlib.Core.Bool.{Bool, true, false, _&&_}
 use mathlib.Core.List.{List, [], _∷_}
 use Prim.Native.Nat.{ℕ, _<_}
 use native.Mathlib.Omega.{arith}
-use lib.Dec.{eqb, ltb}
+use lib.Dec.{eqb}
 use borrow.Author.Tests.{eqb-false}
-use Rattle.arm64_insn.specs.LoadStoreTable.{Row, load, store, prefetch, unallocated, Mnemonic, general, vector, Widening}
+use Rattle.arm64_insn.specs.LoadStoreTable.{Row, load, store, Mnemonic, general, Widening}
 use Rattle.arm64_insn.specs.ManualTargets.{adrTarget, literalTarget, accessAddress, addValue}
 use Rattle.arm64_insn.specs.Page.{adrpPage}
 use Rattle.arm64_machine.specs.Machine.{Action, adr, adrp, add, access, literal, nop, action, State, Placed, placed, Other}
-use Rattle.arm64_machine.specs.SameRun.{writesOr, SameRun}
-use Rattle.arm64_machine.specs.Premises.{reads, links31, adds31, storesOf, storesAny, storesMade, FairWords, WordPremises}
+use Rattle.arm64_machine.specs.SameRun.{writesOr, CloseRun}
+use Rattle.arm64_machine.specs.Premises.{reads, links31, adds31, storesAny, storesMade, FairWords, WordPremises}
 use Rattle.arm64_machine.proofs.Actions.{ranged}
 use Rattle.arm64_machine.proofs.Rewrites as Rewrites
-use Rattle.arm64_machine.proofs.Rewrites.{Chain}
+use Rattle.arm64_machine.proofs.Rewrites.{Chain, of-neither}
 
 -- all premises (RULES 9.12 to 9.20) give those that are needed
 pub fair : {ws : List Placed} {o : Other} {s : State} → WordPremises ws o s → FairWords ws
@@ -45,29 +45,17 @@ unmade : (w u : ℕ) {x y : Action} → storesMade w u ≡ false → action w �
 unfolding storesMade
 unmade w u h ex ey = sym (ap₂ (λ (x y : Action). storesAny y (writesOr false x)) ex ey) ∙ h
 
--- a store of neither of two sets of registers
-of-neither : (row : Row) (t : ℕ) (f g : ℕ → Bool) → storesOf row t f ≡ false → storesOf row t g ≡ false → storesOf row t (λ r. g r || f r) ≡ false
-of-neither (load m c n z) t f g p q = refl
-of-neither (store m general n) t f g p q = go (ltb t 31) (f t) (g t) p q
-  where
-    go : (l x y : Bool) → (l && x) ≡ false → (l && y) ≡ false → (l && (y || x)) ≡ false
-    go true x y p q = rw q p
-    go false x y p q = refl
-of-neither (store m vector n) t f g p q = refl
-of-neither (prefetch m) t f g p q = refl
-of-neither unallocated t f g p q = refl
-
 -- ADRP, load: NOP and a literal load
 pub load-literal : {a b n b′ p q d k t i j : ℕ} {row : Row} → FairWords (placed a p ∷ placed b q ∷ []) → action a ≡ adrp d k → action b ≡ access row t d i
     → action n ≡ nop → action b′ ≡ literal row t j → accessAddress row (adrpPage k p) i ≡ literalTarget j q
-    → SameRun (placed a p ∷ placed b q ∷ []) (placed n p ∷ placed b′ q ∷ [])
+    → CloseRun (placed a p ∷ placed b q ∷ []) (placed n p ∷ placed b′ q ∷ [])
 load-literal {a} {b} {d = d} h ea eb en el e =
     Rewrites.load-literal ea eb en el (linked-low a b d (h .no-31-link .0) ea (rw eb)) (ranged b eb .0) (unmade a b (h .no-store .0 .0) ea eb) e
 
 -- ADRP, ADD: ADR and NOP
 pub add-adr : {a b a′ n p q d k e i j : ℕ} → FairWords (placed a p ∷ placed b q ∷ []) → action a ≡ adrp d k → action b ≡ add e d i
     → action a′ ≡ adr e j → action n ≡ nop → addValue 1 0 (adrpPage k p) i ≡ adrTarget j p
-    → SameRun (placed a p ∷ placed b q ∷ []) (placed a′ p ∷ placed n q ∷ [])
+    → CloseRun (placed a p ∷ placed b q ∷ []) (placed a′ p ∷ placed n q ∷ [])
 add-adr {a} {b} {d = d} h ea eb er en e =
     Rewrites.add-adr ea eb er en (linked-low a b d (h .no-31-link .0) ea (rw eb)) (added-low b (h .no-31-added .1 .0) eb) e
 
@@ -82,14 +70,15 @@ chain {a} {b} {c} {d = d} {e = e} {t = t} {row = row} h ea eb ec =
       low-d = linked-low a b d (h .no-31-link .0) ea (rw eb);
       low-e = added-low b (h .no-31-added .1 .0) eb;
       low-t = ranged c ec .0;
-      kept = of-neither row t (λ r. eqb r d) (λ r. eqb r e) (unmade a c (h .no-store .0 .1 .0) ea ec) (unmade b c (h .no-store .1 .0 .0) eb ec);
+      kept-d = unmade a c (h .no-store .0 .1 .0) ea ec;
+      kept-e = unmade b c (h .no-store .1 .0 .0) eb ec;
     }
 
 -- ADRP, a load of a GOT slot, and an access through what it loaded: NOP, a literal load of the slot, and the access as it was
 pub slot-literal : {a b c n b′ p q r d k e i l t j z : ℕ} {m : Mnemonic} {g : Widening} {row : Row} → FairWords (placed a p ∷ placed b q ∷ placed c r ∷ [])
     → action a ≡ adrp d k → action b ≡ access (load m general z g) e d i → action c ≡ access row t e j → action n ≡ nop
     → action b′ ≡ literal (load m general z g) e l → accessAddress (load m general z g) (adrpPage k p) i ≡ literalTarget l q
-    → SameRun (placed a p ∷ placed b q ∷ placed c r ∷ []) (placed n p ∷ placed b′ q ∷ placed c r ∷ [])
+    → CloseRun (placed a p ∷ placed b q ∷ placed c r ∷ []) (placed n p ∷ placed b′ q ∷ placed c r ∷ [])
 slot-literal {a} {b} {c} {d = d} {e = e} {t = t} {row = row} h ea eb ec en el w =
     Rewrites.slot-literal ea eb ec en el (linked-low a b d (h .no-31-link .0) ea (rw eb)) (ranged b eb .0) (ranged c ec .0)
     (of-neither row t (λ r. eqb r d) (λ r. eqb r e) (unmade a c (h .no-store .0 .1 .0) ea ec) (unmade b c (h .no-store .1 .0 .0) eb ec)) w

@@ -1,5 +1,6 @@
 -- Laws of the machine's runs.
 pub mod Agree
+pub mod Close
 pub mod Rewrites
 pub mod Actions
 pub mod FairLaws

@@ -4,10 +4,11 @@ use mathlib.Core.List.{[], _∷_}
 use Rattle.util.specs.Choice.{choose}
 use Rattle.arm64_insn.specs.LoadStoreTable.{rowOf}
 use Rattle.arm64_insn.specs.Manual.{decode}
-use Rattle.arm64_insn.specs.ManualTargets.{accessAddress}
+use Rattle.arm64_insn.specs.ManualTargets.{adrTarget, accessAddress, addValue}
+use Rattle.arm64_insn.specs.Page.{pageOf, adrpPage}
 use Rattle.arm64_machine.specs.Machine.{load, store, placed, action}
 use Rattle.arm64_machine.specs.Machine.{read, write, setX, setMemory, listed, base, moved, run}
-use Rattle.arm64_machine.specs.Examples.{high, logged, idle, placing, copying, loading}
+use Rattle.arm64_machine.specs.Examples.{start, high, logged, idle, placing, copying, loading}
 
 -- strb w1, [x0, #4]: of 2^64 - 4 the low byte is listed
 pub store-cut : (run idle (placed 0x39001001 0x1000 ∷ []) high) .log ≡ logged store 0 1 0xfc ∷ []
@@ -40,3 +41,11 @@ pub other-listed : (run loading (placed 0x39001001 0x1000 ∷ placed 0xf9800000 
     ≡ logged store 0 1 0xfc ∷ logged load 0x2000 1 0x200 ∷ []
 unfolding action decode choose rowOf accessAddress base moved write setMemory listed
 other-listed = refl
+
+-- adrp x1; add x2, x1, #8; ldrb w5, [x2]: x1 holds the page at the end, as it does after adrp x1; nop; ldrb w5, [x1, #8], but not after
+-- adr x2; nop; ldrb w5, [x2]
+pub fold-shares : ((run idle (placed 0x90000241 0x1000 ∷ placed 0x91002022 0x1004 ∷ placed 0x39400045 0x1008 ∷ []) start) .x 1 ≡ 0x49000)
+    × ((run idle (placed 0x90000241 0x1000 ∷ placed 0xd503201f 0x1004 ∷ placed 0x39402025 0x1008 ∷ []) start) .x 1 ≡ 0x49000)
+    × ((run idle (placed 0x10240042 0x1000 ∷ placed 0xd503201f 0x1004 ∷ placed 0x39400045 0x1008 ∷ []) start) .x 1 ≡ start .x 1)
+unfolding action decode choose rowOf pageOf adrpPage adrTarget accessAddress addValue base moved read setX listed
+fold-shares = (refl, refl, refl)

@@ -1,12 +1,12 @@
 -- The words that the hint rules make run as the words that they replace: each rewrite on words as the decoders of arm64_insn tell them,
 -- under that rewrite's own tests. Carried by the laws of fair words, and by what arm64_insn proves of decoded and made words.
 use mathlib.Core.Path.{_≡_, refl, sym, ap, _∙_}
-use mathlib.Core.Bool.{true, false}
+use mathlib.Core.Bool.{true, false, not, _&&_}
 use mathlib.Core.List.{[], _∷_}
-use Prim.Native.Nat.{ℕ, _+_, _%_, _^_, _<_}
+use Prim.Native.Nat.{ℕ, _+_, _/_, _%_, _^_, _<_}
 use native.Mathlib.Nat.{zero-mod}
 use native.Mathlib.Omega.{arith}
-use lib.Dec.{lit<}
+use lib.Dec.{eqb, lit<}
 use Rattle.util.specs.Bits.{field}
 use Rattle.util.specs.Wrap.{sum, diff}
 use Rattle.arm64_insn.specs.Add.{addOf}
@@ -28,8 +28,8 @@ use Rattle.arm64_insn.specs.declared.ldst.LoadStoreWord.the-variants as LoadSto
 use Rattle.arm64_insn.proofs.Decodes.{adrp-decodes, add-decodes}
 use Rattle.arm64_insn.proofs.Encodes.{adr-made, nop-made}
 use Rattle.arm64_insn.proofs.Meaning.{adr-means, literal-means, add-value}
-use Rattle.arm64_machine.specs.Machine.{adr, adrp, add, access, literal, nop, action, placed}
-use Rattle.arm64_machine.specs.SameRun.{SameRun}
+use Rattle.arm64_machine.specs.Machine.{adr, adrp, add, access, literal, nop, action, State, Other, placed, run}
+use Rattle.arm64_machine.specs.SameRun.{lastWrites, Agree, CloseRun}
 use Rattle.arm64_machine.specs.Premises.{FairWords}
 use Rattle.arm64_machine.proofs.Actions.{decoded, decoded-add, ranged}
 use Rattle.arm64_machine.proofs.Accessed.{Accessed, accessed, divides, general-load}
@@ -62,7 +62,7 @@ page-whole imm p = omega arith
 
 -- ADRP_ADRP: the second ADRP becomes NOP
 pub second-dropped : {a b p q : ℕ} {x y : A.Adrp} → adrpOf a ≡ AdrpWord.Adrp x → adrpOf b ≡ AdrpWord.Adrp y → x .rd ≡ y .rd
-    → adrpPage (x .imm) p ≡ adrpPage (y .imm) q → SameRun (placed a p ∷ placed b q ∷ []) (placed a p ∷ placed nopWord q ∷ [])
+    → adrpPage (x .imm) p ≡ adrpPage (y .imm) q → CloseRun (placed a p ∷ placed b q ∷ []) (placed a p ∷ placed nopWord q ∷ [])
 second-dropped {a} {b} {y = y} ea eb r h =
     Rewrites.second-dropped (adrp-does a ea) (adrp-does b eb ∙ ap (λ (n : ℕ). adrp n (y .imm)) (sym r)) nop-does h
 
@@ -72,7 +72,7 @@ module _ {a b p q : ℕ} {x : A.Adrp} (fair : FairWords (placed a p ∷ placed b
   -- the load becomes a literal load
   pub literal-second : {l : L.LoadStore} (to : ℕ) → loadStoreOf b ≡ LoadStoreWord.LoadStore l → l .base ≡ x .rd → hasLiteralForm l ≡ true
       → to ≡ adrpPage (x .imm) p + l .offset → to < 2 ^ 64 → to % 4 ≡ 0 → within1mb q to ≡ true
-      → SameRun (placed a p ∷ placed b q ∷ []) (placed nopWord p ∷ placed (literalWord l to q) q ∷ [])
+      → CloseRun (placed a p ∷ placed b q ∷ []) (placed nopWord p ∷ placed (literalWord l to q) q ∷ [])
   literal-second {l = l} to eb r f e lt four near =
       let y = accessed b eb (fair .allocated .1 .0) in
       let z : sum (adrpPage (x .imm) p) (l .offset) ≡ to = omega arith in
@@ -81,7 +81,7 @@ module _ {a b p q : ℕ} {x : A.Adrp} (fair : FairWords (placed a p ∷ placed b
 
   -- the two make an address, and ADR makes it at once
   pub adr-first : {d : D.Add} (to : ℕ) → addOf b ≡ AddWord.Add d → d .rn ≡ x .rd → to ≡ adrpPage (x .imm) p + d .imm → to < 2 ^ 64
-      → within1mb p to ≡ true → SameRun (placed a p ∷ placed b q ∷ []) (placed (adrWord (d .rd) to p) p ∷ placed nopWord q ∷ [])
+      → within1mb p to ≡ true → CloseRun (placed a p ∷ placed b q ∷ []) (placed (adrWord (d .rd) to p) p ∷ placed nopWord q ∷ [])
   adr-first {d = d} to eb r e lt near =
       let w = add-does b eb in
       let z : addValue 1 0 (adrpPage (x .imm) p) (d .imm) ≡ to = add-value (adrpPage (x .imm) p) (d .imm) ∙ omega arith in
@@ -103,7 +103,7 @@ module _ {a b c p q r : ℕ} {x : A.Adrp} {d : D.Add} {l : L.LoadStore} (fair : 
   -- the access becomes a literal load
   pub literal-third : (to : ℕ) → hasLiteralForm l ≡ true → to ≡ adrpPage (x .imm) p + d .imm + l .offset → to < 2 ^ 64 → to % 4 ≡ 0 → r < 2 ^ 64
       → within1mb r to ≡ true
-      → SameRun (placed a p ∷ placed b q ∷ placed c r ∷ []) (placed nopWord p ∷ placed nopWord q ∷ placed (literalWord l to r) r ∷ [])
+      → CloseRun (placed a p ∷ placed b q ∷ placed c r ∷ []) (placed nopWord p ∷ placed nopWord q ∷ placed (literalWord l to r) r ∷ [])
   literal-third to f e lt four hr near =
       let z : sum (addValue 1 0 (adrpPage (x .imm) p) (d .imm)) (l .offset) ≡ to = rw add-value (omega arith) in
       Rewrites.add-literal chain nop-does (third .literals f to r)
@@ -111,7 +111,7 @@ module _ {a b c p q r : ℕ} {x : A.Adrp} {d : D.Add} {l : L.LoadStore} (fair : 
 
   -- ADR makes the address of the access, which loses its offset
   pub adr-third : (to : ℕ) → to ≡ adrpPage (x .imm) p + d .imm + l .offset → to < 2 ^ 64 → p < 2 ^ 64 → within1mb p to ≡ true
-      → SameRun (placed a p ∷ placed b q ∷ placed c r ∷ [])
+      → CloseRun (placed a p ∷ placed b q ∷ placed c r ∷ [])
       (placed (adrWord (l .base) to p) p ∷ placed nopWord q ∷ placed (baseWord l (l .base) 0) r ∷ [])
   adr-third to e lt hp near =
       let low : l .base < 32 = ranged c (third .does) .1 in
@@ -123,28 +123,46 @@ module _ {a b c p q r : ℕ} {x : A.Adrp} {d : D.Add} {l : L.LoadStore} (fair : 
 
   -- ADR makes what ADRP and ADD made, and the access stays as it is
   pub adr-kept : (to : ℕ) → to ≡ adrpPage (x .imm) p + d .imm → to < 2 ^ 64 → p < 2 ^ 64 → within1mb p to ≡ true
-      → SameRun (placed a p ∷ placed b q ∷ placed c r ∷ []) (placed (adrWord (l .base) to p) p ∷ placed nopWord q ∷ placed c r ∷ [])
+      → CloseRun (placed a p ∷ placed b q ∷ placed c r ∷ []) (placed (adrWord (l .base) to p) p ∷ placed nopWord q ∷ placed c r ∷ [])
   adr-kept to e lt hp near =
       let z : addValue 1 0 (adrpPage (x .imm) p) (d .imm) ≡ to = add-value (adrpPage (x .imm) p) (d .imm) ∙ omega arith in
       Rewrites.add-adr-access chain (adr-does (l .base) to p (ranged c (third .does) .1) second) nop-does (based-on c second (third .does))
       (ap (λ (u : ℕ). accessAddress (rowIn c) u (imm12In c)) (z ∙ sym (adr-means to p lt hp near)))
 
-  -- the ADD's immediate goes into the access, which is through ADRP's register
-  pub folded : (off : ℕ) → off ≡ d .imm + l .offset → off < 4096 → (adrpPage (x .imm) p + d .imm) % l .size ≡ 0
-      → SameRun (placed a p ∷ placed b q ∷ placed c r ∷ []) (placed a p ∷ placed nopWord q ∷ placed (baseWord l (d .rn) off) r ∷ [])
-  folded off e lt h =
+  -- the access with the ADD's immediate in it, through ADRP's register
+  fold-does : (off : ℕ) → off < 4096 → action (baseWord l (d .rn) off) ≡ access (rowIn c) (l .reg) (x .rd) (off / l .size)
+  fold-does off lt = based-on (baseWord l (d .rn) off) first (third .based (d .rn) off (ranged b (add-does b eb) .1) lt)
+
+  -- is of the same address
+  fold-reaches : (off : ℕ) → off ≡ d .imm + l .offset → (adrpPage (x .imm) p + d .imm) % l .size ≡ 0
+      → accessAddress (rowIn c) (addValue 1 0 (adrpPage (x .imm) p) (d .imm)) (imm12In c) ≡ accessAddress (rowIn c) (adrpPage (x .imm) p) (off / l .size)
+  fold-reaches off e h =
       let g : off % l .size ≡ 0 = ap (λ (n : ℕ). n % l .size) e ∙ divides third (adrpPage (x .imm) p) (d .imm) (page-whole (x .imm) p) h in
       let z : sum (addValue 1 0 (adrpPage (x .imm) p) (d .imm)) (l .offset) ≡ sum (adrpPage (x .imm) p) off = rw add-value (omega arith) in
-      Rewrites.folded chain nop-does
-      (based-on (baseWord l (d .rn) off) first (third .based (d .rn) off (ranged b (add-does b eb) .1) lt))
-      (third .address _ ∙ z ∙ sym (third .based-address _ off g))
+      third .address _ ∙ z ∙ sym (third .based-address _ off g)
+
+  -- the ADD's immediate goes into the access, which is through ADRP's register
+  pub folded : (off : ℕ) → off ≡ d .imm + l .offset → off < 4096 → (adrpPage (x .imm) p + d .imm) % l .size ≡ 0
+      → CloseRun (placed a p ∷ placed b q ∷ placed c r ∷ []) (placed a p ∷ placed nopWord q ∷ placed (baseWord l (d .rn) off) r ∷ [])
+  folded off e lt h = Rewrites.folded chain nop-does (fold-does off lt) (fold-reaches off e h)
+
+  -- the two end alike but for the ADD's register
+  pub folded-alike : (off : ℕ) → off ≡ d .imm + l .offset → off < 4096 → (adrpPage (x .imm) p + d .imm) % l .size ≡ 0 → (o : Other) (s : State)
+      → Agree (λ m. eqb m (d .rd) && not (lastWrites (placed a p ∷ placed b q ∷ placed c r ∷ []) m))
+      (run o (placed a p ∷ placed b q ∷ placed c r ∷ []) s) (run o (placed a p ∷ placed nopWord q ∷ placed (baseWord l (d .rn) off) r ∷ []) s)
+  folded-alike off e lt h = Rewrites.folded-alike chain nopWord (baseWord l (d .rn) off) p q r nop-does (fold-does off lt) (fold-reaches off e h)
+
+  -- and ADRP's register ends with its page, unless the access loads it
+  pub folded-page : (off : ℕ) → off < 4096 → lastWrites (placed a p ∷ placed b q ∷ placed c r ∷ []) (x .rd) ≡ false
+      → (o : Other) (s : State) → (run o (placed a p ∷ placed nopWord q ∷ placed (baseWord l (d .rn) off) r ∷ []) s) .x (x .rd) ≡ adrpPage (x .imm) p
+  folded-page off lt w = Rewrites.folded-page chain nopWord (baseWord l (d .rn) off) p q r nop-does (fold-does off lt) w
 
 -- three words: ADRP, a load of a GOT slot, and an access through what it loaded
 pub slot-second : {a b c p q r : ℕ} {x : A.Adrp} {g l : L.LoadStore} (slot : ℕ) → FairWords (placed a p ∷ placed b q ∷ placed c r ∷ [])
     → adrpOf a ≡ AdrpWord.Adrp x → loadStoreOf b ≡ LoadStoreWord.LoadStore g → loadStoreOf c ≡ LoadStoreWord.LoadStore l
     → g .base ≡ x .rd → l .base ≡ g .reg → g .«is_store» ≡ false → g .«is_float» ≡ false → hasLiteralForm g ≡ true
     → slot ≡ adrpPage (x .imm) p + g .offset → slot < 2 ^ 64 → slot % 4 ≡ 0 → q < 2 ^ 64 → within1mb q slot ≡ true
-    → SameRun (placed a p ∷ placed b q ∷ placed c r ∷ []) (placed nopWord p ∷ placed (literalWord g slot q) q ∷ placed c r ∷ [])
+    → CloseRun (placed a p ∷ placed b q ∷ placed c r ∷ []) (placed nopWord p ∷ placed (literalWord g slot q) q ∷ placed c r ∷ [])
 slot-second {a} {b} {c} {p} {q} {r} {x = x} {g = g} slot fair ea eb ec first second st fl f e lt four hq near =
     let y = accessed b eb (fair .allocated .1 .0) in
     let w = accessed c ec (fair .allocated .1 .1 .0) in
@@ -152,6 +170,6 @@ slot-second {a} {b} {c} {p} {q} {r} {x = x} {g = g} slot fair ea eb ec first sec
     general-load y st fl
     (λ row. action b ≡ access row (g .reg) (x .rd) (imm12In b) → action (literalWord g slot q) ≡ literal row (g .reg) (field (diff slot q) 2 19)
     → accessAddress row (adrpPage (x .imm) p) (imm12In b) ≡ literalTarget (field (diff slot q) 2 19) q
-    → SameRun (placed a p ∷ placed b q ∷ placed c r ∷ []) (placed nopWord p ∷ placed (literalWord g slot q) q ∷ placed c r ∷ []))
+    → CloseRun (placed a p ∷ placed b q ∷ placed c r ∷ []) (placed nopWord p ∷ placed (literalWord g slot q) q ∷ placed c r ∷ []))
     (λ m n k u v h. FairLaws.slot-literal fair (adrp-does a ea) u (based-on c second (w .does)) nop-does v h)
     (based-on b first (y .does)) (y .literals f slot q) (y .address _ ∙ z ∙ sym (literal-means slot q lt hq near four (fair .aligned .1 .0)))

@@ -41,6 +41,17 @@ lastWrites (w ∷ u ∷ ws) r = lastWrites (u ∷ ws) r
 abbrev pub spared : List Placed → ℕ → Bool
 spared ws = λ r. wroteBefore ws r && not (lastWrites ws r)
 
+-- whether a word before the last that the new words do not keep is known to write r
+abbrev pub replacedBefore : (old new : List Placed) → ℕ → Bool
+replacedBefore [] new r = false
+replacedBefore (w ∷ []) new r = false
+replacedBefore (w ∷ u ∷ ws) [] r = wroteBefore (w ∷ u ∷ ws) r
+replacedBefore (w ∷ u ∷ ws) (n ∷ ns) r = replacedBefore (u ∷ ws) ns r || (not (eqb (w .word) (n .word)) && writesOr false (action (w .word)) r)
+
+-- of the spared registers, those that such a word wrote: an earlier word that stays makes what it made
+abbrev pub sparedBy : (old new : List Placed) → ℕ → Bool
+sparedBy old new = λ r. replacedBefore old new r && not (lastWrites old r)
+
 -- equal states, but for the general registers that `but` names: the accesses in order, kind, address, width and value; data memory; registers
 pub record Agree (but : ℕ → Bool) (a b : State) : Type 0 where
   pub log : a .log ≡ b .log
@@ -52,3 +63,7 @@ pub record Agree (but : ℕ → Bool) (a b : State) : Type 0 where
 -- from every state, and whatever other words do, the new words end as the old ones do
 pub record SameRun (old new : List Placed) : Type 0 where
   pub agree : (o : Other) (s : State) → Agree (spared old) (run o old s) (run o new s)
+
+-- and but for fewer registers: those alone that a word which is replaced wrote
+pub record CloseRun (old new : List Placed) : Type 0 where
+  pub agree : (o : Other) (s : State) → Agree (sparedBy old new) (run o old s) (run o new s)

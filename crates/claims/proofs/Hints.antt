@@ -6,6 +6,8 @@ use Rattle.arm64_hint_terms.specs.declared.answer.NewWord.the-variants.{Set}
 use Rattle.arm64_hint_laws.proofs.Hinted as Hinted
 use Rattle.arm64_hint_laws.proofs.Hinted.{KeepsThird, Worded}
 use Rattle.arm64_hint_laws.proofs.Occurs as Occurs
+use Rattle.arm64_hint_laws.proofs.RustOrder as RustOrder
+use Rattle.arm64_hint_laws.proofs.AdrFirst as AdrFirst
 use Rattle.arm64_hint_laws.proofs.Written as Written
 use Rattle.arm64_hint_laws.proofs.Written.{Fits, AllFit}
 use Rattle.arm64_hint_words.proofs.hint.Hint.get.Met as Get
@@ -34,6 +36,13 @@ hints =
       exceptions = Occurs.occurs;
       words = λ n s r p e. subst (Worded s n) e (Hinted.worded n s r);
       written = Written.written;
+      moved = RustOrder.moved;
+      moved-word = RustOrder.moved-word;
+      moved-only = RustOrder.moved-only;
+      moved-examples = RustOrder.moved-examples;
+      got-str-adr = AdrFirst.got-str-adr;
+      got-ldr-adr = AdrFirst.got-ldr-adr;
+      got-ldr-adr-far = AdrFirst.got-ldr-adr-far;
       two-words = λ n s r p two e. subst KeepsThird e (Hinted.two-words n s r two);
       all-fit = λ n s r p w e. let f = subst AllFit e (Written.all-fit n s r) in (set-fits (f .0), set-fits (f .1), set-fits (f .2));
       counts-sum = Answers.counts-sum;

@@ -10,6 +10,7 @@ use Rattle.arm64_insn.specs.ManualTargets.{literalTarget, accessAddress}
 use Rattle.arm64_insn.specs.Page.{pageOf, adrpPage}
 use Rattle.arm64_machine.specs.Machine.{action}
 use Rattle.arm64_machine.specs.SameRun.{SameRun}
+use Rattle.arm64_machine.proofs.Close.{close-same}
 use Rattle.arm64_machine.proofs.Different as Different
 use Rattle.arm64_machine.proofs.Examples as Machine
 use Rattle.arm64_machine.proofs.Pinned as Pinned
@@ -21,6 +22,7 @@ use Rattle.arm64_hint_kept.proofs.PartCalls.{part-call}
 use Rattle.arm64_hint_kept.proofs.AllParts.{part-calls}
 use Rattle.arm64_hint_kept.proofs.ExampleCalls.{called}
 use Rattle.arm64_hint_kept.proofs.Decisions.{decided}
+use Rattle.arm64_hint_kept.proofs.Folds.{fold-keeps, orders-alike}
 use Rattle.arm64_hint_kept.proofs.Examples as Examples
 use Rattle.arm64_hint_kept.proofs.ExampleRuns as Runs
 use Rattle.arm64_hint_kept.proofs.Needed as Needed
@@ -58,6 +60,10 @@ kept =
       part-calls = part-calls;
       part-called = called;
       decided = λ kind s r a b c. decided kind s r (record { first = a; second = b; third = c });
+      close-same = λ old new c. close-same c;
+      fold-keeps = fold-keeps;
+      orders-alike = orders-alike;
+      fold-shares = Pinned.fold-shares;
       each-rewrite = Examples.each-rewrite;
       each-shown = Examples.each-shown;
       one-of-each = (Runs.own-order, Runs.one-of-each, Runs.left, Runs.other-list, Runs.other-ends);
@@ -86,4 +92,5 @@ kept =
       sign-lost = Different.sign-lost;
       refuted = refuted;
       off-by-4 = Machine.off-by-4;
+      page-spoilt = Machine.page-spoilt;
     }

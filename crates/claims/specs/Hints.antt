@@ -1,18 +1,25 @@
 -- Linker optimization hints (RULES 1.4, 1.5, 8): LLVM's kinds, what a rewrite writes, the counts, and a sum that passes 2^64 - 1.
 use mathlib.Core.Path.{_≡_}
-use mathlib.Core.Bool.{true, _||_, not}
+use mathlib.Core.Logic.{_⊎_}
+use mathlib.Core.Bool.{true, false, _&&_, _||_, not}
 use mathlib.Core.List.{List, [], _∷_}
-use Prim.Native.Nat.{ℕ, _^_, _<_}
+use Prim.Native.Nat.{ℕ, _+_, _%_, _^_, _<_}
 use lib.Dec.{eqb}
 use lib.ListN.{length}
 use Rattle.macho.specs.Hint.{wordCount, hintCount, hintOf}
 use Rattle.macho.specs.Refusal.{numberOf}
-use Rattle.macho.specs.Types.{MCLOH-AdrpAdrp}
+use Rattle.macho.specs.Types.{MCLOH-AdrpAdrp, MCLOH-AdrpLdrGotLdr, MCLOH-AdrpLdrGotStr}
 use Rattle.macho.specs.declared.reloc.Reloc.{Reloc}
 use Rattle.macho.specs.declared.hint.HintRecord.{HintRecord}
 use Rattle.macho.specs.declared.refusal.Refusal.the-variants.{Overflow}
 use Rattle.image.specs.Steps.{Work, answered, stepOf}
+use Rattle.arm64_insn.specs.Adrp.{adrWord}
+use Rattle.arm64_insn.specs.Literal.{hasLiteralForm}
+use Rattle.arm64_insn.specs.Reach.{within1mb}
+use Rattle.arm64_insn.specs.declared.add.Add.{Add}
+use Rattle.arm64_insn.specs.declared.ldst.LoadStore.{LoadStore}
 use Rattle.arm64_hint_terms.specs.Kinds.{wordsOf, AreWords, Refers}
+use Rattle.arm64_hint_terms.specs.Plans.{adrFirst, adrThird, folded}
 use Rattle.arm64_hint_terms.specs.declared.answer.Insns.{Insns}
 use Rattle.arm64_hint_terms.specs.declared.answer.Plan.{Plan}
 use Rattle.arm64_hint_terms.specs.declared.answer.NewWord.the-variants.{Keep, Set}
@@ -20,6 +27,7 @@ use Rattle.arm64_hint_terms.specs.declared.answer.Decision.the-variants.{Declin
 use Rattle.arm64_hint_terms.specs.declared.rels.Rel.the-variants.{Entry}
 use Rattle.arm64_hint_terms.specs.declared.rels.Rels.{Rels}
 use Rattle.arm64_hint_laws.specs.Decide.{decide, Occurs}
+use Rattle.arm64_hint_laws.specs.RustOrder.{inRustOrder, BothFit, AdrFits, MovedExamples}
 use Rattle.arm64_hint_laws.specs.Written.{Written}
 use Rattle.arm64_hint_order.specs.Lists.{runList}
 use Rattle.arm64_hint_words.proofs.hint.Hint.get.Statement as Get
@@ -60,6 +68,23 @@ pub record Hints : Type 2 where
   pub words : (n : ℕ) (s : Insns) (r : Rels) (p : Plan) → decide n s r ≡ Rewritten p → AreWords (wordsOf n) (s .w0 ∷ s .w1 ∷ s .w2 ∷ [])
   -- RULES 8.12, 8.14: what each rewrite writes at each place, and which kinds may answer nine: the table Written (arm64_hint_laws/specs/Written)
   pub written : (kind : ℕ) (s : Insns) (r : Rels) → Written s kind (decide kind s r)
+  -- RULES 8.18, 8.20: a hint of ADRP_ADD_LDR or ADRP_ADD_STR that both the fold and the ADR fit is folded; the Rust's order has the ADR
+  pub moved : (kind : ℕ) (s : Insns) (r : Rels) (f : BothFit kind s r)
+      → (decide kind s r ≡ folded (f .ls) (f .d .rn) (f .d .imm)) × (inRustOrder kind s r ≡ adrThird s (f .ls) (f .addr))
+  -- that ADR is never the ADRP that the fold keeps
+  pub moved-word : (kind : ℕ) (s : Insns) (r : Rels) (f : BothFit kind s r) → adrWord (f .ls .base) (f .addr) (s .p0) ≡ s .w0 → ⊥
+  -- no other hint of these two kinds moves: it is decided as in the Rust's order
+  pub moved-only : (kind : ℕ) (s : Insns) (r : Rels) → (decide kind s r ≡ inRustOrder kind s r) ⊎ BothFit kind s r
+  -- a load and a store of ADRP_ADD_LDR and a store of ADRP_ADD_STR that both fit, with the words of both orders
+  pub moved-examples : MovedExamples
+  -- RULES 8.19, 8.21: the kinds of a GOT load keep the ADR before the fold. ADRP_LDR_GOT_STR has it for every store that it fits
+  pub got-str-adr : (s : Insns) (r : Rels) (d : Add) (addr : ℕ) (st : LoadStore) → AdrFits s r d addr st → st .«is_store» ≡ true
+      → decide MCLOH-AdrpLdrGotStr s r ≡ adrFirst s (st .base) addr
+  -- ADRP_LDR_GOT_LDR for every access that it fits and that is no literal load: without a literal form, of no multiple of 4, or out of the load's reach
+  pub got-ldr-adr : (s : Insns) (r : Rels) (d : Add) (addr : ℕ) (ld : LoadStore) → AdrFits s r d addr ld → (hasLiteralForm ld && eqb (addr % 4) 0) ≡ false
+      → decide MCLOH-AdrpLdrGotLdr s r ≡ adrFirst s (ld .base) addr
+  pub got-ldr-adr-far : (s : Insns) (r : Rels) (d : Add) (addr : ℕ) (ld : LoadStore) → AdrFits s r d addr ld → addr + ld .offset < 2 ^ 64
+      → within1mb (s .p2) (addr + ld .offset) ≡ false → decide MCLOH-AdrpLdrGotLdr s r ≡ adrFirst s (ld .base) addr
   -- a kind of two words writes no third place
   pub two-words : (n : ℕ) (s : Insns) (r : Rels) (p : Plan) → length (wordsOf n) ≡ 2 → decide n s r ≡ Rewritten p → p .w2 ≡ Keep
   -- each new word has 32 bits

@@ -1,5 +1,5 @@
 -- What a run of hints keeps (RULES 1.9 to 1.14, 9): the statement of every list of a run's hint steps, that it is not vacuous, and that each premise is needed.
--- The statement itself (Fair, Same, HintsKept, Premises, Literally) is arm64_hint_kept/specs/HintsKept, the machine arm64_machine/specs.
+-- The statement itself (Fair, Close, HintsKept, Premises, Literally) is arm64_hint_kept/specs/HintsKept, the machine arm64_machine/specs.
 use mathlib.Core.Path.{_≡_}
 use mathlib.Core.Logic.{_≢_}
 use mathlib.Core.Bool.{true, false}
@@ -15,11 +15,15 @@ use Rattle.arm64_insn.specs.ManualTargets.{literalTarget, accessAddress}
 use Rattle.arm64_insn.specs.Page.{adrpPage}
 use Rattle.arm64_machine.specs.Machine.{load, store, Placed, placed, State, Other, action, adrp, access, literal, nop, other, run}
 use Rattle.arm64_machine.specs.Examples.{start, high, logged, idle, placing, copying, loading}
-use Rattle.arm64_machine.specs.SameRun.{SameRun}
+use Rattle.arm64_machine.specs.SameRun.{spared, Agree, SameRun, CloseRun}
 use Rattle.arm64_machine.specs.Premises as Machine
 use Rattle.arm64_hint_terms.specs.declared.answer.Insns.{Insns}
+use Rattle.arm64_hint_terms.specs.declared.answer.Plan.{Plan}
+use Rattle.arm64_hint_terms.specs.declared.answer.Rewrite.the-variants.{Fold}
+use Rattle.arm64_hint_terms.specs.declared.answer.Decision.the-variants.{Rewritten}
 use Rattle.arm64_hint_terms.specs.declared.rels.Rels.{Rels}
 use Rattle.arm64_hint_laws.specs.Decide.{decide}
+use Rattle.arm64_hint_laws.specs.RustOrder.{inRustOrder, BothFit}
 use Rattle.arm64_hint_order.specs.Lists.{Once}
 use Rattle.arm64_hint_order.specs.Cursor.{objectAt, lateAt, orderOf}
 use Rattle.arm64_hint_order.specs.Rising.{Rising}
@@ -27,9 +31,10 @@ use Rattle.arm64_hint_work.specs.declared.tally.Tally.{Tally}
 use Rattle.arm64_hint_run.specs.Run.{worked, runOf, imageOf}
 use Rattle.arm64_hint_run.specs.declared.run.RunAnswer.{RunAnswer}
 use Rattle.arm64_hint_run.specs.declared.run.RunAnswer.the-variants.{Done}
-use Rattle.arm64_hint_kept.specs.HintsKept.{Fair, Same, HintsKept, Premises, Literally}
+use Rattle.arm64_hint_kept.specs.HintsKept.{Fair, Close, HintsKept, Premises, Literally}
 use Rattle.arm64_hint_kept.specs.HintsKept as Order
 use Rattle.arm64_hint_kept.specs.Decided.{placedOf, after}
+use Rattle.arm64_hint_kept.specs.Folded.{FoldKeeps}
 use Rattle.arm64_hint_kept.specs.PartCalls.{Call, partOf, PartCall, PartCalls, added}
 use Rattle.arm64_hint_kept.specs.Examples.{words, place, none-at, hintIn, lent, pair, gotPair, counts, EachRewrite, Shown}
 use Rattle.arm64_hint_kept.specs.ExampleRuns.{four, fourWords, fourAfter, beside, besideCalls, besideCounts, besideWords, besideAfter}
@@ -44,6 +49,10 @@ one p w = placed w p ∷ []
 -- two words, one after another
 abbrev pub two : (p q w u : ℕ) → List Placed
 two p q w u = placed w p ∷ placed u q ∷ []
+
+-- three words from an address on
+abbrev pub three : (p w u v : ℕ) → List Placed
+three p w u v = placed w p ∷ placed u (p + 4) ∷ placed v (p + 8) ∷ []
 
 -- what a run of hints keeps
 pub record Kept : Type 0 where
@@ -67,14 +76,14 @@ pub record Kept : Type 0 where
       → (worked image hints entries (orderOf hints) ≡ record { image = left; tally = t })
       × (Once (hintCount hints) (orderOf hints))
       × (Order.KeepsOrder hints (orderOf hints))
-      × ((l : List ℕ) → Once (hintCount hints) l → Literally image hints entries l t)
+      × ((l : List ℕ) → Once (hintCount hints) l → HintsKept image hints entries l t × Literally image hints entries l t)
   -- RULES 1.9 to 1.13 of the exported call: `number`, `tally` and `left` are what the contract of hauklivo/src/hints.rt says that it returns and leaves
   pub of-the-call : (image hints entries left : List ℕ) (old tally : Tally) (number : ℕ) → number ≡ HintsCall.numberTo image hints entries
       → tally ≡ HintsCall.tallyTo image hints entries old → left ≡ HintsCall.imageTo image hints entries → number ≡ 0
       → (worked image hints entries (orderOf hints) ≡ record { image = left; tally = tally })
       × (Once (hintCount hints) (orderOf hints))
       × (Order.KeepsOrder hints (orderOf hints))
-      × ((l : List ℕ) → Once (hintCount hints) l → Literally image hints entries l tally)
+      × ((l : List ℕ) → Once (hintCount hints) l → HintsKept image hints entries l tally × Literally image hints entries l tally)
   -- RULES 9.31: a call for a part of the image leaves there what one run over the image leaves there
   pub part-call : (image hints entries : List ℕ) (t : Tally) → runOf image hints entries ≡ Done t
       → (c : Call) (u : Tally) → c .start + c .len ≤ length image → runOf (partOf c image) (c .hints) (c .entries) ≡ Done u → PartCall hints entries c
@@ -87,9 +96,21 @@ pub record Kept : Type 0 where
       × (t ≡ added u m)
   -- three hints in two calls
   pub part-called : PartCalls besideWords (lent beside) pair 2 besideCalls besideCounts
-  -- RULES 1.9: fair words run as what is decided of them, for every kind and whatever the entries say
+  -- RULES 1.9, 9.11: fair words run closely as what is decided of them, for every kind and whatever the entries say
   pub decided : (kind : ℕ) (s : Insns) (r : Rels) → s .p0 < 2 ^ 64 → s .p1 < 2 ^ 64 → s .p2 < 2 ^ 64 → Machine.FairWords (placedOf (wordCount kind) s)
-      → SameRun (placedOf (wordCount kind) s) (placedOf (wordCount kind) (after (decide kind s r) s))
+      → CloseRun (placedOf (wordCount kind) s) (placedOf (wordCount kind) (after (decide kind s r) s))
+  -- words that run closely alike run alike
+  pub close-same : (old new : List Placed) → CloseRun old new → SameRun old new
+  -- RULES 9.33: what a fold leaves (FoldKeeps: arm64_hint_kept/specs/Folded): ADRP, the old accesses, its page in ADRP's register; only the ADD's may differ
+  pub fold-keeps : (kind : ℕ) (s : Insns) (r : Rels) (p : Plan) → Machine.FairWords (placedOf 3 s) → decide kind s r ≡ Rewritten p → p .rewrite ≡ Fold
+      → FoldKeeps s (after (Rewritten p) s)
+  -- where fold and ADR both fit, the words of either order make the same accesses and end alike but for what is exempt
+  pub orders-alike : (kind : ℕ) (s : Insns) (r : Rels) → s .p0 < 2 ^ 64 → Machine.FairWords (placedOf 3 s) → BothFit kind s r → (o : Other) (z : State)
+      → Agree (spared (placedOf 3 s)) (run o (placedOf 3 (after (inRustOrder kind s r) s)) z) (run o (placedOf 3 (after (decide kind s r) s)) z)
+  -- adrp x1; add x2, x1, #8; ldrb w5, [x2]: the page is in x1 at the end, and so it is after the fold; the ADR leaves there what was there
+  pub fold-shares : ((run idle (three 0x1000 0x90000241 0x91002022 0x39400045) start) .x 1 ≡ 0x49000)
+      × ((run idle (three 0x1000 0x90000241 0xd503201f 0x39402025) start) .x 1 ≡ 0x49000)
+      × ((run idle (three 0x1000 0x10240042 0xd503201f 0x39400045) start) .x 1 ≡ start .x 1)
   -- not vacuous: hints of each kind that meet every premise, are rewritten, and whose words then run alike; among them one for each rewrite that a
   -- decision of the kind ends in
   pub each-rewrite : EachRewrite
@@ -99,7 +120,7 @@ pub record Kept : Type 0 where
       × (runOf fourWords (lent four) pair ≡ Done (counts 1 1 1 1))
       × (imageOf fourWords (lent four) pair ≡ fourAfter)
       × (worked fourWords (lent four) pair (0 ∷ 1 ∷ 2 ∷ 3 ∷ []) ≡ record { image = fourAfter; tally = counts 1 1 1 1 })
-      × Same (hintOf (lent four) 0) fourWords fourAfter
+      × Close (hintOf (lent four) 0) fourWords fourAfter
   -- three hints that meet every premise are all rewritten, and the words of each run in the last image as in the first: by the run's own list, and by
   -- one that does not keep an object's own order
   pub all-end : (orderOf (lent beside) ≡ 2 ∷ 0 ∷ 1 ∷ [])
@@ -110,7 +131,7 @@ pub record Kept : Type 0 where
   -- a hint whose places fall
   pub falls : (runOf (words (0xf9400401 ∷ 0x90000000 ∷ [])) (lent falling) pair ≡ Done (counts 1 0 0 0))
       × (imageOf (words (0xf9400401 ∷ 0x90000000 ∷ [])) (lent falling) pair ≡ words (0x58000041 ∷ 0xd503201f ∷ []))
-      × Same (hintOf (lent falling) 0) (words (0xf9400401 ∷ 0x90000000 ∷ [])) (words (0x58000041 ∷ 0xd503201f ∷ []))
+      × Close (hintOf (lent falling) 0) (words (0xf9400401 ∷ 0x90000000 ∷ [])) (words (0x58000041 ∷ 0xd503201f ∷ []))
   -- kind 1 is worked last: the literal load is made, and ADRP_ADRP then declines; by list position the image would be another
   pub kind-1-last : (orderOf (lent late) ≡ 1 ∷ 0 ∷ [])
       × (runOf lateWords (lent late) pair ≡ Done (counts 1 0 1 0))
@@ -170,3 +191,6 @@ pub record Kept : Type 0 where
       × (SameRun (two 0x1000 0x1004 0x90000000 0xb9800401) (two 0x1000 0x1004 0xd503201f 0x18000001) → ⊥)
   -- example 6 with the literal load 4 bytes off
   pub off-by-4 : SameRun (two 0x1000 0x1004 0x90000000 0xf9400401) (two 0x1000 0x1004 0xd503201f 0x58000041) → ⊥
+  -- of words that keep their ADRP, the same access by way of ADRP's register is not closely the same: adrp x1; add x2, x1, #8; ldrb w5, [x2] by
+  -- adrp x1; add x1, x1, #8; ldrb w5, [x1]
+  pub page-spoilt : CloseRun (three 0x1000 0x90000001 0x91002022 0x39400045) (three 0x1000 0x90000001 0x91002021 0x39400025) → ⊥

@@ -83,6 +83,13 @@ fn example_listing() {
     let near = String::from_utf8(done.stdout).unwrap();
     assert!(near.contains("\nNo reports.\n"));
     assert!(near.contains("  6  ADRP_ADD_LDR, rewritten: literal load\n"));
+    // Within reach of an ADR: the ADRP is kept.
+    assert!(near.contains(
+        "\n    7  ADRP_ADD_STR, rewritten: ADD folded into the access
+         100004068  90000028 adrp x8, 0x100008000  the same
+         10000406c  91004108 add x8, x8, #0x10     d503201f nop
+         100004070  b9000100 str w0, [x8]          b9001100 str w0, [x8, #0x10]\n"
+    ));
     assert!(near.ends_with("\nTally: 13 rewritten, 0 skipped, 2 declined, 0 turned down by 9; 0 not run.\n"));
 
     let far = String::from_utf8(relink(&["--data", "0x101000000"]).stdout).unwrap();

@@ -44,8 +44,8 @@ returns c =
 fits-literal-requires : tie.Need-fits-literal-requires
 fits-literal-requires c κs = search needs
 
-adr-or-fold-requires : tie.Need-adr-or-fold-requires
-adr-or-fold-requires c κs =
+fold-or-adr-requires : tie.Need-fold-or-adr-requires
+fold-or-adr-requires c κs =
     let fits-literal = c .before in
     let target = fits-literal .before .before in
     let sum-of = target .before .before in
@@ -63,7 +63,7 @@ returns-2 c =
     let addr = sum-of .before .before in
     let adrp-add-ldst = addr .before .before in
     simp (
-      c .adr-or-fold .ensures,
+      c .fold-or-adr .ensures,
       not-true (fits-literal .fits-literal .result) (if1 .if1 .taken),
       ← fits-literal .fits-literal .ensures,
       target .target .given .1,
@@ -129,7 +129,7 @@ adrp-add-ldr-spec =
     enum-told-3
     returns
     fits-literal-requires
-    adr-or-fold-requires
+    fold-or-adr-requires
     returns-2
     literal-third-requires
     returns-3

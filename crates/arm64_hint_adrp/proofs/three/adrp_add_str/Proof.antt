@@ -54,8 +54,8 @@ returns-2 c =
       ← adrp-add-ldst .adrp-add-ldst .ensures,
     )
 
-adr-or-fold-requires : tie.Need-adr-or-fold-requires
-adr-or-fold-requires c κs =
+fold-or-adr-requires : tie.Need-fold-or-adr-requires
+fold-or-adr-requires c κs =
     let target = c .before in
     let sum-of = target .before .before in
     let if1 = sum-of .before in
@@ -88,7 +88,7 @@ returns-5 c =
     let addr = if1 .before .before .before in
     let adrp-add-ldst = addr .before .before in
     simp (
-      c .adr-or-fold .ensures,
+      c .fold-or-adr .ensures,
       target .target .given .1,
       ← sum-of .sum-of .ensures,
       not-false (addr .addr .given .0 .1 .1 .0 .«is_store») (if1 .if1 .left),
@@ -109,7 +109,7 @@ adrp-add-str-spec =
     enum-known-target
     enum-told-3
     returns-2
-    adr-or-fold-requires
+    fold-or-adr-requires
     returns-3
     returns-4
     returns-5)

@@ -1,0 +1,172 @@
+//! Rows of docs/DIFFERENCES.md about one hint at its turn, and the run of a list, hint by hint, in which they hold.
+
+use hauklivo::{HintRecord, Record};
+
+use crate::differences::{Met, Of};
+use crate::hint_shape::NOP;
+use crate::hint_ways::{
+    Named, access, base, destination, has_literal_form, immediate, is_add, is_adrp, is_near, page_of, unpaired,
+};
+use crate::hints::{Answer, Case, REWRITTEN, is_skipped, looked_at, named};
+use crate::lent::hex;
+use crate::{Difference, World};
+
+/// What becomes of a hint that is rewritten: the new word of each place that gets one.
+type Words = [Option<u32>; 3];
+type Step = fn(&[Named]) -> Words;
+
+/// By name, of a hint's kind and its words as they stand at its turn.
+const PREDICATES: &[(&str, fn(u8, &[Named]) -> bool)] = &[
+    ("add_ldr_folds_near_adrp", |kind, n| kind == 3 && folds_near_adrp(n) && !is_literal(n)),
+    ("add_str_folds_near_adrp", |kind, n| kind == 5 && folds_near_adrp(n) && is_store(n)),
+];
+
+/// By name, of the same words: what is expected, and what the Rust makes of them.
+const EXPECTED: &[(&str, Step, Step)] = &[("as_fold", as_fold, as_adr)];
+
+/// The address that ADRP and ADD make.
+fn address(n: &[Named]) -> u64 {
+    page_of(&n[0]) + immediate(n[1].word)
+}
+
+fn is_store(n: &[Named]) -> bool {
+    access(n[2].word).is_some_and(|(_, is_store)| is_store)
+}
+
+/// Whether a load without an offset of its own becomes a literal load.
+fn is_literal(n: &[Named]) -> bool {
+    has_literal_form(n[2].word) && is_near(n[2].address, address(n))
+}
+
+/// Whether the words are an ADRP, an ADD and an access through it that can take the ADD's immediate in: it has no offset
+/// of its own, and the address is a multiple of the bytes moved. And whether ADR could make that address, as well.
+fn folds_near_adrp(n: &[Named]) -> bool {
+    let [adrp, add, third] = [n[0].word, n[1].word, n[2].word];
+    let Some((size, _)) = access(third) else { return false };
+    let linked = base(add) == destination(adrp) && base(third) == destination(add);
+    unpaired(n, false).is_none()
+        && is_adrp(adrp)
+        && is_add(add)
+        && linked
+        && immediate(third) == 0
+        && address(n).is_multiple_of(size)
+        && is_near(n[0].address, address(n))
+}
+
+/// The ADRP is kept, and the access goes through its register with the ADD's immediate.
+fn as_fold(n: &[Named]) -> Words {
+    let (size, _) = access(n[2].word).expect("the row's access");
+    let units = (immediate(n[1].word) / size) as u32;
+    [None, Some(NOP), Some(n[2].word & 0xffc0_001f | units << 10 | base(n[1].word) << 5)]
+}
+
+/// An ADR makes the address in the access's base, and the access has no offset.
+fn as_adr(n: &[Named]) -> Words {
+    let distance = address(n).wrapping_sub(n[0].address) as u32;
+    let adr = 0x1000_0000 | (distance & 3) << 29 | (distance >> 2 & 0x7_ffff) << 5 | base(n[2].word);
+    [Some(adr), Some(NOP), Some(n[2].word & !(0xfff << 10))]
+}
+
+/// A row about one hint.
+pub struct Row {
+    pub met: Met,
+    holds: fn(u8, &[Named]) -> bool,
+    expected: Step,
+    rust: Step,
+}
+
+impl Row {
+    /// The row of these names, None where they are not names of this file.
+    pub fn named([name, predicate, expected]: [&str; 3]) -> Option<Self> {
+        let holds = PREDICATES.iter().find(|n| n.0 == predicate)?.1;
+        let &(_, expected, rust) = EXPECTED.iter().find(|n| n.0 == expected)?;
+        Some(Self { met: Met::new(name, Of::Hints), holds, expected, rust })
+    }
+}
+
+/// The first row that holds of a hint over an image.
+fn row_of<'a>(rows: &'a [Row], image: &[u8], case: &Case, hint: &HintRecord) -> Option<(&'a Row, Vec<Named>)> {
+    let words = named(image, &case.entries, hint);
+    let row = rows.iter().find(|row| !is_skipped(hint) && (row.holds)(hint.kind, &words))?;
+    Some((row, words))
+}
+
+/// What is expected of a case that the Rust ran to its end: the Rust's answer, or, where a row holds of a hint at its turn,
+/// what the hints come to one after another.
+pub fn expected(rows: &[Row], case: &Case, rust: Answer, world: &World) -> Result<Answer, Difference> {
+    let list = case.list();
+    let is_untouched = match &list[..] {
+        [] => true,
+        [hint] => row_of(rows, &case.image, case, hint).is_none(),
+        _ => false,
+    };
+    if is_untouched {
+        return Ok(rust);
+    }
+    let walked = walk(rows, case, &list, world)?;
+    if walked.by_row.contains(&true) {
+        return Ok(Answer { by_own_walk: rust.by_own_walk, ..walked });
+    }
+    let same = walked.image == rust.image && walked.outcomes == rust.outcomes && walked.tally == rust.tally;
+    same.then_some(rust).ok_or_else(|| Difference {
+        input: case.show(),
+        port: "not asked".into(),
+        expected: "that the Rust's run is its rules hint by hint, in the order of work".into(),
+    })
+}
+
+/// The hints in the order of work, each by the row that holds of it at its turn or else by the Rust's rule. Where a row
+/// holds, the Rust's rule must do what the row says of it.
+fn walk(rows: &[Row], case: &Case, list: &[HintRecord], world: &World) -> Result<Answer, Difference> {
+    let mut order: Vec<_> = (0..list.len()).collect();
+    order.sort_by_key(|&i| (list[i].object, list[i].kind == 1));
+    let mut image = case.image.clone();
+    let (mut tally, mut outcomes, mut by_row) = ([0; 4], vec![0; list.len()], vec![false; list.len()]);
+    for i in order {
+        let hint = &list[i];
+        let row = row_of(rows, &image, case, hint);
+        let before = row.is_some().then(|| image.clone());
+        outcomes[i] = by_rule(&mut image, case, hint, world)?;
+        if let (Some((row, words)), Some(before)) = (row, before) {
+            let [due, rust] = [row.expected, row.rust].map(|step| rewritten(&before, hint, step(&words)));
+            if (outcomes[i], &image) != (REWRITTEN, &rust) {
+                return Err(other_step(case, i, (outcomes[i], &image), &rust));
+            }
+            row.met.add(due != rust);
+            (image, by_row[i]) = (due, true);
+        }
+        tally[outcomes[i]] += 1;
+    }
+    Ok(Answer { number: 0, image, tally, outcomes, by_row, by_own_walk: false })
+}
+
+/// Works one hint by the Rust's rule.
+fn by_rule(image: &mut [u8], case: &Case, hint: &HintRecord, world: &World) -> Result<usize, Difference> {
+    let done = (world.oracle.apply_hints)(image, HintRecord::bytes(&[*hint]), &case.entries);
+    done.map(|run| run.outcomes[0]).map_err(|stop| Difference {
+        input: case.show(),
+        port: "not asked".into(),
+        expected: format!("no stop at a single hint; the Rust: {}", stop.text),
+    })
+}
+
+/// A hint where a row holds, and where the Rust's rule does not do what the row says of it.
+fn other_step(case: &Case, i: usize, (outcome, image): (usize, &[u8]), due: &[u8]) -> Difference {
+    Difference {
+        input: case.show(),
+        port: format!("not asked; the Rust at hint {i}: outcome {outcome}, image {}", hex(image)),
+        expected: format!("that the Rust comes to outcome {REWRITTEN}, image {}", hex(due)),
+    }
+}
+
+/// An image with words stored at a hint's places, in their order.
+fn rewritten(image: &[u8], hint: &HintRecord, words: Words) -> Vec<u8> {
+    let mut image = image.to_vec();
+    for (place, word) in looked_at(hint).iter().zip(words) {
+        let at = hint.start as usize + place.offset as usize;
+        if let Some(word) = word {
+            image[at..at + 4].copy_from_slice(&word.to_le_bytes());
+        }
+    }
+    image
+}
