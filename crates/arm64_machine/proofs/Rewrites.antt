@@ -181,7 +181,8 @@ module _ {a b c d k e i t j : ℕ} {row : Row} (h : Chain a b c d k e i t j row)
       by-states _ (λ m z. rw (one a, unlike b n (h .add-b) en (λ q. cc), h .add-b, or-false (eqb m e)) at z) (folded-alike n c′ p q r en el w)
 
   -- which leaves its page in ADRP's register, unless the access loads that
-  pub folded-page : (n c′ p q r : ℕ) {j′ : ℕ} → action n ≡ nop → action c′ ≡ access row t d j′ → lastWrites (placed a p ∷ placed b q ∷ placed c r ∷ []) d ≡ false
+  pub folded-page : (n c′ p q r : ℕ) {j′ : ℕ} → action n ≡ nop → action c′ ≡ access row t d j′
+      → lastWrites (placed a p ∷ placed b q ∷ placed c r ∷ []) d ≡ false
       → (o : Other) (s : State) → (run o (placed a p ∷ placed n q ∷ placed c′ r ∷ []) s) .x d ≡ adrpPage k p
   folded-page n c′ p q r en el w o s =
       rw (h .adrp-a, en, el)
