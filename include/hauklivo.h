@@ -4,7 +4,7 @@
  * For every input whose pieces don't overlap, a call touches nothing but what it is lent. A call that
  * is lent something returns 0 or the number of a refusal (enum hauklivo_number). A refused call changes
  * nothing that it was lent: no byte, no slot, no count, no tally. The calls that are lent nothing
- * (hauklivo_version, hauklivo_version_2, hauklivo_load_store_class) refuse nothing, and what they return
+ * (hauklivo_version, hauklivo_version_3, hauklivo_load_store_class) refuse nothing, and what they return
  * is no such number.
  *
  * Pieces that don't overlap: what a call may write (a section, an image, slots, bytes, a count, a
@@ -37,14 +37,14 @@ extern "C" {
  * also where it returns a number that is added with it: a program that makes the call does not link
  * with a library that was made before it, and any other program links with both and gets the same
  * answers. */
-#define HAUKLIVO_VERSION 2
+#define HAUKLIVO_VERSION 3
 
 /* The version of the library that is linked: HAUKLIVO_VERSION, unless it and this header are of
  * different versions. */
 uint32_t hauklivo_version(void);
 
 /* The same. Only a library of this version has the name: a program that calls it links with no other. */
-uint32_t hauklivo_version_2(void);
+uint32_t hauklivo_version_3(void);
 
 /* What a call that is lent something returns. */
 enum hauklivo_number {
@@ -417,14 +417,10 @@ enum hauklivo_class {
  * A word's entry in the table of load and store classes: 8 times the bytes that it moves, plus the bits
  * of enum hauklivo_class. Bits 31 to 22 of the word decide, and no other counts. Only loads and stores
  * of a register with a scaled unsigned offset, which hints speak of, have an entry: it is 0 for every
- * other word, also for pairs, literal loads, unscaled, indexed and exclusive accesses, and for a
- * prefetch.
+ * other word, also for pairs, literal loads, unscaled, indexed and exclusive accesses, for a prefetch,
+ * and for what the Arm manual leaves unallocated.
  *
  *   insn  the word as a number: four bytes of a section, little-endian
- *
- * Words that the Arm manual leaves unallocated have the entry of what the hint decoders take them for:
- * those of a vector register whose bits 31 to 22 are 0x1f6 or 0x1f7 are loads of 2 bytes, 0x2f6 of 4,
- * all others none.
  */
 uint8_t hauklivo_load_store_class(uint32_t insn);
 

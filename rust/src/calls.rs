@@ -328,11 +328,8 @@ pub fn list(words: &[u8], out: &mut [u8]) -> Result<usize, Refusal> {
 }
 
 /// The class of a word that is a load or store of a register with a scaled unsigned offset, of which hints
-/// speak; None for any other, also for pairs, literal loads, unscaled, indexed and exclusive accesses, and
-/// for a prefetch. Bits 31 to 22 decide, and no other counts.
-///
-/// Words that the Arm manual leaves unallocated are what the hint decoders take them for: those of a
-/// vector register whose bits 31 to 22 are 0x1f6 or 0x1f7 loads of 2 bytes, 0x2f6 of 4, any other None.
+/// speak; None for any other, also for pairs, literal loads, unscaled, indexed and exclusive accesses, for
+/// a prefetch, and for what the Arm manual leaves unallocated. Bits 31 to 22 decide, and no other counts.
 ///
 /// ```
 /// use hauklivo::{LoadStoreClass, load_store_class};

@@ -452,24 +452,61 @@ static void classes(void)
     CHECK(hauklivo_load_store_class(0xf9800000) == 0); /* prfm */
     CHECK(hauklivo_load_store_class(0xd503201f) == 0); /* nop */
 
-    /* Unallocated words that are taken as loads; the last has the size and opc of LDRSW. */
-    CHECK(hauklivo_load_store_class(0x7d800000) == 16 + HAUKLIVO_CLASS_VECTOR);
-    CHECK(hauklivo_load_store_class(0x7dc00000) == 16 + HAUKLIVO_CLASS_VECTOR);
-    CHECK(hauklivo_load_store_class(0xbd800000) == 32 + HAUKLIVO_CLASS_VECTOR);
-
-    /* Bits 31 to 22 decide, and 26 of their values are a load or store. */
+    /* Bits 31 to 22 decide, and 23 of their values are a load or store. */
     for (uint32_t high = 0; high < 1024; high++) {
         uint8_t entry = hauklivo_load_store_class(high << 22);
         CHECK(hauklivo_load_store_class(high << 22 | 0x3fffff) == entry);
         count += entry != 0;
     }
-    CHECK(count == 26);
+    CHECK(count == 23);
+}
+
+/* adrp x1 of its own page, and a word through x1: the hint must decline and leave both. */
+static void declines(uint64_t address, uint32_t word)
+{
+    const struct hauklivo_reloc entries[2] = {
+        {.type = HAUKLIVO_PAGE21, .size = 4, .is_pcrel = 1, .target = 5},
+        {.offset = 4, .type = HAUKLIVO_PAGEOFF12, .size = 4, .target = 5},
+    };
+    const struct hauklivo_hint_record hint = {
+        .kind = HAUKLIVO_ADRP_LDR, .words = 2, .length = 8, .places = {{0, 0, address}, {4, 1, address + 4}}};
+    uint8_t image[8];
+    struct hauklivo_tally tally;
+    put_word(image, 0, 0x90000001);
+    put_word(image, 4, word);
+    CHECK(hauklivo_apply_hints(image, 8, &hint, 64, entries, sizeof entries, &tally) == HAUKLIVO_DONE);
+    CHECK(word_at(image, 0) == 0x90000001 && word_at(image, 4) == word);
+    CHECK(tally.rewritten == 0 && tally.skipped == 0 && tally.declined == 1 && tally.turned_down == 0);
+}
+
+/* A word of a vector register that the manual leaves unallocated is no load, and a hint that holds it
+ * declines before any sum. A page offset is scaled by its size. */
+static void unallocated(uint32_t word, uint8_t size)
+{
+    const struct hauklivo_mach_rel record[1] = {{0, 0x9c000005}};
+    const struct hauklivo_reloc entry = {.type = HAUKLIVO_PAGEOFF12, .size = 4};
+    const struct hauklivo_resolved odd = {.address = 0x1001, .flags = HAUKLIVO_HAS_ADDRESS};
+    struct hauklivo_report report;
+    uint8_t bytes[4], out[HAUKLIVO_LINE];
+    char text[HAUKLIVO_LINE + 1];
+    size_t count;
+
+    put_word(bytes, 0, word);
+    CHECK(hauklivo_load_store_class(word) == 0);
+    snprintf(text, sizeof text, "00000000 %08x other\n", (unsigned)word);
+    CHECK(hauklivo_list(bytes, 4, out, sizeof out, &count) == HAUKLIVO_DONE);
+    CHECK(count == strlen(text) && memcmp(out, text, count) == 0);
+    refused_reading(HAUKLIVO_UNFIT, bytes, 4, record, 8, 24);
+    declines(0x1000, word | 0x20);
+    declines(UINT64_C(0xfffffffffffff000), word | 0x3ffc20);
+    CHECK(hauklivo_apply_reloc_alloc(bytes, 4, 0x1000, 0, &entry, 24, &odd, 48, &report, 24, &count) == HAUKLIVO_DONE);
+    CHECK(count == 1 && report.kind == HAUKLIVO_REPORT_ALIGNMENT && report.size == size && word_at(bytes, 0) == word);
 }
 
 static void version(void)
 {
     CHECK(hauklivo_version() == HAUKLIVO_VERSION);
-    CHECK(hauklivo_version_2() == HAUKLIVO_VERSION);
+    CHECK(hauklivo_version_3() == HAUKLIVO_VERSION);
 }
 
 int main(void)
@@ -484,6 +521,9 @@ int main(void)
     rows();
     lister();
     classes();
+    unallocated(0x7d800000, 2);
+    unallocated(0x7dc00000, 2);
+    unallocated(0xbd800000, 4);
     if (failures == 0)
         puts("the C calls answer as they should");
     return failures != 0;

@@ -16,18 +16,26 @@ pub fn groups() -> Vec<Group> {
     vec![Group::new("class/words", 1024 * WORDS, 1024 * WORDS, words)]
 }
 
+/// Bits 31..22 of the words of a vector register that the manual leaves unallocated and parse_ldst takes for loads.
+pub const UNALLOCATED: [u32; 3] = [0x1f6, 0x1f7, 0x2f6];
+
+/// Of the accesses beside them: of the other register file, of 1 or 16 bytes, or with another opc.
+pub const NEIGHBOURS: [u32; 9] = [0x1e6, 0x1e7, 0x2e6, 0x0f6, 0x0f7, 0x1f4, 0x1f5, 0x2f4, 0x2f5];
+
+pub fn is_unallocated(word: u32) -> bool {
+    UNALLOCATED.contains(&(word >> 22))
+}
+
+/// What parse_ldst takes such a word for. It sets `is_ldrsw` by size and opc alone; to_literal, which alone reads that,
+/// asks for the register first.
+pub fn taken_for(word: u32) -> Access {
+    let is_ldrsw = word >> 22 == 0x2f6;
+    Access { bytes: 1 << (word >> 30), is_store: false, is_vector: true, is_ldrsw }
+}
+
 #[derive(Clone)]
 pub struct Case {
     pub word: u32,
-}
-
-impl Case {
-    /// A word of a vector register with LDRSW's size and opc, which the manual leaves unallocated. parse_ldst takes it for
-    /// a load of 4 bytes and sets `is_ldrsw` by those two fields alone; to_literal, which alone reads that, asks for
-    /// the register first. The table marks LDRSW of general registers only.
-    pub fn is_vector_with_fields_of_ldrsw(&self) -> bool {
-        self.word >> 22 == 0x2f6
-    }
 }
 
 /// What a word is; None where it is no load or store.
@@ -59,8 +67,7 @@ fn check(case: &Case, world: &World, table: &mut Table) -> Verdict {
         });
     }
     let row = match &due {
-        None => 0,
-        Some(_) if case.is_vector_with_fields_of_ldrsw() => 6,
+        None => 6 * usize::from(is_unallocated(case.word)),
         Some(a) if a.is_ldrsw => 3,
         Some(a) => 1 + usize::from(!a.is_store) + 3 * usize::from(a.is_vector),
     };

@@ -8,7 +8,7 @@
 
 use std::sync::atomic::{AtomicU64, Ordering};
 
-use hauklivo::{Record, Reloc, Resolved, Target, flag};
+use hauklivo::{MachRel, Record, Reloc, Resolved, Target, flag};
 
 use crate::fixup::{self, is_section, steps};
 use crate::{Difference, World, class, hint_steps, hints, payload_reader, payload_writer, reader, stub};
@@ -32,8 +32,9 @@ trait Call: Clone + 'static {
 
 impl Call for reader::Case {
     type Answer = reader::Answer;
-    const PREDICATES: &[(&str, fn(&Self) -> bool)] = &[];
-    const CHANGES: &[(&str, Change<Self>)] = &[];
+    const PREDICATES: &[(&str, fn(&Self) -> bool)] =
+        &[("tlvp_on_unallocated", |c| !c.tlvp_on_unallocated().is_empty())];
+    const CHANGES: &[(&str, Change<Self>)] = &[("as_got_page_offset", Change::Asked(as_got_page_offset))];
 
     fn rust(&self, world: &World) -> Result<Self::Answer, Difference> {
         reader::rust(self, world)
@@ -78,9 +79,8 @@ impl Call for hints::Case {
 
 impl Call for class::Case {
     type Answer = class::Answer;
-    const PREDICATES: &[(&str, fn(&Self) -> bool)] =
-        &[("vector_with_fields_of_ldrsw", class::Case::is_vector_with_fields_of_ldrsw)];
-    const CHANGES: &[(&str, Change<Self>)] = &[("no_ldrsw", Change::Answered(no_ldrsw))];
+    const PREDICATES: &[(&str, fn(&Self) -> bool)] = &[("unallocated_word", |c| class::is_unallocated(c.word))];
+    const CHANGES: &[(&str, Change<Self>)] = &[("no_access", Change::Answered(no_access))];
 
     fn rust(&self, world: &World) -> Result<Self::Answer, Difference> {
         Ok(class::rust(self, world))
@@ -105,6 +105,16 @@ impl Call for payload_writer::Case {
     fn rust(&self, world: &World) -> Result<Self::Answer, Difference> {
         payload_writer::rust(self, world)
     }
+}
+
+/// A TLVP page offset on an unallocated word is refused like a GOT page offset there. Both take the same form, and no
+/// other record looks at which of the two it is.
+fn as_got_page_offset(case: &mut reader::Case) {
+    let mut list = case.list();
+    for i in case.tlvp_on_unallocated() {
+        list[i].bits = list[i].bits & !(15 << 28) | 6 << 28;
+    }
+    case.records = MachRel::bytes(&list).to_vec();
 }
 
 /// The entries of types PAGE21 and PAGEOFF12 whose target, a section or a symbol, has no address.
@@ -142,10 +152,10 @@ fn as_past_image(case: &mut hints::Case) {
     case.set_list(&list);
 }
 
-/// A load into a vector register is not marked as LDRSW.
-fn no_ldrsw(_: &class::Case, answer: &mut class::Answer) {
-    if let Some(access) = answer {
-        access.is_ldrsw = false;
+/// The load that the Rust takes an unallocated word for, just that, is none.
+fn no_access(case: &class::Case, answer: &mut class::Answer) {
+    if *answer == Some(class::taken_for(case.word)) {
+        *answer = None;
     }
 }
 

@@ -2,6 +2,7 @@
 
 use hauklivo::{Record, Reloc, Resolved, Target, flag};
 
+use crate::class::UNALLOCATED;
 use crate::fixup::{Case, check, of_lengths};
 use crate::reader_groups::flip;
 use crate::rng::{Digits, Rng};
@@ -24,6 +25,7 @@ const SECTION: u32 = Target::SECTION;
 pub fn groups() -> Vec<Group> {
     vec![
         Group::new("fixup/words", 5 * 1024 * 3 * 16, 30_000, words),
+        Group::new("fixup/unallocated", 3 * 5 * 3 * 16, 720, unallocated),
         Group::new("fixup/alignment", 6 * 4096 * 2 * 2, 30_000, alignment),
         Group::new("fixup/branches", 65 * 8 * 5 * 4 * 4, 10_000, branches),
         Group::new("fixup/pages", 5 * 19 * 4 * 2 * 4 * 4 * 3, 10_000, pages),
@@ -70,6 +72,21 @@ fn words(index: u64, world: &World, table: &mut Table) -> Verdict {
     let section = bytes(&[(class as u32) << 22 | low]);
     check(&Case::new(section, BASE, &[page_offset(kind, value)]), world, table)?;
     table.hit(Rows::FixupClass as usize, kind * 1024 + class);
+    Ok(())
+}
+
+/// Unallocated words under each kind of page offset, with each alignment to 16: they have the scale of their size.
+fn unallocated(index: u64, world: &World, table: &mut Table) -> Verdict {
+    let mut d = Digits(index);
+    let (class, kind, low, aligned) = (d.next(3), d.next(5), d.next(3), d.next(16));
+    let mut rng = Rng::new("fixup/unallocated", index);
+    let low = [0, u32::MAX, rng.word()][low] & 0x3f_ffff;
+    let value = rng.next() & !15 | aligned as u64;
+    let section = bytes(&[UNALLOCATED[class] << 22 | low]);
+    let answer = check(&Case::new(section, BASE, &[page_offset(kind, value)]), world, table)?;
+    let is_relaxed = [2, 4].contains(&kind);
+    let row = [0, 2, 4, 5, 7][kind] + usize::from(!is_relaxed && !answer.reports.is_empty());
+    table.hit_cell(Rows::FixupUnallocated as usize, row, class);
     Ok(())
 }
 

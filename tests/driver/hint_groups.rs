@@ -2,7 +2,8 @@
 
 use hauklivo::{HintInsn, HintRecord, Reloc};
 
-use crate::hint_shape::{BASE, LDR_X, LDRSW, LOADS, NOP, STORES, STR_X, Shape, bytes, entry, places, single};
+use crate::class::UNALLOCATED;
+use crate::hint_shape::{BASE, LDR_X, LDRSW, LOADS, NOP, STORES, STR_X, Shape, bytes, entry, laid, places, single};
 use crate::hints::{Answer, Case, check, of_lengths, word_count};
 use crate::reader_groups::flip;
 use crate::rng::{Digits, Rng};
@@ -24,7 +25,7 @@ pub fn groups() -> Vec<Group> {
         Group::new("hints/bounds", 2 * 2 * 9 * 23 * 22 * 21, 20_000, bounds),
         Group::new("hints/absent", 216 * 3 * 2 * 2 * 4 * 2, 10_000, absent),
         Group::new("hints/lengths", 201 * 61, 2_000, lengths),
-        Group::new("hints/one-adrp", 2 * 2 * 5 * 2 * 3 * SECONDS.len() as u64 * 2 * 2 * 3, 8_000, one_adrp),
+        Group::new("hints/one-adrp", 2 * 13 * 2 * 3 * SECONDS.len() as u64 * 2 * 2 * 3, 8_000, one_adrp),
         Group::new("hints/overlaps", 300_000, 10_000, overlaps),
         Group::new("hints/lists", 600_000, 20_000, lists),
         Group::new("hints/damaged", 600_000, 20_000, damaged),
@@ -60,7 +61,7 @@ pub const CLASSED: [(u8, usize, bool); 24] = [
 ];
 
 /// Puts a shape's target out of reach of the load, or of all its words.
-fn place_at(shape: &mut Shape, distance: usize) {
+pub fn place_at(shape: &mut Shape, distance: usize) {
     let last = word_count(shape.kind) - 1;
     match distance {
         0 => {}
@@ -423,7 +424,7 @@ const SECONDS: [Second; 12] = [
 fn one_adrp(index: u64, world: &World, table: &mut Table) -> Verdict {
     let mut d = Digits(index);
     let mut first = Shape::new(d.pick(&[3, 5]));
-    first.class = d.pick(&[LOADS, STORES])[d.next(5)];
+    first.class = d.pick(&[LOADS.as_slice(), &STORES, &UNALLOCATED].concat());
     first.immediates[1] = d.next(2) as u32;
     let (distance, Second { kind, offsets, page, is_past_end }) = (d.next(3), d.pick(&SECONDS));
     let base = if is_past_end { 0x5000u64.wrapping_neg() } else { BASE };
@@ -435,23 +436,14 @@ fn one_adrp(index: u64, world: &World, table: &mut Table) -> Verdict {
         other.immediates[usize::from(kind != 2)] = 0xfff;
     }
     (other.adrp, other.second[0]) = d.pick(&[(1, 1), (2, 2)]);
-    let mut image = bytes(&[NOP; 6]);
-    let mut entries = Vec::new();
-    let mut laid = |shape: &Shape, offsets: [u32; 3]| {
-        let mut places = places(&shape.named(), &mut entries);
-        for ((place, offset), word) in places.iter_mut().zip(offsets).zip(shape.words()) {
-            place.offset = offset;
-            image[offset as usize..][..4].copy_from_slice(&word.to_le_bytes());
-        }
-        let words = word_count(shape.kind) as u8;
-        HintRecord { kind: shape.kind, words, length: 24, places, ..HintRecord::default() }
-    };
+    let mut case = Case::new(bytes(&[NOP; 6]), &[], &[]);
     // The first hint's words stand in the end, where both have one.
-    let second = laid(&other, offsets);
-    let mut list = [laid(&first, [4, 8, 12]), second];
+    let second = laid(&mut case, &other, offsets);
+    let mut list = [laid(&mut case, &first, [4, 8, 12]), second];
     list.swap(0, d.next(2));
     (list[0].object, list[1].object) = d.pick(&[(0, 0), (0, 1), (1, 0)]);
-    check(&Case::new(image, &list, &entries), world, table).map(|_| ())
+    case.set_list(&list);
+    check(&case, world, table).map(|_| ())
 }
 
 /// A hint whose words share bytes: each is laid over those before it, where its bytes can be theirs.
@@ -513,8 +505,10 @@ fn some_shape(rng: &mut Rng, address: u64) -> Shape {
     shape.page = if rng.one_in(2) { address.wrapping_add(away) } else { address.wrapping_sub(away) } & !0xfff;
     let stores = if rng.one_in(8) { rng.one_in(2) } else { [5, 6].contains(&shape.kind) };
     shape.class = rng.pick(if stores { &STORES } else { &LOADS });
-    if rng.one_in(8) {
-        shape.class = 0x0e4 | rng.word() & 0x313;
+    match rng.below(16) {
+        0 | 1 => shape.class = 0x0e4 | rng.word() & 0x313,
+        2 => shape.class = rng.pick(&UNALLOCATED),
+        _ => {}
     }
     let immediate = |rng: &mut Rng| match rng.below(4) {
         0 => 0,

@@ -1,8 +1,8 @@
 //! Words of a hint, made so that its rule rewrites them, and changed from there.
 
-use hauklivo::{HintInsn, HintRecord, Reloc};
+use hauklivo::{HintInsn, HintRecord, Record, Reloc};
 
-use crate::hint_ways::Named;
+use crate::hint_ways::{Named, access, as_taken};
 use crate::hints::{Case, word_count};
 
 pub const NOP: u32 = 0xd503_201f;
@@ -87,9 +87,9 @@ impl Shape {
         self.words().into_iter().enumerate().map(one).collect()
     }
 
-    /// The bytes of an access.
+    /// The bytes of an access, as the Rust takes it.
     pub fn size(&self) -> u64 {
-        crate::hint_ways::access(self.class << 22).map_or(1, |a| a.0)
+        access(as_taken(self.class << 22)).map_or(1, |a| a.0)
     }
 
     pub fn case(&self) -> Case {
@@ -128,4 +128,17 @@ pub fn single(kind: u8, named: &[Named]) -> Case {
     let length = 4 * named.len() as u32;
     let hint = HintRecord { kind, words: word_count(kind) as u8, ignored: 0xa5a5, object: 3, start: 4, length, places };
     Case::new(bytes(&words), &[hint], &entries)
+}
+
+/// A hint over a whole image, with its words laid there.
+pub fn laid(case: &mut Case, shape: &Shape, offsets: [u32; 3]) -> HintRecord {
+    let mut entries = Reloc::list(&case.entries).expect("whole entries");
+    let mut places = places(&shape.named(), &mut entries);
+    case.entries = Reloc::bytes(&entries).to_vec();
+    for ((place, offset), word) in places.iter_mut().zip(offsets).zip(shape.words()) {
+        place.offset = offset;
+        case.image[offset as usize..][..4].copy_from_slice(&word.to_le_bytes());
+    }
+    let (words, length) = (word_count(shape.kind) as u8, case.image.len() as u32);
+    HintRecord { kind: shape.kind, words, length, places, ..HintRecord::default() }
 }

@@ -2,31 +2,80 @@
 
 use hauklivo::{HintRecord, Record};
 
+use crate::class::is_unallocated;
 use crate::differences::{Met, Of};
 use crate::hint_shape::NOP;
 use crate::hint_ways::{
-    Named, access, base, destination, has_literal_form, immediate, is_add, is_adrp, is_near, page_of, unpaired,
+    Named, Way, access, as_taken, base, destination, has_literal_form, immediate, is_add, is_adrp, is_near, page_of,
+    rust_way, unpaired,
 };
-use crate::hints::{Answer, Case, REWRITTEN, is_skipped, looked_at, named};
+use crate::hints::{Answer, Case, DECLINED, REWRITTEN, is_skipped, looked_at, named};
 use crate::lent::hex;
 use crate::{Difference, World};
 
-/// What becomes of a hint that is rewritten: the new word of each place that gets one.
+/// The new word of each place that gets one.
 type Words = [Option<u32>; 3];
-type Step = fn(&[Named]) -> Words;
+
+/// What becomes of a hint.
+#[derive(Clone, Copy)]
+struct Step {
+    outcome: usize,
+    words: Words,
+}
+
+impl Step {
+    fn rewritten(words: Words) -> Self {
+        Self { outcome: REWRITTEN, words }
+    }
+
+    /// One that leaves its words.
+    fn left(outcome: usize) -> Self {
+        Self { outcome, words: [None; 3] }
+    }
+}
 
 /// By name, of a hint's kind and its words as they stand at its turn.
 const PREDICATES: &[(&str, fn(u8, &[Named]) -> bool)] = &[
     ("add_ldr_folds_near_adrp", |kind, n| kind == 3 && folds_near_adrp(n) && !is_literal(n)),
     ("add_str_folds_near_adrp", |kind, n| kind == 5 && folds_near_adrp(n) && is_store(n)),
+    ("ldr_unallocated", |kind, n| kind == 2 && is_taken_unallocated(kind, n)),
+    ("add_ldr_unallocated", |kind, n| kind == 3 && is_taken_unallocated(kind, n)),
+    ("got_ldr_unallocated", |kind, n| kind == 4 && is_taken_unallocated(kind, n)),
 ];
 
-/// By name, of the same words: what is expected, and what the Rust makes of them.
-const EXPECTED: &[(&str, Step, Step)] = &[("as_fold", as_fold, as_adr)];
+/// By name, of the same words: what is expected.
+const EXPECTED: &[(&str, fn(&[Named]) -> Step)] =
+    &[("as_fold", |n| Step::rewritten(as_fold(n))), ("as_declined", |_| Step::left(DECLINED))];
 
-/// The address that ADRP and ADD make.
+/// Whether a word is unallocated and the Rust does not decline.
+fn is_taken_unallocated(kind: u8, n: &[Named]) -> bool {
+    n.iter().any(|n| is_unallocated(n.word)) && rust_way(kind, n).outcome() != DECLINED
+}
+
+/// What the Rust makes of a hint that a row holds of.
+fn by_rust(kind: u8, n: &[Named]) -> Step {
+    let way = rust_way(kind, n);
+    if way.outcome() != REWRITTEN {
+        return Step::left(way.outcome());
+    }
+    Step::rewritten(match way {
+        Way::Literal => as_literal(n),
+        Way::SlotLiteral => as_slot_literal(n),
+        Way::Fold => as_fold(n),
+        _ => as_adr(kind, n),
+    })
+}
+
+/// The address that ADRP and, in a hint of three words, ADD make.
 fn address(n: &[Named]) -> u64 {
-    page_of(&n[0]) + immediate(n[1].word)
+    page_of(&n[0]) + if n.len() > 2 { immediate(n[1].word) } else { 0 }
+}
+
+/// The bytes that the last word moves, and its offset, as the Rust takes it.
+fn size_and_offset(n: &[Named]) -> (u64, u64) {
+    let word = n[n.len() - 1].word;
+    let (size, _) = access(as_taken(word)).expect("the row's access");
+    (size, immediate(word) * size)
 }
 
 fn is_store(n: &[Named]) -> bool {
@@ -53,34 +102,56 @@ fn folds_near_adrp(n: &[Named]) -> bool {
         && is_near(n[0].address, address(n))
 }
 
-/// The ADRP is kept, and the access goes through its register with the ADD's immediate.
+/// The ADRP is kept, and the access goes through its register with the ADD's immediate and its own offset.
 fn as_fold(n: &[Named]) -> Words {
-    let (size, _) = access(n[2].word).expect("the row's access");
-    let units = (immediate(n[1].word) / size) as u32;
+    let (size, offset) = size_and_offset(n);
+    let units = ((immediate(n[1].word) + offset) / size) as u32;
     [None, Some(NOP), Some(n[2].word & 0xffc0_001f | units << 10 | base(n[1].word) << 5)]
 }
 
-/// An ADR makes the address in the access's base, and the access has no offset.
-fn as_adr(n: &[Named]) -> Words {
-    let distance = address(n).wrapping_sub(n[0].address) as u32;
+/// An ADR makes an address in the access's base: in kinds 3 and 5 the one that is accessed, and the access has no
+/// offset; else that of the ADD.
+fn as_adr(kind: u8, n: &[Named]) -> Words {
+    let is_accessed = [3, 5].contains(&kind);
+    let offset = if is_accessed { size_and_offset(n).1 } else { 0 };
+    let distance = (address(n) + offset).wrapping_sub(n[0].address) as u32;
     let adr = 0x1000_0000 | (distance & 3) << 29 | (distance >> 2 & 0x7_ffff) << 5 | base(n[2].word);
-    [Some(adr), Some(NOP), Some(n[2].word & !(0xfff << 10))]
+    [Some(adr), Some(NOP), is_accessed.then_some(n[2].word & !(0xfff << 10))]
+}
+
+/// Bits 23..5 of a literal load of a target.
+fn literal(from: &Named, target: u64) -> u32 {
+    (target.wrapping_sub(from.address) as u32 >> 2 & 0x7_ffff) << 5
+}
+
+/// The load of 4 bytes of a vector register is literal, the words before it are NOP.
+fn as_literal(n: &[Named]) -> Words {
+    let last = n.len() - 1;
+    let mut words = [Some(NOP); 3];
+    let target = address(n) + size_and_offset(n).1;
+    words[last] = Some(0x1c00_0000 | literal(&n[last], target) | destination(n[last].word));
+    words
+}
+
+/// The load of the GOT slot is literal, and the access through it is kept.
+fn as_slot_literal(n: &[Named]) -> Words {
+    let slot = page_of(&n[0]) + 8 * immediate(n[1].word);
+    [Some(NOP), Some(0x5800_0000 | literal(&n[1], slot) | destination(n[1].word)), None]
 }
 
 /// A row about one hint.
 pub struct Row {
     pub met: Met,
     holds: fn(u8, &[Named]) -> bool,
-    expected: Step,
-    rust: Step,
+    expected: fn(&[Named]) -> Step,
 }
 
 impl Row {
     /// The row of these names, None where they are not names of this file.
     pub fn named([name, predicate, expected]: [&str; 3]) -> Option<Self> {
         let holds = PREDICATES.iter().find(|n| n.0 == predicate)?.1;
-        let &(_, expected, rust) = EXPECTED.iter().find(|n| n.0 == expected)?;
-        Some(Self { met: Met::new(name, Of::Hints), holds, expected, rust })
+        let expected = EXPECTED.iter().find(|n| n.0 == expected)?.1;
+        Some(Self { met: Met::new(name, Of::Hints), holds, expected })
     }
 }
 
@@ -116,7 +187,7 @@ pub fn expected(rows: &[Row], case: &Case, rust: Answer, world: &World) -> Resul
 }
 
 /// The hints in the order of work, each by the row that holds of it at its turn or else by the Rust's rule. Where a row
-/// holds, the Rust's rule must do what the row says of it.
+/// holds, the Rust's rule must do what `by_rust` says of it.
 fn walk(rows: &[Row], case: &Case, list: &[HintRecord], world: &World) -> Result<Answer, Difference> {
     let mut order: Vec<_> = (0..list.len()).collect();
     order.sort_by_key(|&i| (list[i].object, list[i].kind == 1));
@@ -128,12 +199,14 @@ fn walk(rows: &[Row], case: &Case, list: &[HintRecord], world: &World) -> Result
         let before = row.is_some().then(|| image.clone());
         outcomes[i] = by_rule(&mut image, case, hint, world)?;
         if let (Some((row, words)), Some(before)) = (row, before) {
-            let [due, rust] = [row.expected, row.rust].map(|step| rewritten(&before, hint, step(&words)));
-            if (outcomes[i], &image) != (REWRITTEN, &rust) {
-                return Err(other_step(case, i, (outcomes[i], &image), &rust));
+            let steps = [(row.expected)(&words), by_rust(hint.kind, &words)];
+            let [due, rust] = steps.map(|step| (step.outcome, worked(&before, hint, step.words)));
+            let done = (outcomes[i], image);
+            if done != rust {
+                return Err(other_step(case, i, &done, &rust));
             }
             row.met.add(due != rust);
-            (image, by_row[i]) = (due, true);
+            ((outcomes[i], image), by_row[i]) = (due, true);
         }
         tally[outcomes[i]] += 1;
     }
@@ -150,17 +223,18 @@ fn by_rule(image: &mut [u8], case: &Case, hint: &HintRecord, world: &World) -> R
     })
 }
 
-/// A hint where a row holds, and where the Rust's rule does not do what the row says of it.
-fn other_step(case: &Case, i: usize, (outcome, image): (usize, &[u8]), due: &[u8]) -> Difference {
+/// A hint where a row holds, and where the Rust's rule does not do what is said of it.
+fn other_step(case: &Case, i: usize, done: &(usize, Vec<u8>), due: &(usize, Vec<u8>)) -> Difference {
+    let shown = |(outcome, image): &(usize, Vec<u8>)| format!("outcome {outcome}, image {}", hex(image));
     Difference {
         input: case.show(),
-        port: format!("not asked; the Rust at hint {i}: outcome {outcome}, image {}", hex(image)),
-        expected: format!("that the Rust comes to outcome {REWRITTEN}, image {}", hex(due)),
+        port: format!("not asked; the Rust at hint {i}: {}", shown(done)),
+        expected: format!("that the Rust comes to {}", shown(due)),
     }
 }
 
 /// An image with words stored at a hint's places, in their order.
-fn rewritten(image: &[u8], hint: &HintRecord, words: Words) -> Vec<u8> {
+fn worked(image: &[u8], hint: &HintRecord, words: Words) -> Vec<u8> {
     let mut image = image.to_vec();
     for (place, word) in looked_at(hint).iter().zip(words) {
         let at = hint.start as usize + place.offset as usize;

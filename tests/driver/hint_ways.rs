@@ -3,6 +3,9 @@
 
 use hauklivo::Reloc;
 
+use crate::class::is_unallocated;
+use crate::hints::{DECLINED, REWRITTEN, TURNED_DOWN};
+
 /// How a single hint ends. The first ones are rewrites, then come the sums of 9, then the reasons to decline.
 #[derive(Clone, Copy, Debug, PartialEq)]
 #[rustfmt::skip]
@@ -53,12 +56,11 @@ pub const HINT_WAYS: [&str; 34] = [
 ];
 
 impl Way {
-    /// 0 rewritten, 2 declined, 3 turned down by 9.
     pub fn outcome(self) -> usize {
         match self as usize {
-            0..12 => 0,
-            12 | 13 => 3,
-            _ => 2,
+            0..12 => REWRITTEN,
+            12 | 13 => TURNED_DOWN,
+            _ => DECLINED,
         }
     }
 
@@ -132,7 +134,7 @@ pub fn immediate(word: u32) -> u64 {
     u64::from(word >> 10 & 0xfff)
 }
 
-/// A load or store: its size in bytes, and whether it stores. None for other words.
+/// A load or store, as the manual has it: its size in bytes, and whether it stores. None for other words.
 pub fn access(word: u32) -> Option<(u64, bool)> {
     if word >> 27 & 7 != 7 || word >> 24 & 3 != 1 {
         return None;
@@ -140,9 +142,16 @@ pub fn access(word: u32) -> Option<(u64, bool)> {
     let vector = word >> 26 & 1 == 1;
     match (word >> 30, word >> 22 & 3) {
         (0, opc @ 2..) if vector => Some((16, opc == 2)),
+        (_, 2..) if vector => None,
         (2, 3) | (3, 2..) => None,
         (size, opc) => Some((1 << size, opc == 0)),
     }
+}
+
+/// The word that the manual has in the class where the Rust has this one: of an unallocated word the load of its size,
+/// with opc 01.
+pub fn as_taken(word: u32) -> u32 {
+    if is_unallocated(word) { word & !(3 << 22) | 1 << 22 } else { word }
 }
 
 /// Whether a word is a load of 4 bytes or more.
@@ -195,6 +204,12 @@ pub fn way(kind: u8, n: &[Named]) -> Way {
         _ => got(n, kind),
     };
     ended.unwrap_or_else(|way| way)
+}
+
+/// How it ends in the Rust, but that a fold in ADR's reach is an ADR there.
+pub fn rust_way(kind: u8, n: &[Named]) -> Way {
+    let taken: Vec<_> = n.iter().map(|n| Named { word: as_taken(n.word), ..*n }).collect();
+    way(kind, &taken)
 }
 
 type Ended = Result<Way, Way>;

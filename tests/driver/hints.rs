@@ -5,7 +5,9 @@ use std::collections::{BTreeMap, BTreeSet};
 use hauklivo::{HintInsn, HintRecord, Record, Reloc, raw};
 
 use crate::answers::{HINTS, record};
-use crate::hint_ways::{Named, in_reach, way};
+use crate::class::is_unallocated;
+use crate::hint_unallocated::{neighbour, unallocated};
+use crate::hint_ways::{Named, in_reach, rust_way, way};
 use crate::lent::{Lent, hex};
 use crate::rows::{HINT_NUMBERS, HintList, Rows};
 use crate::table::Table;
@@ -39,11 +41,12 @@ pub struct Case {
     pub entries: Vec<u8>,
 }
 
-/// The outcome of a hint that is rewritten.
+/// Outcomes of a hint; that of one that is skipped is 1.
 pub const REWRITTEN: usize = 0;
+pub const DECLINED: usize = 2;
+pub const TURNED_DOWN: usize = 3;
 
-/// What a run leaves: the number, the image's bytes, the tally, and how each hint of the list ended
-/// (0 rewritten, 1 skipped, 2 declined, 3 turned down by 9).
+/// What a run leaves: the number, the image's bytes, the tally, and how each hint of the list ended.
 #[derive(Clone, PartialEq)]
 pub struct Answer {
     pub number: u8,
@@ -54,6 +57,13 @@ pub struct Answer {
     pub by_row: Vec<bool>,
     /// Whether the Rust's own walk came to the same as its rules hint by hint.
     pub by_own_walk: bool,
+}
+
+impl Answer {
+    /// Whether a hint of the list ends so because a row of docs/DIFFERENCES.md says it.
+    fn ends_by_row(&self, i: usize, outcome: usize) -> bool {
+        self.by_row.get(i) == Some(&true) && self.outcomes[i] == outcome
+    }
 }
 
 /// The tally before a call.
@@ -128,7 +138,7 @@ pub fn rust(case: &Case, world: &World) -> Result<Answer, Difference> {
 fn linked(case: &Case, answer: Answer, world: &World) -> Result<Answer, Difference> {
     let mut image = case.image.clone();
     let done = (world.oracle.apply_hints_linked)(&mut image, &case.hints, &case.entries);
-    let Some(done) = done.filter(|_| answer.tally[3] == 0) else { return Ok(answer) };
+    let Some(done) = done.filter(|_| answer.tally[TURNED_DOWN] == 0) else { return Ok(answer) };
     if done.is_ok() && image == answer.image {
         return Ok(Answer { by_own_walk: true, ..answer });
     }
@@ -208,16 +218,31 @@ fn record_answer(case: &Case, answer: &Answer, table: &mut Table) {
     record_order(&list, &mut hit);
     record_sharing(&list, &mut hit);
     record_folds(&list, answer, &mut hit);
+    record_unallocated(case, &list, answer, &mut hit);
     if let [hint] = list[..]
         && !is_skipped(&hint)
     {
-        let words = named(&case.image, &case.entries, &hint);
-        let way = way(hint.kind, &words);
-        let is_due = way.outcome() == answer.outcomes[0] && way.is_fold_near() == answer.by_row.contains(&true);
-        assert!(is_due, "the table's row {way:?} of {}", case.show());
-        table.hit_cell(Rows::HintWay as usize, way as usize, hint.kind as usize - 1);
-        if let Some((row, column)) = in_reach(hint.kind, &words, way) {
-            table.hit_cell(Rows::HintInReach as usize, row, column);
+        record_single(case, &hint, answer, table);
+    }
+}
+
+/// How a hint that stands alone ends.
+fn record_single(case: &Case, hint: &HintRecord, answer: &Answer, table: &mut Table) {
+    let words = named(&case.image, &case.entries, hint);
+    let (way, rust) = (way(hint.kind, &words), rust_way(hint.kind, &words));
+    let is_by_row = way.is_fold_near() || rust.outcome() != way.outcome();
+    let is_due = way.outcome() == answer.outcomes[0] && is_by_row == answer.by_row.contains(&true);
+    assert!(is_due, "the table's row {way:?} of {}", case.show());
+    table.hit_cell(Rows::HintWay as usize, way as usize, hint.kind as usize - 1);
+    if let Some((row, column)) = in_reach(hint.kind, &words, way) {
+        table.hit_cell(Rows::HintInReach as usize, row, column);
+    }
+    for (place, n) in words.iter().enumerate() {
+        if let Some((row, column)) = unallocated(hint.kind, place, n.word, rust) {
+            table.hit_cell(Rows::HintUnallocated as usize, row, column);
+        }
+        if let Some((row, column)) = neighbour(hint.kind, place, n.word, way) {
+            table.hit_cell(Rows::HintNeighbour as usize, row, column);
         }
     }
 }
@@ -287,11 +312,12 @@ fn distances(some: &[u64], others: &[u64]) -> impl Iterator<Item = u64> {
 
 /// Folds that a row of docs/DIFFERENCES.md has in place of the Rust's ADR, and hints that share words with them.
 fn record_folds(list: &[HintRecord], answer: &Answer, hit: &mut impl FnMut(HintList)) {
-    let is_fold = |i: usize| answer.by_row.get(i) == Some(&true);
-    if answer.by_row.contains(&true) && answer.tally[3] > 0 {
+    let is_fold = |i: usize| answer.ends_by_row(i, REWRITTEN);
+    let folds: Vec<_> = (0..list.len()).filter(|&i| is_fold(i)).collect();
+    if !folds.is_empty() && answer.tally[TURNED_DOWN] > 0 {
         hit(HintList::FoldAndNine);
     }
-    for i in (0..list.len()).filter(|&i| is_fold(i)) {
+    for i in folds {
         let own = starts(&list[i]);
         if distances(&own, &own).any(|d| (1..4).contains(&d)) {
             hit(HintList::FoldOverlap);
@@ -307,10 +333,37 @@ fn record_folds(list: &[HintRecord], answer: &Answer, hit: &mut impl FnMut(HintL
             let is_later = list[j].kind == 1 && list[j].object >= list[i].object;
             match answer.outcomes[j] {
                 _ if !others.contains(&own[0]) => {}
-                0 if is_later => hit(HintList::FoldThenDropped),
-                2 if is_later => hit(HintList::FoldThenDeclined),
+                REWRITTEN if is_later => hit(HintList::FoldThenDropped),
+                DECLINED if is_later => hit(HintList::FoldThenDeclined),
                 _ if is_fold(j) && others[0] == own[0] => hit(HintList::FoldsOfOneAdrp),
                 _ => {}
+            }
+        }
+    }
+}
+
+/// Hints that decline by a row of docs/DIFFERENCES.md, since a word is unallocated at their turn, and what other hints
+/// make of the words.
+fn record_unallocated(case: &Case, list: &[HintRecord], answer: &Answer, hit: &mut impl FnMut(HintList)) {
+    for (i, hint) in list.iter().enumerate() {
+        let words = named(&case.image, &case.entries, hint);
+        let (is_lent, outcome) = (words.iter().any(|n| is_unallocated(n.word)), answer.outcomes[i]);
+        if is_lent && outcome == REWRITTEN {
+            hit(HintList::UnallocatedNoMore);
+        }
+        if !answer.ends_by_row(i, DECLINED) {
+            continue;
+        }
+        if !is_lent {
+            hit(HintList::UnallocatedByThen);
+        }
+        if answer.tally[TURNED_DOWN] > 0 {
+            hit(HintList::UnallocatedAndNine);
+        }
+        let adrp = starts(hint)[0];
+        for j in (0..list.len()).filter(|&j| j != i && starts(&list[j]).contains(&adrp)) {
+            if answer.outcomes[j] == REWRITTEN {
+                hit(HintList::UnallocatedSharedAdrp);
             }
         }
     }

@@ -12,6 +12,7 @@ mod fixup_groups;
 mod hint_groups;
 mod hint_shape;
 mod hint_steps;
+mod hint_unallocated;
 mod hint_ways;
 mod hints;
 mod lent;

@@ -3,6 +3,7 @@
 use hauklivo::{MachRel, Record, raw};
 
 use crate::answers::{READ, record};
+use crate::class::is_unallocated;
 use crate::lent::{Lent, filled, hex, pattern};
 use crate::rows::Rows;
 use crate::table::Table;
@@ -25,6 +26,21 @@ impl Case {
         Self { contents, records, sections, slots }
     }
 
+    /// The records of a whole list.
+    pub fn list(&self) -> Vec<MachRel> {
+        MachRel::list(&self.records).expect("whole records")
+    }
+
+    /// The numbers of the TLVP page offsets, of their form, whose word, at their turn's offset, is unallocated.
+    pub fn tlvp_on_unallocated(&self) -> Vec<usize> {
+        let list = self.list();
+        let is_on = |turn: &Turn| {
+            let bytes = self.contents.get(turn.offset..).and_then(|rest| rest.first_chunk());
+            list[turn.own].bits >> 24 == 0x9c && bytes.is_some_and(|&word| is_unallocated(u32::from_le_bytes(word)))
+        };
+        turns(&list).into_iter().filter(is_on).map(|turn| turn.own).collect()
+    }
+
     fn show(&self) -> String {
         let Self { contents, records, sections, slots } = self;
         format!(
@@ -33,6 +49,28 @@ impl Case {
             hex(records)
         )
     }
+}
+
+/// A turn of the reader: the place, and the number of the record that says the rest, which may stand after an ADDEND.
+pub struct Turn {
+    pub offset: usize,
+    pub own: usize,
+    pub is_after_addend: bool,
+}
+
+/// The turns over a list; an ADDEND that is the last record has none.
+pub fn turns(list: &[MachRel]) -> Vec<Turn> {
+    let mut turns = Vec::new();
+    let mut i = 0;
+    while i < list.len() {
+        let is_after_addend = list[i].ty() == 10;
+        let own = i + usize::from(is_after_addend);
+        if own < list.len() {
+            turns.push(Turn { offset: list[i].offset as usize, own, is_after_addend });
+        }
+        i = own + 1;
+    }
+    turns
 }
 
 /// The entries' bytes, or a number.
@@ -127,35 +165,28 @@ fn record_answer(case: &Case, answer: &Answer, table: &mut Table) {
     if answer.is_err() {
         return;
     }
-    let records = MachRel::list(&case.records).expect("whole records");
+    let records = case.list();
     let kind = |table: &mut Table, i| table.hit(Rows::ReaderKind as usize, i);
     if records.is_empty() {
         kind(table, 7);
     }
-    let mut i = 0;
-    while i < records.len() {
-        let offset = records[i].offset as usize;
-        let after_addend = records[i].ty() == 10;
-        if after_addend {
-            if records[i].idx() >> 23 == 1 {
-                kind(table, 6);
-            }
-            i += 1;
-        }
-        let r = records[i];
+    for Turn { offset, own, is_after_addend } in turns(&records) {
+        let r = records[own];
         let ty = r.ty() as usize;
         table.hit_cell(Rows::ReaderRead as usize, ty, (r.bits >> 24 & 15) as usize);
-        if after_addend {
+        if is_after_addend {
             table.hit(Rows::ReaderAfterAddend as usize, ty);
+            if records[own - 1].idx() >> 23 == 1 {
+                kind(table, 6);
+            }
         }
         kind(table, usize::from(!r.is_extern()));
-        if i > 0 && records[i - 1].ty() == 1 {
+        if own > 0 && records[own - 1].ty() == 1 {
             kind(table, 2);
         }
         if ty == 0 {
             let negative = r.p2size() == 2 && case.contents[offset + 3] >> 7 == 1;
             kind(table, if r.p2size() == 3 { 5 } else { 3 + usize::from(negative) });
         }
-        i += 1;
     }
 }

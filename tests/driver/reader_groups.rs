@@ -2,9 +2,10 @@
 
 use hauklivo::MachRel;
 
+use crate::class::{NEIGHBOURS, UNALLOCATED};
 use crate::reader::{Case, check};
 use crate::rng::{Digits, Rng};
-use crate::rows::{Rows, supported};
+use crate::rows::{OnUnallocated, Rows, supported};
 use crate::run::{Group, Verdict};
 use crate::table::Table;
 use crate::{Difference, World, reader};
@@ -24,6 +25,7 @@ pub fn groups() -> Vec<Group> {
     vec![
         Group::new("reader/forms", 256 * 5 * 6 * 4 * 2, 16_000, forms),
         Group::new("reader/words", 1024 * 2 * 5 * 4, 10_000, words),
+        Group::new("reader/unallocated", 12 * 4 * 6 * 5 * 2 * 3 * 2, 17_280, unallocated),
         Group::new("reader/bounds", 15 * 13 * 15 * 3, 8_775, bounds),
         Group::new("reader/lengths", 41 * 131 * 2, 2_000, lengths),
         Group::new("reader/addends", 11 * 8192, 4_000, addends),
@@ -76,6 +78,40 @@ fn words(index: u64, world: &World, table: &mut Table) -> Verdict {
     let answer = check(&Case::new(contents, &records, &[]), world, table)?;
     table.hit(Rows::ReaderClass as usize, kind * 1024 + class);
     table.hit(Rows::ReaderWord as usize, 2 * kind + usize::from(answer.is_err()));
+    Ok(())
+}
+
+/// TLVP and GOT page offsets on unallocated words and on the accesses beside them, of a symbol and, which is no form of
+/// theirs, of a section; between records that are read, some of them from bytes of the same word, or refused.
+fn unallocated(index: u64, world: &World, table: &mut Table) -> Verdict {
+    let mut d = Digits(index);
+    let (class, offset, before, after) = (d.next(12), 4 + d.next(4), d.next(6), d.next(5));
+    let (ty, (form, idx)) = (d.pick(&[9, 6]), d.pick(&[(12, 1), (4, 1), (4, 9)]));
+    let low = d.pick(&[0, Rng::new("reader/unallocated", index).word() & 0x3f_ffff]);
+    let mut contents = vec![0; 16];
+    put(&mut contents, offset, [UNALLOCATED.as_slice(), &NEIGHBOURS].concat()[class] << 22 | low);
+    let some = |offset: usize, ty, form, idx| Some(record(offset as u32, ty, form, idx));
+    let (pointer, of_no_section) = (|at| some(at, 0, 14, 1), some(0, 0, 6, 9));
+    let past = 17;
+    let before_it =
+        [None, some(offset, 10, 4, 7), pointer(offset - 4), some(past, 3, 13, 1), some(0, 3, 12, 1), of_no_section];
+    let own = some(if before == 1 { past } else { offset }, ty, form, idx);
+    let after_it = [None, some(0, 2, 13, 1), pointer(offset), of_no_section, some(0, 10, 4, 1)];
+    let records: Vec<_> = [before_it[before], own, after_it[after]].into_iter().flatten().collect();
+    let answer = check(&Case::new(contents, &records, &SECTIONS), world, table)?;
+    let row = match (answer, before, after) {
+        (Err(5), 0, 0) if form == 4 => OnUnallocated::OfSection,
+        (Err(6), 0, 0) if offset == 4 => OnUnallocated::Alone,
+        (Err(6), 0, 0) => OnUnallocated::Unaligned,
+        (Err(6), 1, _) => OnUnallocated::AfterAddend,
+        (Err(6), 2, 0) | (Err(6), 0, 2) => OnUnallocated::SharedBytes,
+        (Err(6), 0, 3..) => OnUnallocated::BeforeRefused,
+        (Err(3 | 5 | 7), 3.., _) => OnUnallocated::AfterRefused,
+        _ => return Ok(()),
+    };
+    if ty == 9 && class < UNALLOCATED.len() {
+        table.hit_cell(Rows::ReaderUnallocated as usize, row as usize, class);
+    }
     Ok(())
 }
 
@@ -157,7 +193,7 @@ fn good_list(rng: &mut Rng) -> Case {
     Case::new(contents, &records, &sections)
 }
 
-/// An offset at which a record's bytes fit, with a fitting word there, and an offset to show in a
+/// An offset at which a record's bytes fit, with a word there that mostly fits, and an offset to show in a
 /// record whose own offset does not count.
 fn some_place(rng: &mut Rng, contents: &mut [u8], ty: usize, form: usize) -> (u32, u32) {
     let width = match ty {
@@ -172,7 +208,8 @@ fn some_place(rng: &mut Rng, contents: &mut [u8], ty: usize, form: usize) -> (u3
         _ => &[],
     };
     if !fit.is_empty() {
-        put(contents, at, rng.pick(fit) | rng.word() & 0x3f_ffff);
+        let word = if rng.one_in(16) { rng.pick(&UNALLOCATED) << 22 } else { rng.pick(fit) };
+        put(contents, at, word | rng.word() & 0x3f_ffff);
     }
     let shown = if rng.one_in(3) { rng.word() } else { rng.below(contents.len() as u64 + 1) as u32 };
     let shown = if ty == 0 && form & 2 == 0 { shown.min(contents.len() as u32) } else { shown };

@@ -1,6 +1,8 @@
 //! The blocks of the table, and what each row is.
 
+use crate::class::{NEIGHBOURS, UNALLOCATED};
 use crate::hint_groups::{CLASSED, LIMITED};
+use crate::hint_unallocated::{can_be_neighbour, can_hold, holders, unallocated_ends};
 use crate::hint_ways::{FOLD_OR_ADR, HINT_WAYS, IN_REACH, can_end};
 use crate::table::Block;
 
@@ -14,6 +16,7 @@ pub enum Rows {
     ReaderKind,
     ReaderWord,
     ReaderClass,
+    ReaderUnallocated,
     ReaderBounds,
     FixupNumber,
     FixupType,
@@ -21,6 +24,7 @@ pub enum Rows {
     FixupReport,
     FixupConsumed,
     FixupClass,
+    FixupUnallocated,
     FixupAlignment,
     FixupBranchLimit,
     FixupAdrpLimit,
@@ -30,6 +34,8 @@ pub enum Rows {
     HintKind,
     HintWay,
     HintInReach,
+    HintUnallocated,
+    HintNeighbour,
     HintBound,
     HintList,
     HintClass,
@@ -103,6 +109,28 @@ pub const READER_KINDS: [&str; 8] = [
 
 pub const READER_WORDS: [&str; 4] =
     ["GOT page offset, fit", "GOT page offset, unfit", "TLVP page offset, fit", "TLVP page offset, unfit"];
+
+/// How a TLVP page offset stands on an unallocated word.
+#[derive(Clone, Copy)]
+pub enum OnUnallocated {
+    OfSection,
+    Alone,
+    Unaligned,
+    AfterAddend,
+    SharedBytes,
+    AfterRefused,
+    BeforeRefused,
+}
+
+const ON_UNALLOCATED: [&str; 7] = [
+    "of a section: 5",
+    "alone: 6",
+    "alone, at an unaligned offset: 6",
+    "after ADDEND: 6",
+    "a word of which another record reads bytes: 6",
+    "after a record that is refused: its number",
+    "before a record that is refused: 6",
+];
 
 pub const READER_BOUNDS: [&str; 7] = [
     "offset 1 above the length: 3",
@@ -213,6 +241,18 @@ fn report_of_type(kind: usize, ty: usize) -> bool {
     }
 }
 
+/// Page offsets of five kinds on an unallocated word: what becomes of it.
+const ON_UNALLOCATED_FIXED: [&str; 8] = [
+    "PAGEOFF12",
+    "PAGEOFF12, misaligned: report 3",
+    "GOT page offset, of the slot",
+    "GOT page offset, of the slot, misaligned: report 3",
+    "GOT page offset, relaxed: report 4",
+    "TLVP page offset, of the slot",
+    "TLVP page offset, of the slot, misaligned: report 3",
+    "TLVP page offset, relaxed: report 4",
+];
+
 pub const STUB_AND_THUNK: [&str; 8] = [
     "stub, ADRP reaches",
     "stub, ADRP does not reach",
@@ -256,9 +296,10 @@ pub enum HintList {
     Empty, OwnWalk, Objects, Falling, Mixed, AdrpAdrpFirst, SameWord, Overlap, SharedWord, SharedBytes,
     FoldOverlap, FoldSharedWord, FoldSharedBytes, FoldsOfOneAdrp, FoldThenDropped, FoldThenDeclined,
     FoldAndNine,
+    UnallocatedNoMore, UnallocatedByThen, UnallocatedAndNine, UnallocatedSharedAdrp,
 }
 
-const HINT_LISTS: [&str; 17] = [
+const HINT_LISTS: [&str; 21] = [
     "empty list",
     "walked by the Rust's own apply_hints",
     "several objects",
@@ -276,6 +317,10 @@ const HINT_LISTS: [&str; 17] = [
     "a fold in ADR's reach, then ADRP_ADRP of its ADRP: rewritten",
     "a fold in ADR's reach, then ADRP_ADRP of its ADRP: declined",
     "a fold in ADR's reach, and a hint turned down by 9",
+    "an unallocated word that an earlier hint made an access of: rewritten",
+    "a word that an earlier hint made unallocated: declined",
+    "an unallocated word, and a hint turned down by 9",
+    "an unallocated word, and another hint of its ADRP: rewritten",
 ];
 
 pub const HINT_BOUNDS: [&str; 10] = [
@@ -298,7 +343,7 @@ const CLASSES: [&str; 7] = [
     "LDRSW",
     "store of a vector register",
     "load into a vector register",
-    "vector register with LDRSW's size and opc: no LDRSW",
+    "unallocated, of a vector register, a load in the Rust",
 ];
 
 pub const PAYLOAD_NUMBERS: [u8; 4] = [0, 2, 13, 14];
@@ -361,10 +406,17 @@ const WRITTEN: [&str; 8] = [
     "no whole row, and fewer bytes: 1",
 ];
 
-pub fn blocks() -> Vec<Block> {
-    let with_rest = || TYPES[..10].iter().copied().chain(["types from 10 on"]);
-    let all = |_, _| true;
-    let blocks = vec![
+/// Words by bits 31..22.
+fn named<const N: usize>(classes: [u32; N]) -> [String; N] {
+    classes.map(|class| format!("{class:03x}"))
+}
+
+fn all(_: usize, _: usize) -> bool {
+    true
+}
+
+fn reader_blocks() -> Vec<Block> {
+    vec![
         Block::list("Reader, calls by number", 0..8),
         Block::grid("Reader, entries read by type and form", TYPES, 0..16, takes),
         Block::grid("Reader, refused by 5, by type and form", TYPES, 0..16, can_be_unsupported),
@@ -372,31 +424,52 @@ pub fn blocks() -> Vec<Block> {
         Block::list("Reader, entries", READER_KINDS),
         Block::list("Reader, words", READER_WORDS),
         Block::condensed("Reader, classes of bits 31..22 under GOT and TLVP page offsets", 2 * 1024),
+        Block::grid("Reader, TLVP page offsets on unallocated words", ON_UNALLOCATED, named(UNALLOCATED), all),
         Block::list("Reader, bounds", READER_BOUNDS),
+    ]
+}
+
+fn fixup_blocks() -> Vec<Block> {
+    let with_rest = || TYPES[..10].iter().copied().chain(["types from 10 on"]);
+    vec![
         Block::list("Fix-up, calls by number", FIXUP_NUMBERS),
         Block::grid("Fix-up, single entries by type and number", with_rest(), FIXUP_TYPE_NUMBERS, fixup_type_number),
         Block::list("Fix-up, single entries", WAYS),
         Block::grid("Fix-up, reports by kind and type", REPORTS, 0..10, report_of_type),
         Block::grid("Fix-up, entries that SUBTRACTOR takes, by type", with_rest(), [""], all),
         Block::condensed("Fix-up, classes of bits 31..22 under five kinds of page offset", 5 * 1024),
+        Block::grid("Fix-up, page offsets on unallocated words", ON_UNALLOCATED_FIXED, named(UNALLOCATED), all),
         Block::condensed("Fix-up, page offsets under an access of 1, 2, 4, 8, 16 bytes and ADD", 6 * 4096),
         Block::condensed("Fix-up, branch displacements around -2^27, 0 and 2^27", 57),
         Block::condensed("Fix-up, page differences around -2^32, 0 and 2^32, five kinds of page", 5 * 15),
         Block::condensed("Fix-up, flags by type, of symbols and sections", 2 * 10 * 512),
         Block::list("Stub and thunk entries", STUB_AND_THUNK),
+    ]
+}
+
+fn hint_blocks() -> Vec<Block> {
+    let outcomes = ["rewritten", "skipped", "declined", "by 9"];
+    vec![
         Block::list("Hints, calls by number", HINT_NUMBERS),
-        Block::grid(
-            "Hints, by kind and outcome",
-            HINT_KINDS,
-            ["rewritten", "skipped", "declined", "by 9"],
-            hint_outcome,
-        ),
+        Block::grid("Hints, by kind and outcome", HINT_KINDS, outcomes, hint_outcome),
         Block::grid("Hints, single hints by kind", HINT_WAYS, 1..9, |way, i| can_end(way, i + 1)),
         Block::grid(
             "Hints, single hints in reach of an ADR: a fold by its bytes, or ADR by why no fold",
             IN_REACH,
             FOLD_OR_ADR,
             all,
+        ),
+        Block::grid(
+            "Hints, single hints with an unallocated word: the Rust's end, by kind and place",
+            unallocated_ends(),
+            holders(),
+            can_hold,
+        ),
+        Block::grid(
+            "Hints, single hints rewritten, their last word an access beside the unallocated ones, by kind",
+            named(NEIGHBOURS),
+            2..7,
+            can_be_neighbour,
         ),
         Block::list("Hints, bounds", HINT_BOUNDS),
         Block::list("Hints, lists", HINT_LISTS),
@@ -408,6 +481,11 @@ pub fn blocks() -> Vec<Block> {
         ),
         Block::condensed("Hints, ADD immediates under folds into 1, 2, 4, 8 and 16 bytes", 5 * 4096),
         Block::condensed("Hints, types of the entries of each kind", 8 * 12 * 12),
+    ]
+}
+
+fn class_and_payload_blocks() -> Vec<Block> {
+    vec![
         Block::list("Load and store classes", CLASSES),
         Block::condensed("Load and store classes, bits 31..22 over low bits all 0, all 1 and random", 3 * 1024),
         Block::list("Payloads read, calls by number", PAYLOAD_NUMBERS),
@@ -418,7 +496,12 @@ pub fn blocks() -> Vec<Block> {
         Block::list("Payloads written", WRITTEN),
         Block::list("Payloads written, values by bytes", 1..11),
         Block::condensed("Payloads written, values below 2^16", 1 << 16),
-    ];
+    ]
+}
+
+pub fn blocks() -> Vec<Block> {
+    let calls = [reader_blocks(), fixup_blocks(), hint_blocks(), class_and_payload_blocks()];
+    let blocks: Vec<_> = calls.into_iter().flatten().collect();
     assert!(blocks.len() == Rows::Count as usize);
     blocks
 }

@@ -15,7 +15,8 @@ use crate::differences::Differences;
 use crate::rows::blocks;
 use crate::table::Table;
 use crate::{
-    Difference, Oracle, World, answers, class, fixup_groups, hint_groups, payload_groups, reader_groups, stub,
+    Difference, Oracle, World, answers, class, fixup_groups, hint_groups, hint_unallocated, payload_groups,
+    reader_groups, stub,
 };
 
 pub type Verdict = Result<(), Difference>;
@@ -245,6 +246,7 @@ pub fn main(oracle: &Oracle) -> ExitCode {
         fixup_groups::groups,
         stub::groups,
         hint_groups::groups,
+        hint_unallocated::groups,
         class::groups,
         payload_groups::groups,
     ];

@@ -47,22 +47,33 @@ number section base entries targets slots = answerNumber (answerOf (outcomeOf se
 abbrev pub oneWord : ℕ → ℕ → ℕ → ℕ → Outcome
 oneWord word ty addr flags = outcomeOf (bytes 4 word) (basesOf 0x1000 0) (entry ty 0 0) (resolved addr flags) (bytes 24 0)
 
--- a word with no report, and one with a report of alignment 8
+-- a word with no report, and one with a report of alignment
 abbrev pub becomes : ℕ → Outcome
 becomes word = fixed (record { section = bytes 4 word; reports = [] })
 
-abbrev pub misaligned : ℕ → Outcome
-misaligned word = fixed (record { section = bytes 4 word; reports = record { entry = 0; kind = 3; size = 8; place = 0; target = 0 } ∷ [] })
+abbrev pub misaligned : ℕ → ℕ → Outcome
+misaligned size word = fixed (record { section = bytes 4 word; reports = record { entry = 0; kind = 3; size = size; place = 0; target = 0 } ∷ [] })
 
 -- 9 with a target of 0x1238 and of 0x1234, 10, and 11 with a target that can be relaxed
 pub pieces : (oneWord 0xf9400000 ARM64-RELOC-PAGEOFF12 0x1238 4 ≡ becomes 0xf9411c00)
-    × (oneWord 0xf9400000 ARM64-RELOC-PAGEOFF12 0x1234 4 ≡ misaligned 0xf9400000)
+    × (oneWord 0xf9400000 ARM64-RELOC-PAGEOFF12 0x1234 4 ≡ misaligned 8 0xf9400000)
     × (oneWord 0x94000000 ARM64-RELOC-BRANCH26 0xffc 4 ≡ becomes 0x97ffffff)
     × (oneWord 0xf9400000 ARM64-RELOC-GOT-LOAD-PAGEOFF12 0x1234 8 ≡ becomes 0x9108d000)
 unfolding relocBytes resolvedBytes bytesOf bytes outcomeOf checkLists checkTo checkAt checkOf consumed relocAt resolvedAt le wellFormed
     widthOf fixTo workAt changeOf wordChange pageoff12 targetOf offsetWith scaleOf put choose branchTarget dtraceSiteInsn branch
     branchReaches inRange branchWord gotPageoff12 relaxed relaxedWord
 pieces = (refl, refl, refl, refl)
+
+-- PAGEOFF12 on the unallocated words of loads and stores 7d800000, 7dc00000 and bd800000: their size field scales the offset
+pub unallocated-scaled : (oneWord 0x7d800000 ARM64-RELOC-PAGEOFF12 0x1236 4 ≡ becomes 0x7d846c00)
+    × (oneWord 0x7d800000 ARM64-RELOC-PAGEOFF12 0x1235 4 ≡ misaligned 2 0x7d800000)
+    × (oneWord 0x7dc00000 ARM64-RELOC-PAGEOFF12 0x1236 4 ≡ becomes 0x7dc46c00)
+    × (oneWord 0x7dc00000 ARM64-RELOC-PAGEOFF12 0x1235 4 ≡ misaligned 2 0x7dc00000)
+    × (oneWord 0xbd800000 ARM64-RELOC-PAGEOFF12 0x1234 4 ≡ becomes 0xbd823400)
+    × (oneWord 0xbd800000 ARM64-RELOC-PAGEOFF12 0x1236 4 ≡ misaligned 4 0xbd800000)
+unfolding relocBytes resolvedBytes bytesOf bytes outcomeOf checkLists checkTo checkAt checkOf consumed relocAt resolvedAt le wellFormed
+    widthOf fixTo workAt changeOf wordChange pageoff12 targetOf offsetWith scaleOf put choose
+unallocated-scaled = (refl, refl, refl, refl, refl, refl)
 
 -- 7 bytes of entries; one entry with 23 bytes of slots; an 8-byte UNSIGNED at 4 of 8; a type of 10; one SUBTRACTOR;
 -- base 2^64 - 1 with offset 1; POINTER_TO_GOT with target bit 31; flags 0x200, probe with is-enabled, and a last byte that is not zero

@@ -12,7 +12,7 @@ use borrow.Author.Tests.{eq-eqb, ne-eqb, lt-ltb, le-ltb, le-leb, lt-leb, leb-tru
 use lib.Dec.{eqb, ltb, leb}
 use lib.ListN.{length}
 use Rattle.util.specs.All.{empty, more}
-use Rattle.util.proofs.Choice.{split, choose-false, choose-first, both}
+use Rattle.util.proofs.Choice.{split, choose-false, choose-first, both, neither}
 use Rattle.util.proofs.Cases.{same-or, less-or}
 use Rattle.macho.specs.Record.{mostRecords}
 use Rattle.macho.specs.Hint.{hintSize, noEntry, hintCount, hintOf}
@@ -30,7 +30,7 @@ use Rattle.arm64_hint_order.proofs.Walk.{grouped-step}
 use Rattle.arm64_hint_words.specs.Place.{InBytes}
 use Rattle.arm64_hint_words.specs.Entry.{InEntries}
 use Rattle.arm64_hint_places.specs.Hint.{isSkipped, insnsIn, Inside, Named}
-use Rattle.arm64_hint_places.proofs.Places.{neither, by-count}
+use Rattle.arm64_hint_places.proofs.Places.{by-count}
 use Rattle.arm64_hint_check.specs.Check.{isList, checkLists, partPast, endsPast, namesAbsent, anyOf, checkHint}
 use Rattle.arm64_hint_check.specs.Check.{checkTo, checkAll, checkedAs, checkedNumber}
 use Rattle.arm64_hint_check.specs.declared.Checked.the-variants as Said

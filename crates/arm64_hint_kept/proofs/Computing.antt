@@ -12,7 +12,7 @@ use Rattle.arm64_insn.specs.Page.{pageOf, adrpPage}
 use Rattle.arm64_insn.specs.Reach.{within1mb}
 use Rattle.arm64_insn.specs.Adrp.{adrpOf, adrWord}
 use Rattle.arm64_insn.specs.Add.{addOf}
-use Rattle.arm64_insn.specs.LoadStore.{accessOf, loadStoreOf}
+use Rattle.arm64_insn.specs.LoadStore.{loadStoreOf}
 use Rattle.arm64_insn.specs.LoadStoreTable.{rowOf, literalRowOf}
 use Rattle.arm64_insn.specs.Literal.{hasLiteralForm, literalOpc, literalV, literalWord, baseWord}
 use Rattle.arm64_hint_terms.specs.Rels.{relAt, isPageRel, isPageoffRel, sameReference, isAbsent, hasPagePair, bothPages}
@@ -36,7 +36,7 @@ records = tt
 
 -- words taken apart and made
 unfoldable pub words : Unit {0}
-unfolding inRange pageOf adrpPage within1mb adrpOf adrWord addOf accessOf rowOf loadStoreOf hasLiteralForm literalOpc literalV literalWord baseWord
+unfolding inRange pageOf adrpPage within1mb adrpOf adrWord addOf rowOf loadStoreOf hasLiteralForm literalOpc literalV literalWord baseWord
 words = tt
 
 -- the rules

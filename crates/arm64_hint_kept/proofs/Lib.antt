@@ -13,3 +13,4 @@ pub mod Examples
 pub mod ExampleRuns
 pub mod ExampleCalls
 pub mod Needed
+pub mod Unallocated

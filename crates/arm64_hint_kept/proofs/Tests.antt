@@ -7,7 +7,7 @@ use Prim.Native.Nat.{ℕ, _+_, _<_}
 use borrow.Author.Tests.{ltb-true, leb-true, eqb-true, not-true}
 use lib.Dec.{eqb, ltb, leb}
 use Rattle.util.specs.All.{All, empty, more}
-use Rattle.util.proofs.Choice.{both}
+use Rattle.util.proofs.Choice.{both, either}
 use Rattle.util.proofs.Below.{every, every-at}
 use Rattle.macho.specs.declared.hint.HintRecord.{HintRecord}
 use Rattle.macho.specs.Hint.{hintCount, hintOf}
@@ -27,10 +27,6 @@ use Rattle.arm64_hint_kept.specs.HintsKept.{codes, Disjoint, KeepsOrder,
 use Rattle.arm64_hint_kept.specs.Tests.{far, spaced, tests}
 
 -- ---- words that share no byte
-
-either : {G : Type 0} (a b : Bool) → (a || b) ≡ true → (a ≡ true → G) → (b ≡ true → G) → G
-either true b e f g = f refl
-either false b e f g = g e
 
 far-apart : (at q : ℕ) → far at q ≡ true → Apart (span at 4) (span q 4)
 far-apart at q e =
@@ -74,7 +70,7 @@ alone-by hints k e j l ne b p q =
 pub fair-when : (h : HintRecord) (image : List ℕ) → each (λ t. t) (tests h image) ≡ true → Fair h image
 fair-when h image e =
     let f = each-by (λ t. t) (λ t. t ≡ true) (λ t h. h) (tests h image) e in
-    record { disjoint = disjoint-by (placesOf h) (f .0); words = fair-by (f .1 .0) (f .1 .1 .0) (f .1 .1 .1 .0) (f .1 .1 .1 .1 .0) (f .1 .1 .1 .1 .1 .0) }
+    record { disjoint = disjoint-by (placesOf h) (f .0); words = fair-by (f .1 .0) (f .1 .1 .0) (f .1 .1 .1 .0) (f .1 .1 .1 .1 .0) }
 
 -- whether they meet every premise (RULES 9.12 to 9.20) in a run from state s
 abbrev pub meetsAll : HintRecord → List ℕ → Other → State → Bool

@@ -7,3 +7,4 @@ pub mod Tests
 pub mod Examples
 pub mod ExampleRuns
 pub mod Needed
+pub mod Unallocated

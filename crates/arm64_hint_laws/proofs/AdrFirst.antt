@@ -10,7 +10,7 @@ use Rattle.util.specs.Choice.{choose}
 use Rattle.macho.specs.Types.{MCLOH-AdrpLdrGotLdr, MCLOH-AdrpLdrGotStr}
 use Rattle.arm64_insn.specs.Reach.{within1mb}
 use Rattle.arm64_insn.specs.Add.{addOf}
-use Rattle.arm64_insn.specs.LoadStore.{loadStoreOf, takenWord}
+use Rattle.arm64_insn.specs.LoadStore.{loadStoreOf}
 use Rattle.arm64_insn.specs.Literal.{hasLiteralForm}
 use Rattle.arm64_insn.specs.declared.add.Add.{Add}
 use Rattle.arm64_insn.specs.declared.add.AddWord.the-variants as D
@@ -18,7 +18,7 @@ use Rattle.arm64_insn.specs.declared.ldst.LoadStore.{LoadStore}
 use Rattle.arm64_insn.specs.declared.ldst.LoadStoreWord.{LoadStoreWord}
 use Rattle.arm64_insn.specs.declared.ldst.LoadStoreWord.the-variants as L
 use Rattle.arm64_insn.proofs.Decoded.{decoded-add}
-use Rattle.arm64_insn.proofs.Decodes.{add-decodes, load-store-decodes, taken-decodes}
+use Rattle.arm64_insn.proofs.Decodes.{add-decodes, load-store-decodes}
 use Rattle.arm64_insn.proofs.Offsets.{page-sum}
 use Rattle.arm64_hint_terms.specs.Answer.{sumOf}
 use Rattle.arm64_hint_terms.specs.Plans.{adrFirst}
@@ -32,12 +32,11 @@ use Rattle.arm64_hint_laws.specs.RustOrder.{AdrFits}
 
 -- an ADD is no load or store
 not-access : (w : ℕ) (d : Add) → addOf w ≡ D.Add d → loadStoreOf w ≡ L.Other
-not-access w d e = go (loadStoreOf w) (takenWord w) refl refl
+not-access w d e = go (loadStoreOf w) refl
   where
-    go : (x : LoadStoreWord) (t : Bool) → loadStoreOf w ≡ x → takenWord w ≡ t → x ≡ L.Other
-    go L.Other t ex et = refl
-    go (L.LoadStore l) true ex et = let a = add-decodes w d e in let b = taken-decodes w et .0 in never (cc)
-    go (L.LoadStore l) false ex et = let a = add-decodes w d e in let b = load-store-decodes w l ex et in never (cc)
+    go : (x : LoadStoreWord) → loadStoreOf w ≡ x → x ≡ L.Other
+    go L.Other f = refl
+    go (L.LoadStore l) f = let a = add-decodes w d e in let b = load-store-decodes w l f in never (cc)
 
 module _ (s : Insns) (r : Rels) (d : Add) (addr : ℕ) (ls : LoadStore) (f : AdrFits s r d addr ls) where
   -- the GOT load is the ADD

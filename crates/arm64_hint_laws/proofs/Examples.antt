@@ -15,7 +15,7 @@ use Rattle.arm64_insn.specs.Reach.{within1mb}
 use Rattle.arm64_insn.specs.Adrp.{adrpOf, adrWord}
 use Rattle.arm64_insn.specs.Add.{addOf}
 use Rattle.arm64_insn.specs.Fix.{nopWord}
-use Rattle.arm64_insn.specs.LoadStore.{accessOf, loadStoreOf}
+use Rattle.arm64_insn.specs.LoadStore.{loadStoreOf}
 use Rattle.arm64_insn.specs.Literal.{hasLiteralForm, literalOpc, literalV, literalWord, baseWord}
 use Rattle.arm64_hint_terms.specs.Answer.{sumOf, fitsLiteral}
 use Rattle.arm64_hint_terms.specs.Plans.{rewritten}
@@ -197,7 +197,7 @@ orders =
     ∷ []
 
 pub examples : (decidedOf rewrites ≡ givenOf rewrites) × (decidedOf orders ≡ givenOf orders)
-unfolding choose inRange pageOf adrpPage within1mb adrpOf adrWord addOf rowOf accessOf loadStoreOf hasLiteralForm literalOpc literalV literalWord
+unfolding choose inRange pageOf adrpPage within1mb adrpOf adrWord addOf rowOf loadStoreOf hasLiteralForm literalOpc literalV literalWord
     baseWord sumOf fitsLiteral isPageRel isPageoffRel sameReference isAbsent hasPagePair bothPages samePage adrpAdrp ldrSecond ldrAtPage adrpLdr adrTo
     addAtPage adrpAdd addAccess through folds foldThird foldOrAdr loadThrough adrpAddLdr adrpAddStr loadsSlot slotLoad relaxedLoad gotLoad adrpLdrGot slotTo
     gotLiteral foldLoad adrOrFoldLoad relaxedTo relaxedLdr adrpLdrGotLdr relaxedStr adrpLdrGotStr decide

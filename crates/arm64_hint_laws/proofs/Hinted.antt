@@ -2,8 +2,8 @@
 -- only rewritten where its words and its entries are what its kind says, or one of the named exceptions stands there. By cases on the kind, on what
 -- the words decode to, and on the entries' test; the decoders' answers are the manual's forms by arm64_insn's `Decodes`.
 use mathlib.Core.Path.{_≡_, refl, sym, ap, subst, _∙_}
-use mathlib.Core.Logic.{_⊎_, inl, inr, ⊎-elim}
-use mathlib.Core.Bool.{Bool, true, false, not, true≢false}
+use mathlib.Core.Logic.{_⊎_, inl, inr}
+use mathlib.Core.Bool.{Bool, true, false, not}
 use mathlib.Core.List.{List, [], _∷_}
 use Prim.Native.Nat.{ℕ}
 use native.Mathlib.Omega.{arith}
@@ -11,7 +11,6 @@ use borrow.Author.Tests.{not-true}
 use lib.Dec.{eqb, leb}
 use lib.ListN.{length}
 use Rattle.util.specs.Choice.{choose}
-use Rattle.util.specs.Diagram.{matches}
 use Rattle.util.proofs.Choice.{split, chosen, choose-ap, both}
 use Rattle.macho.specs.Hint.{wordCount}
 use Rattle.macho.specs.declared.reloc.Reloc.{Reloc}
@@ -19,11 +18,10 @@ use Rattle.macho.specs.Types.{MCLOH-AdrpAdrp, MCLOH-AdrpLdr, MCLOH-AdrpAddLdr, 
 use Rattle.macho.specs.Types.{MCLOH-AdrpAddStr, MCLOH-AdrpLdrGotStr, MCLOH-AdrpAdd, MCLOH-AdrpLdrGot}
 use Rattle.arm64_insn.specs.Adrp.{adrpOf}
 use Rattle.arm64_insn.specs.Add.{addOf}
-use Rattle.arm64_insn.specs.Encoding.{loadStore}
 use Rattle.arm64_insn.specs.Manual.{sizeIn, vIn, opcIn}
-use Rattle.arm64_insn.specs.LoadStore.{takenAsLoad, takenWord, loadStoreOf}
+use Rattle.arm64_insn.specs.LoadStore.{loadStoreOf}
 use Rattle.arm64_insn.specs.Literal.{hasLiteralForm}
-use Rattle.arm64_insn.proofs.Decodes.{adrp-decodes, add-decodes, decodes-load-store, load-store-decodes, taken-decodes}
+use Rattle.arm64_insn.proofs.Decodes.{adrp-decodes, add-decodes, decodes-load-store, load-store-decodes}
 use Rattle.arm64_insn.specs.declared.adrp.Adrp.{Adrp}
 use Rattle.arm64_insn.specs.declared.adrp.AdrpWord.the-variants as A
 use Rattle.arm64_insn.specs.declared.add.Add.{Add}
@@ -37,7 +35,7 @@ use Rattle.arm64_hint_adrp.specs.Three.{through, foldOrAdr, adrpAddLdrWith, adr
 use Rattle.arm64_hint_got.specs.Got.{gotLoad, adrpLdrGotWith, adrpLdrGot, gotLdrBy, gotLdrWith, adrpLdrGotLdr, gotStrBy, gotStrWith, adrpLdrGotStr}
 use Rattle.arm64_hint_laws.specs.Decide.{decide}
 use Rattle.arm64_hint_terms.specs.Kinds.{Word, Adrp-Page, Adrp-GotPage, Add-PageOff, Ldr-PageOff, Ldr-GotPageOff, Ldr, Str}
-use Rattle.arm64_hint_terms.specs.Kinds.{HintKind, kinds, wordsAmong, wordsOf, IsAdrp, IsAdd, IsAccess, IsTaken, IsWord, IsInstead, AreWords, OneV, Refers}
+use Rattle.arm64_hint_terms.specs.Kinds.{HintKind, kinds, wordsAmong, wordsOf, IsAdrp, IsAdd, IsAccess, IsWord, IsInstead, AreWords, OneV, Refers}
 use Rattle.arm64_hint_terms.specs.declared.answer.Insns.{Insns}
 use Rattle.arm64_hint_terms.specs.declared.answer.Plan.{Plan}
 use Rattle.arm64_hint_terms.specs.declared.answer.NewWord.the-variants.{Keep}
@@ -212,41 +210,20 @@ add-word w d e = record { rd = d .rd; rn = d .rn; imm12 = d .imm; is = add-decod
 inside : (a b : LoadStore) → L.LoadStore a ≡ L.LoadStore b → a ≡ b
 inside a b e = cc
 
--- a load or store of the manual, or a word that is taken as a load of a vector register
-access-word : (w : ℕ) (l : LoadStore) → loadStoreOf w ≡ L.LoadStore l
-    → IsAccess w (l .«is_store») ⊎ (IsTaken w × (l .«is_store» ≡ false) × (l .«is_float» ≡ true))
-access-word w l e = go (takenWord w) refl
-  where
-    go : (t : Bool) → takenWord w ≡ t → IsAccess w (l .«is_store») ⊎ (IsTaken w × (l .«is_store» ≡ false) × (l .«is_float» ≡ true))
-    go false t =
-        let d = load-store-decodes w l e t in
-        let q = inside _ _ (sym (decodes-load-store w _ _ _ _ _ _ d) ∙ e) in
-        inl (record { size = sizeIn w; v = vIn w; opc = opcIn w; rt = _; rn = _; imm12 = _; is = d; row = ap (λ (l : LoadStore). l .«is_store») q })
-    go true t =
-        let d = taken-decodes w t in
-        let q = inside _ _ (sym (d .2) ∙ e) in
-        inr ((
-          (d .1, both (matches loadStore w) (takenAsLoad (sizeIn w) (vIn w) (opcIn w)) t .1),
-          ap (λ (l : LoadStore). l .«is_store») (sym q),
-          ap (λ (l : LoadStore). l .«is_float») (sym q),
-        ))
-
+-- a load or store of the manual
 module _ (w : ℕ) (l : LoadStore) (e : loadStoreOf w ≡ L.LoadStore l) where
-  load-word : l .«is_store» ≡ false → IsAccess w false ⊎ IsTaken w
-  load-word b = ⊎-elim (λ a. inl (subst (IsAccess w) b a)) (λ t. inr (t .0)) (access-word w l e)
+  access-word : (stores : Bool) → l .«is_store» ≡ stores → IsAccess w stores
+  access-word stores b =
+      let d = load-store-decodes w l e in
+      let q = inside _ _ (sym (decodes-load-store w _ _ _ _ _ _ d) ∙ e) in
+      record { size = sizeIn w; v = vIn w; opc = opcIn w; rt = _; rn = _; imm12 = _; is = d; row = ap (λ (l : LoadStore). l .«is_store») q ∙ b }
 
-  general-word : l .«is_store» ≡ false → l .«is_float» ≡ false → IsAccess w false
-  general-word b g = ⊎-elim (λ a. subst (IsAccess w) b a) (λ t. absurd (true≢false (sym (t .2) ∙ g))) (access-word w l e)
-
-  store-word : l .«is_store» ≡ true → IsAccess w true
-  store-word b = ⊎-elim (λ a. subst (IsAccess w) b a) (λ t. absurd (true≢false (sym b ∙ t .1))) (access-word w l e)
-
-  last-word : IsAccess w false ⊎ (IsAccess w true ⊎ IsTaken w)
-  last-word = ⊎-elim (go (l .«is_store»)) (λ t. inr (inr (t .0))) (access-word w l e)
+  last-word : IsAccess w false ⊎ IsAccess w true
+  last-word = go (l .«is_store») refl
     where
-      go : (b : Bool) → IsAccess w b → IsAccess w false ⊎ (IsAccess w true ⊎ IsTaken w)
-      go true a = inr (inl a)
-      go false a = inl a
+      go : (b : Bool) → l .«is_store» ≡ b → IsAccess w false ⊎ IsAccess w true
+      go true b = inr (access-word true b)
+      go false b = inl (access-word false b)
 
 -- what the decoded words are, with the words that follow them
 module _ (s : Insns) where
@@ -254,7 +231,7 @@ module _ (s : Insns) where
   unfolding hasLiteralForm
   literal-words ld target l = (
     inl (adrp-word (s .w0) (l .adrp) (l .first)),
-    (load-word (s .w1) ld (l .second) (not-true (ld .«is_store») (both (leb 4 (ld .size)) (not (ld .«is_store»)) (l .form) .1)), tt),
+    (inl (access-word (s .w1) ld (l .second) false (not-true (ld .«is_store») (both (leb 4 (ld .size)) (not (ld .«is_store»)) (l .form) .1))), tt),
   )
 
   made-words : (d : Add) (target : ℕ) → Makes s target d → (ws : List Word) → AreWords ws (s .w2 ∷ [])
@@ -265,7 +242,7 @@ module _ (s : Insns) where
       → AreWords (Adrp-GotPage ∷ Ldr-GotPageOff ∷ ws) (wordList s)
   slot-words ld slot l ws h =
       let q = eight-bytes ld (l .adrp .rd) (l .loads) in
-      (inl (adrp-word (s .w0) (l .adrp) (l .first)), (inl (general-word (s .w1) ld (l .second) (q .loading) (q .general)), h))
+      (inl (adrp-word (s .w0) (l .adrp) (l .first)), (inl (access-word (s .w1) ld (l .second) false (q .loading)), h))
 
   relaxed-words : (d : Add) (target : ℕ) → Makes s target d → (ws : List Word) → AreWords ws (s .w2 ∷ [])
       → AreWords (Adrp-GotPage ∷ Ldr-GotPageOff ∷ ws) (wordList s)
@@ -302,7 +279,7 @@ module _ (s : Insns) where
   add-str-words (T.At addr d st) f =
       let t = f addr d st refl in
       split (Worded s MCLOH-AdrpAddStr) (st .«is_store») _ Declined
-      (λ b. adds-words MCLOH-AdrpAddStr Str (unfold choose in refl) addr d st t (inl (store-word (s .w2) st (t .third) b))
+      (λ b. adds-words MCLOH-AdrpAddStr Str (unfold choose in refl) addr d st t (inl (access-word (s .w2) st (t .third) true b))
       (summed (sumOf addr (st .offset)) (foldOrAdr s addr d st)))
       (λ b. tt)
 
@@ -317,7 +294,7 @@ module _ (s : Insns) where
   got-str-words pair L.Other e = tt
   got-str-words pair (L.LoadStore st) e =
       split (Worded s MCLOH-AdrpLdrGotStr) (st .«is_store») _ Declined
-      (λ b. got-words MCLOH-AdrpLdrGotStr (gotStrBy s st) (Str ∷ []) (unfold choose in refl) (inl (store-word (s .w2) st e b), tt) refl refl
+      (λ b. got-words MCLOH-AdrpLdrGotStr (gotStrBy s st) (Str ∷ []) (unfold choose in refl) (inl (access-word (s .w2) st e true b), tt) refl refl
       (gotLoad s pair) (got s pair))
       (λ b. tt)
 

@@ -7,4 +7,5 @@ pub mod Twice
 pub mod Examples
 pub mod RustOrder
 pub mod AdrFirst
+pub mod Unallocated
 pub mod Occurs

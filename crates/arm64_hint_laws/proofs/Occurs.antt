@@ -15,7 +15,7 @@ use Rattle.arm64_insn.specs.Reach.{within1mb}
 use Rattle.arm64_insn.specs.Adrp.{adrpOf, adrWord}
 use Rattle.arm64_insn.specs.Add.{addOf}
 use Rattle.arm64_insn.specs.Fix.{nopWord}
-use Rattle.arm64_insn.specs.LoadStore.{accessOf, loadStoreOf}
+use Rattle.arm64_insn.specs.LoadStore.{loadStoreOf}
 use Rattle.arm64_insn.specs.Literal.{hasLiteralForm, literalOpc, literalV, literalWord, baseWord}
 use Rattle.arm64_hint_terms.specs.Answer.{sumOf, fitsLiteral}
 use Rattle.arm64_hint_terms.specs.Kinds.{wordsOf, Refers}
@@ -50,7 +50,7 @@ module _ (r : Rels) where
   }
 
   adrp-ldr : Refers MCLOH-AdrpLdr r → Occurs MCLOH-AdrpLdr r
-  unfolding decide choose adrpLdr adrpOf loadStoreOf rowOf accessOf ldrAtPage adrpPage pageOf sumOf ldrSecond fitsLiteral hasLiteralForm within1mb inRange
+  unfolding decide choose adrpLdr adrpOf loadStoreOf rowOf ldrAtPage adrpPage pageOf sumOf ldrSecond fitsLiteral hasLiteralForm within1mb inRange
       literalWord literalOpc literalV
   adrp-ldr f = record {
     words = at 0x90000000 0xf9400401 0;
@@ -59,7 +59,7 @@ module _ (r : Rels) where
   }
 
   adrp-add-ldr : Refers MCLOH-AdrpAddLdr r → Occurs MCLOH-AdrpAddLdr r
-  unfolding decide choose adrpAddLdr through adrpOf addOf loadStoreOf rowOf accessOf addAccess adrpPage pageOf sumOf loadThrough fitsLiteral hasLiteralForm
+  unfolding decide choose adrpAddLdr through adrpOf addOf loadStoreOf rowOf addAccess adrpPage pageOf sumOf loadThrough fitsLiteral hasLiteralForm
       within1mb inRange folds foldOrAdr baseWord
   adrp-add-ldr f = record {
     words = at 0x905bed00 0x912f2001 0x3d000025;
@@ -68,7 +68,7 @@ module _ (r : Rels) where
   }
 
   adrp-ldr-got-ldr : Refers MCLOH-AdrpLdrGotLdr r → Occurs MCLOH-AdrpLdrGotLdr r
-  unfolding decide choose adrpLdrGotLdr adrpOf loadStoreOf rowOf accessOf addOf gotLoad slotLoad loadsSlot adrpPage pageOf sumOf gotLiteral slotTo within1mb
+  unfolding decide choose adrpLdrGotLdr adrpOf loadStoreOf rowOf addOf gotLoad slotLoad loadsSlot adrpPage pageOf sumOf gotLiteral slotTo within1mb
       inRange literalWord literalOpc literalV
   adrp-ldr-got-ldr f = record {
     words = at 0xb0000000 0xf9400402 0x39c00042;
@@ -77,7 +77,7 @@ module _ (r : Rels) where
   }
 
   adrp-add-str : Refers MCLOH-AdrpAddStr r → Occurs MCLOH-AdrpAddStr r
-  unfolding decide choose adrpAddStr through adrpOf addOf loadStoreOf rowOf accessOf addAccess adrpPage pageOf sumOf within1mb inRange folds foldOrAdr
+  unfolding decide choose adrpAddStr through adrpOf addOf loadStoreOf rowOf addAccess adrpPage pageOf sumOf within1mb inRange folds foldOrAdr
       baseWord
   adrp-add-str f = record {
     words = at 0x90001000 0x91004000 0xf9000001;
@@ -86,7 +86,7 @@ module _ (r : Rels) where
   }
 
   adrp-ldr-got-str : Refers MCLOH-AdrpLdrGotStr r → Occurs MCLOH-AdrpLdrGotStr r
-  unfolding decide choose adrpLdrGotStr adrpOf loadStoreOf rowOf accessOf addOf gotLoad slotLoad loadsSlot adrpPage pageOf sumOf gotLiteral slotTo within1mb
+  unfolding decide choose adrpLdrGotStr adrpOf loadStoreOf rowOf addOf gotLoad slotLoad loadsSlot adrpPage pageOf sumOf gotLiteral slotTo within1mb
       inRange literalWord literalOpc literalV
   adrp-ldr-got-str f = record {
     words = at 0xb0000000 0xf9400402 0x39000042;
@@ -103,7 +103,7 @@ module _ (r : Rels) where
   }
 
   adrp-ldr-got : Refers MCLOH-AdrpLdrGot r → Occurs MCLOH-AdrpLdrGot r
-  unfolding decide choose adrpLdrGot adrpOf loadStoreOf rowOf accessOf addOf gotLoad slotLoad loadsSlot adrpPage pageOf sumOf within1mb inRange
+  unfolding decide choose adrpLdrGot adrpOf loadStoreOf rowOf addOf gotLoad slotLoad loadsSlot adrpPage pageOf sumOf within1mb inRange
       literalWord literalOpc literalV
   adrp-ldr-got f = record {
     words = at 0xb0000000 0xf9400402 0;

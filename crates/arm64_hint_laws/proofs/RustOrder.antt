@@ -16,7 +16,7 @@ use Rattle.arm64_insn.specs.Page.{pageOf, adrpPage}
 use Rattle.arm64_insn.specs.Reach.{within1mb}
 use Rattle.arm64_insn.specs.Adrp.{adrpOf, adrWord}
 use Rattle.arm64_insn.specs.Add.{addOf}
-use Rattle.arm64_insn.specs.LoadStore.{accessOf, loadStoreOf}
+use Rattle.arm64_insn.specs.LoadStore.{loadStoreOf}
 use Rattle.arm64_insn.specs.Literal.{hasLiteralForm, baseWord}
 use Rattle.arm64_insn.specs.declared.add.Add.{Add}
 use Rattle.arm64_insn.specs.declared.ldst.LoadStore.{LoadStore}
@@ -261,7 +261,7 @@ differs kind s r p q ep eq f a =
     (moved-only kind s r)
 
 pub moved-examples : MovedExamples
-unfolding choose inRange pageOf adrpPage within1mb adrpOf adrWord addOf rowOf accessOf loadStoreOf hasLiteralForm baseWord sumOf fitsLiteral isPageRel
+unfolding choose inRange pageOf adrpPage within1mb adrpOf adrWord addOf rowOf loadStoreOf hasLiteralForm baseWord sumOf fitsLiteral isPageRel
     isPageoffRel sameReference isAbsent hasPagePair addAccess through folds foldOrAdr loadThrough adrpAddLdr adrpAddStr decide adrOrFold inRustOrder
 moved-examples = (
   (differs MCLOH-AdrpAddLdr (through8 0x39400045) halves _ _ refl refl refl refl, refl, refl),

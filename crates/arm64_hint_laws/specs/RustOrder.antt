@@ -1,6 +1,6 @@
 -- The two rules that the Rust has in another order (RULES 8.18, 8.20): in ADRP_ADD_LDR and ADRP_ADD_STR its ADR comes before the fold. What that
--- order decides, the hints that the two orders decide otherwise, which docs/DIFFERENCES lists, and where an ADR fits in the kinds of a GOT load, which
--- keep it first.
+-- order decides, by the decoders of arm64_insn, the hints that the two orders decide otherwise, which docs/DIFFERENCES lists, and where an ADR fits in
+-- the kinds of a GOT load, which keep it first.
 use mathlib.Core.Path.{_≡_}
 use mathlib.Core.Logic.{_⊎_}
 use mathlib.Core.Bool.{true, false}

@@ -1,13 +1,13 @@
 -- A hint's places by its word count. Carried by the choices of `isSkipped`, `insnsIn` and `wordCount`.
 use mathlib.Core.Path.{_≡_, refl, sym, ap, _∙_}
-use mathlib.Core.Bool.{Bool, true, false, not, _||_, true≢false}
+use mathlib.Core.Bool.{true, false, not, true≢false}
 use mathlib.Core.List.{List, [], _∷_}
 use Prim.Native.Nat.{ℕ}
 use borrow.Author.Tests.{ne-eqb, eqb-true, eqb-false, not-false}
 use lib.Dec.{eqb}
 use lib.ListN.{take}
 use Rattle.util.specs.Choice.{choose}
-use Rattle.util.proofs.Choice.{choose-true, choose-false, chosen}
+use Rattle.util.proofs.Choice.{choose-true, choose-false, chosen, neither}
 use Rattle.util.proofs.Cases.{same-or}
 use Rattle.macho.specs.Hint.{wordCount}
 use Rattle.macho.specs.declared.hint.HintInsn.{HintInsn}
@@ -22,10 +22,6 @@ unfolding wordCount
 of-count P none two three kind =
     chosen P _ 2 _ two (chosen P _ 2 _ two (chosen P _ 3 _ three (chosen P _ 3 _ three
     (chosen P _ 3 _ three (chosen P _ 3 _ three (chosen P _ 2 _ two (chosen P _ 2 0 two none)))))))
-
-pub neither : (a b : Bool) → (a || b) ≡ false → (a ≡ false) × (b ≡ false)
-neither true b e = absurd (true≢false e)
-neither false b e = (refl, e)
 
 module _ (h : HintRecord) where
   pub insns-none : isSkipped h ≡ true → insnsIn h ≡ []

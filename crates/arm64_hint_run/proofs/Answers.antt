@@ -120,6 +120,17 @@ module _ (image hints entries : List ℕ) where
   counts-sum t e =
       omega (arith, ap (λ (w : Work Tally). total (w .tally)) (run-is t e), total-list (orderOf hints) (start image), order-length hints)
 
+-- ---- hints that leave their words
+
+-- a hint that has no new words leaves the image, and is counted
+pub no-news-leaves : (hints entries : List ℕ) (k : ℕ) (w : Work Tally) (t : Tally) → newsOf (answered (stepsOf hints entries) k (w .image)) ≡ []
+    → addOutcome (answered (stepsOf hints entries) k (w .image)) (w .tally) ≡ t
+    → stepOf (stepsOf hints entries) k w ≡ record { image = w .image; tally = t }
+no-news-leaves hints entries k w t none q =
+    let p : written (stepsOf hints entries) k (w .image) ≡ w .image =
+    ap (λ (l : List (Option ℕ)). putWords (placesOf (hintOf hints k)) l (w .image)) none ∙ sym (puts-none (placesOf (hintOf hints k)) (w .image)) in
+    λ i. record { image = p i; tally = q i }
+
 -- ---- a hint answered nine
 
 -- writes no word, and is counted as turned down
@@ -134,10 +145,7 @@ module _ (hints entries : List ℕ) (k : ℕ) (w : Work Tally) (nine : outcomeNu
   pub nine-leaves : stepOf (stepsOf hints entries) k w ≡ record { image = w .image; tally = addDecision Nine (w .tally) }
   nine-leaves =
       let o = is-nine (answered (stepsOf hints entries) k (w .image)) nine in
-      let p : written (stepsOf hints entries) k (w .image) ≡ w .image =
-      ap (λ (l : List (Option ℕ)). putWords (placesOf (hintOf hints k)) l (w .image)) (o .0) ∙ sym (puts-none (placesOf (hintOf hints k)) (w .image)) in
-      let q : addOutcome (answered (stepsOf hints entries) k (w .image)) (w .tally) ≡ addDecision Nine (w .tally) = o .1 (w .tally) in
-      λ i. record { image = p i; tally = q i }
+      no-news-leaves hints entries k w (addDecision Nine (w .tally)) (o .0) (o .1 (w .tally))
 
   -- and the hints after it are worked on that
   pub nine-goes-on : (l : List ℕ) → runList (stepOf (stepsOf hints entries)) (k ∷ l) w

@@ -17,7 +17,7 @@ use Rattle.arm64_insn.specs.Page.{pageOf, adrpPage}
 use Rattle.arm64_insn.specs.Reach.{within1mb}
 use Rattle.arm64_insn.specs.Adrp.{adrpOf, adrWord}
 use Rattle.arm64_insn.specs.Add.{addOf}
-use Rattle.arm64_insn.specs.LoadStore.{accessOf, loadStoreOf}
+use Rattle.arm64_insn.specs.LoadStore.{loadStoreOf}
 use Rattle.arm64_insn.specs.Literal.{hasLiteralForm, literalOpc, literalV, literalWord, baseWord}
 use Rattle.arm64_hint_terms.specs.Answer.{sumOf, fitsLiteral}
 use Rattle.arm64_hint_terms.specs.Rels.{relAt, isPageRel, isPageoffRel, sameReference, isAbsent, hasPagePair}
@@ -74,7 +74,7 @@ pub pieces : Rewrites MCLOH-AdrpLdr (0x90000000 ∷ 0xf9400401 ∷ []) (0xd50320
     × Rewrites MCLOH-AdrpAdd (0x90000000 ∷ 0x91000c00 ∷ []) (0x70000000 ∷ 0xd503201f ∷ [])
     × Rewrites MCLOH-AdrpAddStr (0x90001000 ∷ 0x91004000 ∷ 0xf9000001 ∷ []) (0x90001000 ∷ 0xd503201f ∷ 0xf9000801 ∷ [])
 unfolding choose le put bytes inRange bytesOf relocAt relocBytes insnAt hintAt hintBytes wordCount rowOf pageOf adrpPage within1mb adrpOf adrWord addOf
-    accessOf loadStoreOf hasLiteralForm literalOpc literalV literalWord baseWord sumOf fitsLiteral relAt isPageRel isPageoffRel sameReference isAbsent
+    loadStoreOf hasLiteralForm literalOpc literalV literalWord baseWord sumOf fitsLiteral relAt isPageRel isPageoffRel sameReference isAbsent
     hasPagePair ldrSecond ldrAtPage adrpLdr adrTo addAtPage adrpAdd addAccess through folds foldThird foldOrAdr adrpAddStr decide isSkipped insnsIn
     insnsOf relsOf hintOutcome isList checkLists checkHint checkTo checkAll worked runOf imageOf
 pieces = ((refl, refl), (refl, refl), (refl, refl))

@@ -2,6 +2,7 @@
 pub mod Loop
 pub mod Parts
 pub mod Answers
+pub mod Unallocated
 pub mod Empty
 pub mod Ignored
 pub mod IgnoredEntries

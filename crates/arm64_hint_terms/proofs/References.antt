@@ -9,7 +9,7 @@ use native.Mathlib.Omega.{arith}
 use borrow.Author.Tests.{eq-eqb, eqb-true}
 use lib.Dec.{eqb, ltb}
 use Rattle.util.specs.Choice.{choose}
-use Rattle.util.proofs.Choice.{both}
+use Rattle.util.proofs.Choice.{both, either}
 use Rattle.macho.specs.Types.{MCLOH-AdrpAdrp, MCLOH-AdrpLdr, MCLOH-AdrpAddLdr, MCLOH-AdrpLdrGotLdr}
 use Rattle.macho.specs.Types.{MCLOH-AdrpAddStr, MCLOH-AdrpLdrGotStr, MCLOH-AdrpAdd, MCLOH-AdrpLdrGot}
 use Rattle.arm64_hint_terms.specs.Rels.{isPageRel, isPageoffRel, sameReference, isAbsent, hasPagePair, bothPages}
@@ -21,13 +21,9 @@ use Rattle.arm64_hint_terms.specs.declared.rels.Rels.{Rels}
 
 -- ---- one entry
 
-either : (a b : Bool) → (a || b) ≡ true → (a ≡ true) ⊎ (b ≡ true)
-either true b e = inl refl
-either false b e = inr e
-
 -- one of two types
 of-two : (ty g t : ℕ) → (eqb ty g || eqb ty t) ≡ true → (ty ≡ g) ⊎ (ty ≡ t)
-of-two ty g t h = ⊎-elim (λ a. inl (eqb-true ty g a)) (λ b. inr (eqb-true ty t b)) (either (eqb ty g) (eqb ty t) h)
+of-two ty g t h = either (eqb ty g) (eqb ty t) h (λ a. inl (eqb-true ty g a)) (λ b. inr (eqb-true ty t b))
 
 -- a half of any reference, by its types; and of a GOT slot
 any-half : (ty p g t : ℕ) → choose (eqb ty p) true (eqb ty g || eqb ty t) ≡ true → (ty ≡ p) ⊎ ((ty ≡ g) ⊎ (ty ≡ t))

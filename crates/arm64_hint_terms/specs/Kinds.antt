@@ -6,14 +6,16 @@ use mathlib.Core.Logic.{_⊎_}
 use mathlib.Core.Bool.{Bool, true, false}
 use mathlib.Core.List.{List, [], _∷_}
 use lib.Dec.{eqb}
+use lib.ListN.{take}
 use Rattle.util.specs.Choice.{choose}
+use Rattle.macho.specs.Hint.{wordCount}
 use Rattle.macho.specs.Types.{MCLOH-AdrpAdrp, MCLOH-AdrpLdr, MCLOH-AdrpAddLdr, MCLOH-AdrpLdrGotLdr}
 use Rattle.macho.specs.Types.{MCLOH-AdrpAddStr, MCLOH-AdrpLdrGotStr, MCLOH-AdrpAdd, MCLOH-AdrpLdrGot}
 use Rattle.macho.specs.Types.{ARM64-RELOC-PAGE21, ARM64-RELOC-GOT-LOAD-PAGE21, ARM64-RELOC-TLVP-LOAD-PAGE21}
 use Rattle.macho.specs.Types.{ARM64-RELOC-PAGEOFF12, ARM64-RELOC-GOT-LOAD-PAGEOFF12, ARM64-RELOC-TLVP-LOAD-PAGEOFF12}
 use Rattle.arm64_insn.specs.LoadStoreTable.{rowOf, isStore}
-use Rattle.arm64_insn.specs.Manual.{ADRP, ADD, LDST, instruction, decode, allocated, sizeIn, vIn, opcIn}
-use Rattle.arm64_insn.specs.LoadStore.{takenAsLoad}
+use Rattle.arm64_insn.specs.Manual.{ADRP, ADD, LDST, instruction, decode}
+use Rattle.arm64_hint_terms.specs.declared.answer.Insns.{Insns}
 use Rattle.arm64_hint_terms.specs.declared.rels.Rel.{Rel}
 use Rattle.arm64_hint_terms.specs.declared.rels.Rel.the-variants.{Entry, Absent}
 use Rattle.arm64_hint_terms.specs.declared.rels.Rels.{Rels}
@@ -59,6 +61,10 @@ wordsAmong (k ∷ ks) n = choose (eqb n (k .number)) (k .words) (wordsAmong ks n
 unfoldable pub wordsOf : ℕ → List Word
 wordsOf n = wordsAmong kinds n
 
+-- the words that a hint of a kind holds, up to the kind's word count
+abbrev pub heldWords : ℕ → Insns → List ℕ
+heldWords n s = take (wordCount n) (s .w0 ∷ s .w1 ∷ s .w2 ∷ [])
+
 -- an ADRP of the manual
 pub record IsAdrp (w : ℕ) : Type 0 where
   pub rd : ℕ
@@ -83,10 +89,6 @@ pub record IsAccess (w : ℕ) (stores : Bool) : Type 0 where
   pub is : decode w ≡ instruction (LDST size v opc rt rn imm12)
   pub row : isStore (rowOf size v opc) ≡ stores
 
--- an unallocated word that the rules take as a load (RULES 7.19)
-abbrev pub IsTaken : ℕ → Type 0
-IsTaken w = (allocated w ≡ false) × (takenAsLoad (sizeIn w) (vIn w) (opcIn w) ≡ true)
-
 -- w is what its kind says
 abbrev pub IsWord : Word → ℕ → Type 0
 IsWord Adrp-Page w = IsAdrp w
@@ -97,15 +99,14 @@ IsWord Ldr-GotPageOff w = IsAccess w false
 IsWord Ldr w = IsAccess w false
 IsWord Str w = IsAccess w true
 
--- w is what may stand there instead (RULES 8.4): the ADD that a GOT slot's load was relaxed to, a store for a last load, and for a load
--- that is not a GOT slot's an unallocated word that is taken as one
+-- w is what may stand there instead (RULES 8.4): the ADD that a GOT slot's load was relaxed to, and a store for a last load
 abbrev pub IsInstead : Word → ℕ → Type 0
 IsInstead Adrp-Page w = ⊥
 IsInstead Adrp-GotPage w = ⊥
 IsInstead Add-PageOff w = ⊥
-IsInstead Ldr-PageOff w = IsTaken w
+IsInstead Ldr-PageOff w = ⊥
 IsInstead Ldr-GotPageOff w = IsAdd w
-IsInstead Ldr w = IsAccess w true ⊎ IsTaken w
+IsInstead Ldr w = IsAccess w true
 IsInstead Str w = ⊥
 
 -- words are what a kind says, or what may stand there instead

@@ -1,20 +1,20 @@
 -- What holds of every decoded word, for those who make other words of it.
 use mathlib.Core.Path.{_≡_, refl, subst}
-use mathlib.Core.Bool.{Bool, true, _&&_}
+use mathlib.Core.Bool.{Bool, true, _&&_, _||_, not}
 use Prim.Native.Nat.{ℕ, _*_, _^_, _≤_, _<_}
 use native.Mathlib.Omega.{arith}
 use borrow.Author.Tests.{ltb-true, leb-true}
 use lib.Dec.{eqb, ltb, leb, lit<}
 use Rattle.util.specs.Choice.{choose}
-use Rattle.util.specs.Bits.{field}
 use Rattle.util.specs.Diagram.{matches}
-use Rattle.util.proofs.Choice.{chosen, both}
+use Rattle.util.proofs.Choice.{split, chosen, both}
 use Rattle.util.proofs.Below.{every}
 use Rattle.arm64_insn.specs.Encoding.{adrp, add, loadStore}
-use Rattle.arm64_insn.specs.LoadStoreTable.{rowOf}
+use Rattle.arm64_insn.specs.LoadStoreTable.{rowOf, movedBy, moves}
 use Rattle.arm64_insn.specs.Adrp.{adrpOf}
 use Rattle.arm64_insn.specs.Add.{addOf}
-use Rattle.arm64_insn.specs.LoadStore.{accessOf, loadStoreWith, loadStoreOf}
+use Rattle.arm64_insn.specs.Manual.{rdIn, rnIn, imm12In, sizeIn, vIn, opcIn, rowIn}
+use Rattle.arm64_insn.specs.LoadStore.{accessOf, loadStoreFrom, loadStoreOf}
 use Rattle.arm64_insn.specs.Literal.{literalOpc, literalV}
 use Rattle.arm64_insn.specs.declared.adrp.Adrp as A
 use Rattle.arm64_insn.specs.declared.adrp.AdrpWord.{AdrpWord}
@@ -22,12 +22,11 @@ use Rattle.arm64_insn.specs.declared.adrp.AdrpWord.the-variants as AdrpW
 use Rattle.arm64_insn.specs.declared.add.Add as D
 use Rattle.arm64_insn.specs.declared.add.AddWord.{AddWord}
 use Rattle.arm64_insn.specs.declared.add.AddWord.the-variants as AddWord
-use Rattle.arm64_insn.specs.declared.ldst.Moved.{Moved}
-use Rattle.arm64_insn.specs.declared.ldst.Moved.the-variants.{Of, Neither}
+use Rattle.arm64_insn.specs.declared.ldst.Moved.the-variants.{Of}
 use Rattle.arm64_insn.specs.declared.ldst.LoadStore as L
 use Rattle.arm64_insn.specs.declared.ldst.LoadStoreWord.{LoadStoreWord}
 use Rattle.arm64_insn.specs.declared.ldst.LoadStoreWord.the-variants as LoadStoreWord
-use Rattle.arm64_insn.proofs.Cells.{each-cell}
+use Rattle.arm64_insn.proofs.Cells.{each-cell, access-row}
 
 -- an ADRP names a register, and its immediate has 21 bits
 pub record DecodedAdrp (a : A.Adrp) : Type 0 where
@@ -60,25 +59,20 @@ decoded-add x a e =
     subst HoldsAdd e
     (chosen HoldsAdd (matches add x) _ AddWord.Other (record { register = omega arith; source = omega arith; immediate = omega arith }) tt)
 
--- an access moves 1 to 16 bytes
-abbrev Small : Moved → Type 0
-Small (Of n s) = (0 < n) × (n ≤ 16)
-Small Neither = Unit {0}
-
-abbrev small : Moved → Bool
-small (Of n s) = ltb 0 n && leb n 16
-small Neither = true
-
-small-is : (a : Moved) → small a ≡ true → Small a
-small-is (Of n s) e = let h = both (ltb 0 n) (leb n 16) e in (ltb-true 0 n (h .0), leb-true n 16 (h .1))
-small-is Neither e = tt
-
-access-small : (size v opc : ℕ) → size < 4 → v < 2 → opc < 4 → Small (accessOf size v opc)
-unfolding accessOf rowOf choose every
-access-small size v opc hs hv ho = small-is (accessOf size v opc) (each-cell (λ s v o. small (accessOf s v o)) refl size v opc hs hv ho)
+-- a row that moves moves 1 to 16 bytes
+row-small : (size v opc : ℕ) → size < 4 → v < 2 → opc < 4 → moves (rowOf size v opc) ≡ true
+    → (0 < movedBy (rowOf size v opc)) × (movedBy (rowOf size v opc) ≤ 16)
+unfolding rowOf choose every
+row-small size v opc hs hv ho m =
+    let u = each-cell (λ s v o. not (moves (rowOf s v o)) || (ltb 0 (movedBy (rowOf s v o)) && leb (movedBy (rowOf s v o)) 16)) refl size v opc hs hv ho in
+    let h = both (ltb 0 (movedBy (rowOf size v opc))) (leb (movedBy (rowOf size v opc)) 16) (rw m at u) in
+    (ltb-true 0 (movedBy (rowOf size v opc)) (h .0), leb-true (movedBy (rowOf size v opc)) 16 (h .1))
 
 pub access-le : (size v opc n : ℕ) (s : Bool) → accessOf size v opc ≡ Of n s → size < 4 → v < 2 → opc < 4 → n ≤ 16
-access-le size v opc n s e hs hv ho = (subst Small e (access-small size v opc hs hv ho)) .1
+unfolding accessOf
+access-le size v opc n s e hs hv ho =
+    let a = access-row (rowOf size v opc) n s e in
+    omega (arith, a .1, row-small size v opc hs hv ho (a .0) .1)
 
 -- a load or store names registers, moves 1 to 16 bytes, and has a whole number of them below 4,096 as its offset
 pub record DecodedLoadStore (x : ℕ) (l : L.LoadStore) : Type 0 where
@@ -95,28 +89,24 @@ abbrev Holds : ℕ → LoadStoreWord → Type 0
 Holds x (LoadStoreWord.LoadStore l) = DecodedLoadStore x l
 Holds x LoadStoreWord.Other = Unit {0}
 
-with-access : (x : ℕ) (a : Moved) → Small a → Holds x (loadStoreWith x a)
-with-access x (Of n s) h =
-    record {
-      word = refl;
-      register = omega arith;
-      base-register = omega arith;
-      some = h .0;
-      most = h .1;
-      imm = field x 10 12;
-      room = omega arith;
-      scaled = refl;
-    }
-with-access x Neither h = tt
-
 pub decoded-load-store : (x : ℕ) (l : L.LoadStore) → loadStoreOf x ≡ LoadStoreWord.LoadStore l → DecodedLoadStore x l
 unfolding loadStoreOf
 decoded-load-store x l e =
-    subst (Holds x) e
-    (chosen (Holds x) (matches loadStore x) _ LoadStoreWord.Other
-    (with-access x (accessOf (field x 30 2) (field x 26 1) (field x 22 2))
-    (access-small (field x 30 2) (field x 26 1) (field x 22 2) (omega arith) (omega arith) (omega arith)))
-    tt)
+    subst (Holds x) e (chosen (Holds x) (matches loadStore x) _ LoadStoreWord.Other (split (Holds x) (moves (rowIn x)) _ LoadStoreWord.Other held (λ _. tt)) tt)
+  where
+    held : moves (rowIn x) ≡ true → DecodedLoadStore x (loadStoreFrom x (vIn x) (rdIn x) (rnIn x) (imm12In x) (rowIn x))
+    held m =
+        let h = row-small (sizeIn x) (vIn x) (opcIn x) (omega arith) (omega arith) (omega arith) m in
+        record {
+          word = refl;
+          register = omega arith;
+          base-register = omega arith;
+          some = h .0;
+          most = h .1;
+          imm = imm12In x;
+          room = omega arith;
+          scaled = refl;
+        }
 
 -- opc of a literal load has two bits, V one
 pub literal-opc-lt : (size : ℕ) (v sw : Bool) → literalOpc size v sw < 4

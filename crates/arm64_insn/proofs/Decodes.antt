@@ -1,27 +1,28 @@
--- The decoders (RULES 1.6, 7.16 to 7.19): what each decoder and each test of a word answers, against the manual's instruction of the word. A diagram that
+-- The decoders (RULES 1.6, 7.16 to 7.20): what each decoder and each test of a word answers, against the manual's instruction of the word. A diagram that
 -- asks more than a class's says which fields it fixes besides; the rest is the class's.
 use mathlib.Core.Path.{_≡_, refl, sym, ap, _∙_}
 use mathlib.Core.Bool.{Bool, true, false, _&&_, _||_, not, false≢true}
 use mathlib.Core.List.{[], _∷_}
-use Prim.Native.Nat.{ℕ, _+_, _-_, _*_, _/_, _%_, _^_, _<_, _≤_}
+use Prim.Native.Nat.{ℕ, _-_, _/_, _%_, _^_, _<_, _≤_}
 use native.Mathlib.Omega.{arith}
-use borrow.Author.Tests.{not-true, lt-ltb, eqb-true}
+use borrow.Author.Tests.{lt-ltb, eqb-true}
 use lib.Dec.{eqb, ltb, lit<, lit≤}
 use lib.Pow.{shr-shr}
 use lib.Pow as Pow
 use Rattle.util.specs.Choice.{choose}
 use Rattle.util.specs.Bits.{field}
 use Rattle.util.specs.Diagram.{matches, fill}
-use Rattle.util.proofs.Choice.{choose-true, choose-false, choose-first, both, agree, agree-is}
+use Rattle.util.proofs.Choice.{choose-true, choose-false, choose-first}
 use Rattle.util.proofs.Below.{every}
 use Rattle.util.proofs.Diagram.{finer, fixed-field, matches-fill, matches-fields}
 use Rattle.arm64_insn.specs.Encoding.{adrp, add, addUnshifted, addImmediate, loadStore, ldrImmediate}
-use Rattle.arm64_insn.specs.LoadStoreTable.{Row, load, store, prefetch, unallocated, rowOf, movedBy, moves, isAllocated}
-use Rattle.arm64_insn.specs.Manual.{ADRP, ADD, LDST, instruction, none, loadStoreForm, decode, allocated}
+use Rattle.arm64_insn.specs.LoadStoreTable.{Row, load, store, prefetch, unallocated, rowOf, movedBy, moves}
+use Rattle.arm64_insn.specs.Manual as M
+use Rattle.arm64_insn.specs.Manual.{Insn, ADRP, ADD, LDST, instruction, loadStoreForm, decode, allocated}
 use Rattle.arm64_insn.specs.Manual.{rdIn, rnIn, imm12In, sfIn, shIn, sizeIn, vIn, opcIn, rowIn}
 use Rattle.arm64_insn.specs.Adrp.{adrpOf}
 use Rattle.arm64_insn.specs.Add.{addOf}
-use Rattle.arm64_insn.specs.LoadStore.{accessIn, takenAsLoad, accessOf, loadStoreWith, loadStoreOf, isLdrsw, loadStoreFrom, takenWord, takenIn}
+use Rattle.arm64_insn.specs.LoadStore.{loadStoreFrom, loadStoreBy, loadStoreOf, loadStoreIn}
 use Rattle.arm64_insn.specs.Fix.{scaleOf, quad}
 use Rattle.arm64_insn.specs.declared.adrp.Adrp as A
 use Rattle.arm64_insn.specs.declared.adrp.AdrpWord.{AdrpWord}
@@ -29,12 +30,11 @@ use Rattle.arm64_insn.specs.declared.adrp.AdrpWord.the-variants as AdrpW
 use Rattle.arm64_insn.specs.declared.add.Add as D
 use Rattle.arm64_insn.specs.declared.add.AddWord.{AddWord}
 use Rattle.arm64_insn.specs.declared.add.AddWord.the-variants as AddWord
-use Rattle.arm64_insn.specs.declared.ldst.Moved.the-variants.{Of}
 use Rattle.arm64_insn.specs.declared.ldst.LoadStore as L
 use Rattle.arm64_insn.specs.declared.ldst.LoadStoreWord.{LoadStoreWord}
 use Rattle.arm64_insn.specs.declared.ldst.LoadStoreWord.the-variants as LoadStoreWord
 use Rattle.arm64_insn.proofs.Cells.{each-cell}
-use Rattle.arm64_insn.proofs.Manual.{decode-has, has-decode, encode-decode, decode-in-range, moves-allocated}
+use Rattle.arm64_insn.proofs.Manual.{decode-has, has-decode, encode-decode, decode-in-range, decode-allocated}
 use Rattle.arm64_insn.proofs.ManualClasses.{by-class}
 
 -- `Adrp::decode` answers the manual's ADRP, and nothing else
@@ -69,106 +69,85 @@ decodes-add w rd rn imm l e =
     ap (matches add) (sym (encode-decode w (ADD 1 0 rd rn imm) l e)) ∙ matches-fill add (rd ∷ rn ∷ imm ∷ []) refl (r .2, (r .3, (r .4, tt))) in
     choose-true (matches add w) _ _ m ∙ cc (by-class w 2 (lit< tt) (h .matched), e)
 
-module _ (size v opc : ℕ) (hs : size < 4) (hv : v < 2) (ho : opc < 4) where
-  ldrsw-cell : eqb (size * 8 + v * 4 + opc) 0b10_0_10 ≡ isLdrsw (rowOf size v opc)
-  unfolding rowOf every choose
-  ldrsw-cell =
-      agree-is (eqb (size * 8 + v * 4 + opc) 0b10_0_10) (isLdrsw (rowOf size v opc))
-      (each-cell (λ s v o. agree (eqb (s * 8 + v * 4 + o) 0b10_0_10) (isLdrsw (rowOf s v o))) refl size v opc hs hv ho)
-
-  -- the words taken as loads are unallocated, of vector registers, and not LDRSW
-  taken-cell : takenAsLoad size v opc ≡ true → (isAllocated (rowOf size v opc) ≡ false) × (eqb v 1 ≡ true)
-  unfolding rowOf every choose
-  taken-cell t =
-      let u = each-cell (λ s v o. not (takenAsLoad s v o) || (not (isAllocated (rowOf s v o)) && eqb v 1)) refl size v opc hs hv ho in
-      let b = both (not (isAllocated (rowOf size v opc))) (eqb v 1) (rw t at u) in
-      (not-true (isAllocated (rowOf size v opc)) (b .0), b .1)
-
-  -- opc 00 and 01 move, whatever size and V are
-  low-opc-moves : opc ≤ 1 → moves (rowOf size v opc) ≡ true
-  unfolding rowOf every choose
-  low-opc-moves l =
-      rw (lt-ltb opc 2 (omega arith)) at (each-cell (λ s v o. not (ltb o 2) || moves (rowOf s v o)) refl size v opc hs hv ho)
-
--- an unallocated row
-unallocated-is : (r : Row) → isAllocated r ≡ false → r ≡ unallocated
-unallocated-is (load m g n x) e = absurd (false≢true (sym e))
-unallocated-is (store m g n) e = absurd (false≢true (sym e))
-unallocated-is (prefetch m) e = absurd (false≢true (sym e))
-unallocated-is unallocated e = refl
+-- opc 00 and 01 move, whatever size and V are
+low-opc-moves : (size v opc : ℕ) → size < 4 → v < 2 → opc < 4 → opc ≤ 1 → moves (rowOf size v opc) ≡ true
+unfolding rowOf every choose
+low-opc-moves size v opc hs hv ho l =
+    rw (lt-ltb opc 2 (omega arith)) at (each-cell (λ s v o. not (ltb o 2) || moves (rowOf s v o)) refl size v opc hs hv ho)
 
 module _ (w : ℕ) where
-  in-class : matches loadStore w ≡ true → loadStoreOf w ≡ loadStoreWith w (accessOf (sizeIn w) (vIn w) (opcIn w))
+  -- the instruction of a row, as a load or store
+  of-row : (r : Row) → rowIn w ≡ r → loadStoreIn w (loadStoreForm r w) ≡ loadStoreBy r w
+  unfolding choose
+  of-row (load m g n x) e = ap (λ (r : Row). LoadStoreWord.LoadStore (loadStoreFrom w (vIn w) (rdIn w) (rnIn w) (imm12In w) r)) e
+  of-row (store m g n) e = ap (λ (r : Row). LoadStoreWord.LoadStore (loadStoreFrom w (vIn w) (rdIn w) (rnIn w) (imm12In w) r)) e
+  of-row (prefetch m) e = refl
+  of-row unallocated e = refl
+
+  -- an instruction of another class is none
+  of-other : matches loadStore w ≡ false → (d : M.Decoded) → decode w ≡ d → loadStoreIn w d ≡ LoadStoreWord.Other
+  of-other n M.none e = refl
+  of-other n (M.instruction (M.ADR rd imm21)) e = refl
+  of-other n (M.instruction (M.ADRP rd imm21)) e = refl
+  of-other n (M.instruction (M.ADD sf sh rd rn imm12)) e = refl
+  of-other n (M.instruction (M.LDST size v opc rt rn imm12)) e =
+      absurd (false≢true (sym n ∙ decode-has w (M.LDST size v opc rt rn imm12) e .matched))
+  of-other n (M.instruction (M.PRFM rt rn imm12)) e = refl
+  of-other n (M.instruction (M.LDR-literal opc v rt imm19)) e = refl
+  of-other n (M.instruction (M.B imm26)) e = refl
+  of-other n (M.instruction (M.BL imm26)) e = refl
+  of-other n (M.instruction (M.BR rn)) e = refl
+  of-other n (M.instruction M.NOP) e = refl
+  of-other n (M.instruction (M.MOVZ sf hw rd imm16)) e = refl
+
+  -- `LoadStore::decode` is the manual: of every word it answers the load or store that the word's instruction is, and none where it is no such instruction
+  pub load-store-manual : loadStoreOf w ≡ loadStoreIn w (decode w)
   unfolding loadStoreOf
-  in-class m = choose-true (matches loadStore w) _ _ m
-
-  ldrsw-is : (r : Row) → rowIn w ≡ r → eqb (sizeIn w * 8 + vIn w * 4 + opcIn w) 0b10_0_10 ≡ isLdrsw r
-  ldrsw-is r q = ldrsw-cell (sizeIn w) (vIn w) (opcIn w) (omega arith) (omega arith) (omega arith) ∙ ap isLdrsw q
-
-  taken-is : takenAsLoad (sizeIn w) (vIn w) (opcIn w) ≡ true → (isAllocated (rowIn w) ≡ false) × (eqb (vIn w) 1 ≡ true)
-  taken-is = taken-cell (sizeIn w) (vIn w) (opcIn w) (omega arith) (omega arith) (omega arith)
-
-  -- an allocated row is not taken as another
-  not-taken : isAllocated (rowIn w) ≡ true → takenAsLoad (sizeIn w) (vIn w) (opcIn w) ≡ false
-  not-taken a = go (takenAsLoad (sizeIn w) (vIn w) (opcIn w)) refl
+  load-store-manual = go (matches loadStore w) refl
     where
-      go : (t : Bool) → takenAsLoad (sizeIn w) (vIn w) (opcIn w) ≡ t → t ≡ false
-      go true e = absurd (false≢true (sym (taken-is e .0) ∙ a))
-      go false e = refl
+      go : (t : Bool) → matches loadStore w ≡ t → choose (matches loadStore w) (loadStoreBy (rowIn w) w) LoadStoreWord.Other ≡ loadStoreIn w (decode w)
+      go true e = choose-true (matches loadStore w) _ _ e ∙ sym (ap (loadStoreIn w) (by-class w 3 (lit< tt) e) ∙ of-row (rowIn w) refl)
+      go false e = choose-false (matches loadStore w) _ _ e ∙ sym (of-other e (decode w) refl)
 
-  by-row : takenAsLoad (sizeIn w) (vIn w) (opcIn w) ≡ false → accessOf (sizeIn w) (vIn w) (opcIn w) ≡ accessIn (rowIn w)
-  unfolding accessOf
-  by-row t = choose-false (takenAsLoad (sizeIn w) (vIn w) (opcIn w)) _ _ t
-
-  -- what a row that moves gives
-  moved : (r : Row) → rowIn w ≡ r → moves r ≡ true
-      → loadStoreWith w (accessIn r) ≡ LoadStoreWord.LoadStore (loadStoreFrom w (vIn w) (rdIn w) (rnIn w) (imm12In w) r)
-  moved (load m g n x) q h = rw (ldrsw-is (load m g n x) q)
-  moved (store m g n) q h = rw (ldrsw-is (store m g n) q)
-  moved (prefetch m) q h = absurd (false≢true h)
-  moved unallocated q h = absurd (false≢true h)
-
--- `LoadStore::decode` answers every load and store of the manual, field by field
+-- so it answers every load and store of the manual, field by field
 pub decodes-load-store : (w size v opc rt rn imm12 : ℕ) → decode w ≡ instruction (LDST size v opc rt rn imm12)
     → loadStoreOf w ≡ LoadStoreWord.LoadStore (loadStoreFrom w v rt rn imm12 (rowOf size v opc))
-decodes-load-store w size v opc rt rn imm12 e =
-    let h = decode-has w (LDST size v opc rt rn imm12) e in
-    let r : rowIn w ≡ rowOf size v opc = cc (h .fields) in
-    let m : moves (rowIn w) ≡ true = ap moves r ∙ h .in-range .6 in
-    in-class w (h .matched)
-    ∙ ap (loadStoreWith w) (by-row w (not-taken w (moves-allocated (rowIn w) m)))
-    ∙ moved w (rowIn w) refl m
-    ∙ cc (h .fields)
+decodes-load-store w size v opc rt rn imm12 e = load-store-manual w ∙ ap (loadStoreIn w) e
 
--- and, but for the words taken as loads, nothing else: not the prefetch, no unallocated word
-pub load-store-decodes : (w : ℕ) (l : L.LoadStore) → loadStoreOf w ≡ LoadStoreWord.LoadStore l → takenWord w ≡ false
+-- and nothing else: not the prefetch, no unallocated word
+pub load-store-decodes : (w : ℕ) (l : L.LoadStore) → loadStoreOf w ≡ LoadStoreWord.LoadStore l
     → decode w ≡ instruction (LDST (sizeIn w) (vIn w) (opcIn w) (l .reg) (l .base) (imm12In w))
-unfolding loadStoreOf
-load-store-decodes w l e t =
+unfolding loadStoreOf choose
+load-store-decodes w l e =
     let q = choose-first (matches loadStore w) _ LoadStoreWord.Other (LoadStoreWord.LoadStore l) e (λ f. let z : _≡_ {A = ℕ} 0 1 = cc in omega arith) in
-    let u : takenAsLoad (sizeIn w) (vIn w) (opcIn w) ≡ false = rw (q .0) at t in
-    by-class w 3 (lit< tt) (q .0)
-    ∙ go (rowIn w) (sym (ap (loadStoreWith w) (by-row w u)) ∙ q .1)
+    by-class w 3 (lit< tt) (q .0) ∙ go (rowIn w) (q .1)
   where
-    go : (r : Row) → loadStoreWith w (accessIn r) ≡ LoadStoreWord.LoadStore l
+    go : (r : Row) → loadStoreBy r w ≡ LoadStoreWord.LoadStore l
         → loadStoreForm r w ≡ instruction (LDST (sizeIn w) (vIn w) (opcIn w) (l .reg) (l .base) (imm12In w))
     go (load m g n x) f = cc
     go (store m g n) f = cc
     go (prefetch m) f = let z : _≡_ {A = ℕ} 0 1 = cc in absurd (omega arith)
     go unallocated f = let z : _≡_ {A = ℕ} 0 1 = cc in absurd (omega arith)
 
--- the words taken as loads: the manual has none of them
-pub taken-decodes : (w : ℕ) → takenWord w ≡ true → (decode w ≡ none) × (allocated w ≡ false) × (loadStoreOf w ≡ LoadStoreWord.LoadStore (takenIn w))
-unfolding allocated accessOf
-taken-decodes w t =
-    let b = both (matches loadStore w) (takenAsLoad (sizeIn w) (vIn w) (opcIn w)) t in
-    let u = taken-is w (b .1) in
-    let r : rowIn w ≡ unallocated = unallocated-is (rowIn w) (u .0) in
-    let a : accessOf (sizeIn w) (vIn w) (opcIn w) ≡ Of (2 ^ sizeIn w) false = choose-true (takenAsLoad (sizeIn w) (vIn w) (opcIn w)) _ _ (b .1) in (
-      by-class w 3 (lit< tt) (b .0) ∙ ap (λ (r : Row). loadStoreForm r w) r,
-      choose-true (matches loadStore w) _ _ (b .0) ∙ u .0,
-      in-class w (b .0) ∙ ap (loadStoreWith w) a ∙ rw (ldrsw-is w unallocated r, u .1),
-    )
+-- no decoder takes a word that the manual leaves unallocated
+pub unallocated-none : (w : ℕ) → allocated w ≡ false
+    → (adrpOf w ≡ AdrpWord.Other) × (addOf w ≡ AddWord.Other) × (loadStoreOf w ≡ LoadStoreWord.Other)
+unallocated-none w n = (no-adrp (adrpOf w) refl, no-add (addOf w) refl, no-access (loadStoreOf w) refl)
+  where
+    not-instruction : {A : Type 0} (i : Insn) → decode w ≡ instruction i → A
+    not-instruction i e = absurd (false≢true (sym n ∙ decode-allocated w i e))
+
+    no-adrp : (x : AdrpWord) → adrpOf w ≡ x → x ≡ AdrpWord.Other
+    no-adrp AdrpWord.Other e = refl
+    no-adrp (AdrpWord.Adrp a) e = not-instruction _ (adrp-decodes w a e)
+
+    no-add : (x : AddWord) → addOf w ≡ x → x ≡ AddWord.Other
+    no-add AddWord.Other e = refl
+    no-add (AddWord.Add d) e = not-instruction _ (add-decodes w d e)
+
+    no-access : (x : LoadStoreWord) → loadStoreOf w ≡ x → x ≡ LoadStoreWord.Other
+    no-access LoadStoreWord.Other e = refl
+    no-access (LoadStoreWord.LoadStore l) e = not-instruction _ (load-store-decodes w l e)
 
 -- `is_add_either` holds of the ADDs with an unshifted immediate
 pub add-either-decodes : (w : ℕ) → matches addUnshifted w ≡ true → decode w ≡ instruction (ADD (sfIn w) 0 (rdIn w) (rnIn w) (imm12In w))

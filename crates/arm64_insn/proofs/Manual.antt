@@ -200,7 +200,7 @@ pub decode-in-range : (w : ℕ) (i : Insn) → decode w ≡ instruction i → In
 decode-in-range w i e = decode-has w i e .in-range
 
 -- a row that moves is allocated
-pub moves-allocated : (r : Row) → moves r ≡ true → isAllocated r ≡ true
+moves-allocated : (r : Row) → moves r ≡ true → isAllocated r ≡ true
 moves-allocated (load m g n x) e = refl
 moves-allocated (store m g n) e = refl
 moves-allocated (prefetch m) e = refl

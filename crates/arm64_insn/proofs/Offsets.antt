@@ -1,23 +1,21 @@
 -- What divides pages and offsets: a page is a multiple of 4,096, an access size from 4 up is a multiple of 4. By arithmetic, and one computed test
 -- of the cells of loads and stores.
 use mathlib.Core.Path.{_≡_, refl, subst}
-use mathlib.Core.Bool.{Bool, true, _||_}
+use mathlib.Core.Bool.{true, _||_}
 use Prim.Native.Nat.{ℕ, _+_, _*_, _/_, _%_, _^_, _≤_, _<_}
 use native.Mathlib.Omega.{arith}
 use borrow.Author.Tests.{leb-true, eqb-true, le-ltb}
 use lib.Dec.{eqb, ltb, leb}
 use Rattle.util.specs.Choice.{choose}
-use Rattle.util.specs.Bits.{field}
 use Rattle.util.specs.Diagram.{matches}
 use Rattle.util.proofs.Choice.{chosen, both}
 use Rattle.util.proofs.Below.{every}
 use Rattle.arm64_insn.specs.Encoding.{loadStore}
-use Rattle.arm64_insn.specs.LoadStoreTable.{rowOf}
+use Rattle.arm64_insn.specs.LoadStoreTable.{rowOf, movedBy, moves}
 use Rattle.arm64_insn.specs.Page.{pageOf, adrpPage}
-use Rattle.arm64_insn.specs.LoadStore.{accessOf, loadStoreWith, loadStoreOf}
+use Rattle.arm64_insn.specs.Manual.{sizeIn, vIn, opcIn, rowIn}
+use Rattle.arm64_insn.specs.LoadStore.{loadStoreOf}
 use Rattle.arm64_insn.specs.Literal.{hasLiteralForm}
-use Rattle.arm64_insn.specs.declared.ldst.Moved.{Moved}
-use Rattle.arm64_insn.specs.declared.ldst.Moved.the-variants.{Of, Neither}
 use Rattle.arm64_insn.specs.declared.ldst.LoadStore as L
 use Rattle.arm64_insn.specs.declared.ldst.LoadStoreWord.{LoadStoreWord}
 use Rattle.arm64_insn.specs.declared.ldst.LoadStoreWord.the-variants as LoadStoreWord
@@ -37,27 +35,23 @@ page-lt imm pc = omega arith
 pub page-sum : (imm pc k : ℕ) → k < 4096 → adrpPage imm pc + k < 2 ^ 64
 page-sum imm pc k h = omega (arith, page-whole imm pc, page-lt imm pc)
 
--- whether an access moves less than 4 bytes or a multiple of 4
-abbrev fours : Moved → Bool
-fours (Of n s) = ltb n 4 || eqb (n % 4) 0
-fours Neither = true
-
 Fours : LoadStoreWord → Type 0
 Fours (LoadStoreWord.LoadStore l) = 4 ≤ l .size → l .size % 4 ≡ 0
 Fours LoadStoreWord.Other = Unit {0}
 
-with-access : (x : ℕ) (a : Moved) → fours a ≡ true → Fours (loadStoreWith x a)
-unfolding Fours
-with-access x (Of n s) e = λ h. eqb-true (n % 4) 0 (rw (le-ltb n 4 h) at e)
-with-access x Neither e = tt
+-- a row moves less than 4 bytes or a multiple of 4
+row-fours : (size v opc : ℕ) → size < 4 → v < 2 → opc < 4 → 4 ≤ movedBy (rowOf size v opc) → movedBy (rowOf size v opc) % 4 ≡ 0
+unfolding rowOf choose every
+row-fours size v opc hs hv ho h =
+    let u = each-cell (λ s v o. ltb (movedBy (rowOf s v o)) 4 || eqb (movedBy (rowOf s v o) % 4) 0) refl size v opc hs hv ho in
+    eqb-true (movedBy (rowOf size v opc) % 4) 0 (rw (le-ltb (movedBy (rowOf size v opc)) 4 h) at u)
 
 size-fours : (x : ℕ) (l : L.LoadStore) → loadStoreOf x ≡ LoadStoreWord.LoadStore l → 4 ≤ l .size → l .size % 4 ≡ 0
-unfolding loadStoreOf Fours accessOf rowOf choose every
+unfolding loadStoreOf Fours
 size-fours x l e =
     subst Fours e
     (chosen Fours (matches loadStore x) _ LoadStoreWord.Other
-    (with-access x (accessOf (field x 30 2) (field x 26 1) (field x 22 2))
-    (each-cell (λ s v o. fours (accessOf s v o)) refl (field x 30 2) (field x 26 1) (field x 22 2) (omega arith) (omega arith) (omega arith)))
+    (chosen Fours (moves (rowIn x)) _ LoadStoreWord.Other (row-fours (sizeIn x) (vIn x) (opcIn x) (omega arith) (omega arith) (omega arith)) tt)
     tt)
 
 -- the offset of a load with a literal form is a multiple of 4

@@ -8,7 +8,7 @@ use Rattle.arm64_insn.specs.LoadStoreTable.{rowOf}
 use Rattle.arm64_insn.specs.Page.{pageOf, adrpPage}
 use Rattle.arm64_insn.specs.Reach.{within1mb}
 use Rattle.arm64_insn.specs.Adrp.{adrpOf, adrWord}
-use Rattle.arm64_insn.specs.LoadStore.{accessOf, loadStoreOf}
+use Rattle.arm64_insn.specs.LoadStore.{loadStoreOf}
 use Rattle.arm64_insn.specs.Literal.{literalOpc, literalV, literalWord}
 use Rattle.arm64_insn.specs.Branch.{branchWord}
 use Rattle.arm64_insn.specs.Fix.{scaleOf, offsetWith, relaxedWord}
@@ -39,7 +39,7 @@ piece2 = refl
 
 -- LDR x1 literal 0x1010 from 0x1004
 pub piece3 : literalMade (loadStoreOf 0xf9400001) 0x1010 0x1004 ≡ 0x58000061
-unfolding loadStoreOf accessOf rowOf literalWord literalOpc literalV choose
+unfolding loadStoreOf rowOf literalWord literalOpc literalV choose
 piece3 = refl
 
 -- b0000000 at 0x1234 means 0x2000

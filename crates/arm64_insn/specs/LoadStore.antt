@@ -1,52 +1,26 @@
--- Load or store register (unsigned immediate), taken apart by the manual's table (RULES 7.18), with what RULES 7.19 takes as loads besides.
-use Prim.Native.Nat.{ℕ, _+_, _*_, _^_}
-use mathlib.Core.Bool.{Bool, true, false, _&&_, _||_}
-use lib.Dec.{eqb, leb}
+-- Load or store register (unsigned immediate), taken apart by the manual's table (RULES 7.18 to 7.20).
+use Prim.Native.Nat.{ℕ, _*_}
+use mathlib.Core.Bool.{Bool, false}
+use lib.Dec.{eqb}
 use Rattle.util.specs.Choice.{choose}
 use Rattle.util.specs.Diagram.{matches}
 use Rattle.arm64_insn.specs.Encoding.{loadStore}
-use Rattle.arm64_insn.specs.LoadStoreTable.{Row, load, store, prefetch, unallocated, zeros, sign32, sign64, rowOf, movedBy, isStore}
-use Rattle.arm64_insn.specs.Manual.{rdIn, rnIn, imm12In, sizeIn, vIn, opcIn}
+use Rattle.arm64_insn.specs.LoadStoreTable.{Row, load, store, prefetch, unallocated, zeros, sign32, sign64, rowOf, movedBy, moves, isStore}
+use Rattle.arm64_insn.specs.Manual as M
+use Rattle.arm64_insn.specs.Manual.{rdIn, rnIn, imm12In, vIn, rowIn}
 use Rattle.arm64_insn.specs.declared.ldst.Moved.{Moved}
 use Rattle.arm64_insn.specs.declared.ldst.Moved.the-variants.{Of, Neither}
 use Rattle.arm64_insn.specs.declared.ldst.LoadStore as L
 use Rattle.arm64_insn.specs.declared.ldst.LoadStoreWord.{LoadStoreWord}
 use Rattle.arm64_insn.specs.declared.ldst.LoadStoreWord.the-variants.{LoadStore, Other}
 
--- what a row moves: nothing, for a prefetch and an unallocated one
+-- what a row moves, and whether it stores that
 abbrev pub accessIn : Row → Moved
-accessIn (load _ _ n _) = Of n false
-accessIn (store _ _ n) = Of n true
-accessIn (prefetch _) = Neither
-accessIn unallocated = Neither
-
--- the unallocated rows that count as loads: vector registers, 2 bytes with opc 1x and 4 bytes with opc 10
-abbrev pub takenAsLoad : ℕ → ℕ → ℕ → Bool
-takenAsLoad size v opc = eqb v 1 && (eqb size 1 && leb 2 opc || eqb size 2 && eqb opc 2)
+accessIn row = choose (moves row) (Of (movedBy row) (isStore row)) Neither
 
 -- what size, V and opc move
 unfoldable pub accessOf : ℕ → ℕ → ℕ → Moved
-accessOf size v opc = choose (takenAsLoad size v opc) (Of (2 ^ size) false) (accessIn (rowOf size v opc))
-
--- the fields of a word whose access is known: Rt, Rn, the bytes that imm12 counts, V, and whether it is LDRSW: size 10, V 0, opc 10
-abbrev pub loadStoreWith : ℕ → Moved → LoadStoreWord
-loadStoreWith x Neither = Other
-loadStoreWith x (Of bytes stores) =
-    LoadStore
-    (record {
-      insn = x;
-      reg = rdIn x;
-      base = rnIn x;
-      offset = imm12In x * bytes;
-      size = bytes;
-      «is_store» = stores;
-      «is_float» = eqb (vIn x) 1;
-      «is_ldrsw» = eqb (sizeIn x * 8 + vIn x * 4 + opcIn x) 0b10_0_10;
-    })
-
--- a word as a load or store
-unfoldable pub loadStoreOf : ℕ → LoadStoreWord
-loadStoreOf x = choose (matches loadStore x) (loadStoreWith x (accessOf (sizeIn x) (vIn x) (opcIn x))) Other
+accessOf size v opc = accessIn (rowOf size v opc)
 
 -- a load of 4 bytes that copies its sign up to bit 63: LDRSW
 abbrev pub isLdrsw : Row → Bool
@@ -71,20 +45,25 @@ loadStoreFrom w v rt rn imm12 row =
       «is_ldrsw» = isLdrsw row;
     }
 
--- the unallocated words that RULES 7.19 takes as loads of 2^size bytes
-abbrev pub takenWord : ℕ → Bool
-takenWord w = matches loadStore w && takenAsLoad (sizeIn w) (vIn w) (opcIn w)
+-- a word of the class by its row: a load or store where the row moves something
+abbrev pub loadStoreBy : Row → ℕ → LoadStoreWord
+loadStoreBy row w = choose (moves row) (LoadStore (loadStoreFrom w (vIn w) (rdIn w) (rnIn w) (imm12In w) row)) Other
 
--- what their fields say
-abbrev pub takenIn : ℕ → L.LoadStore
-takenIn w =
-    record {
-      insn = w;
-      reg = rdIn w;
-      base = rnIn w;
-      offset = imm12In w * 2 ^ sizeIn w;
-      size = 2 ^ sizeIn w;
-      «is_store» = false;
-      «is_float» = true;
-      «is_ldrsw» = false;
-    }
+-- a word as a load or store
+unfoldable pub loadStoreOf : ℕ → LoadStoreWord
+loadStoreOf w = choose (matches loadStore w) (loadStoreBy (rowIn w) w) Other
+
+-- the manual's instruction of a word as a load or store: any but LDST is none
+abbrev pub loadStoreIn : ℕ → M.Decoded → LoadStoreWord
+loadStoreIn w M.none = Other
+loadStoreIn w (M.instruction (M.ADR rd imm21)) = Other
+loadStoreIn w (M.instruction (M.ADRP rd imm21)) = Other
+loadStoreIn w (M.instruction (M.ADD sf sh rd rn imm12)) = Other
+loadStoreIn w (M.instruction (M.LDST size v opc rt rn imm12)) = LoadStore (loadStoreFrom w v rt rn imm12 (rowOf size v opc))
+loadStoreIn w (M.instruction (M.PRFM rt rn imm12)) = Other
+loadStoreIn w (M.instruction (M.LDR-literal opc v rt imm19)) = Other
+loadStoreIn w (M.instruction (M.B imm26)) = Other
+loadStoreIn w (M.instruction (M.BL imm26)) = Other
+loadStoreIn w (M.instruction (M.BR rn)) = Other
+loadStoreIn w (M.instruction M.NOP) = Other
+loadStoreIn w (M.instruction (M.MOVZ sf hw rd imm16)) = Other

@@ -2,7 +2,7 @@
 -- A word that is none of these may be any other instruction; of those nothing is said, but for the unallocated words of the classes in scope.
 use Prim.Native.Nat.{ℕ, zero, suc, _+_, _*_, _/_, _%_, _^_, _<_}
 use mathlib.Core.Path.{_≡_}
-use mathlib.Core.Bool.{Bool, true, _||_}
+use mathlib.Core.Bool.{Bool, true, false, _||_, not}
 use mathlib.Core.List.{List, [], _∷_}
 use lib.Dec.{eqb, ltb}
 use Rattle.util.specs.Choice.{choose}
@@ -190,3 +190,8 @@ allocated w =
     choose (matches loadStore w) (isAllocated (rowIn w))
     (choose (matches loadLiteral w) (isAllocated (literalRowOf (sizeIn w) (vIn w)))
     (choose (matches movz w) (hasHalf (sfIn w) (hwIn w)) true))
+
+-- whether one of some words is not
+abbrev pub anyUnallocated : List ℕ → Bool
+anyUnallocated [] = false
+anyUnallocated (w ∷ ws) = not (allocated w) || anyUnallocated ws

@@ -12,8 +12,8 @@ pub enum Moved {
     Neither,
 }
 
-// What the size, V and opc fields say. A vector register's 16-byte access takes the encodings of the sign-extending byte loads.
-// With size 11 and opc 1x there are PRFM (V 0, opc 10) and three unallocated encodings.
+// What the size, V and opc fields say. With opc 1x a vector register's 16-byte access takes the encodings of the sign-extending byte loads, and
+// no other size of a vector register is allocated. Of general registers size 11 has PRFM there (opc 10), which moves nothing.
 fn access_of(size: u32, v: u32, opc: u32) -> Moved
     requires { ⌜ (size < 4) × (v < 2) × (opc < 4) ⌝ }
     ensures { λ r. ⌜ r ≡ accessOf size v opc ⌝ }
@@ -25,11 +25,11 @@ fn access_of(size: u32, v: u32, opc: u32) -> Moved
     if opc == 1 {
         return Moved::Of(bytes, false);
     }
-    if size == 0 {
-        if v == 1 {
+    if v == 1 {
+        if size == 0 {
             return Moved::Of(16, opc == 2);
         }
-        return Moved::Of(bytes, false);
+        return Moved::Neither;
     }
     if size == 3 {
         return Moved::Neither;

@@ -1,96 +1,77 @@
--- The class of a word against the manual's instruction of it; where the two part, and where LDRSW stands, by one computed test each.
+-- The class of a word against the manual's instruction of it, by what the decoder says of that; where LDRSW stands, and where the Rust parts from it, by one
+-- computed test each.
 use mathlib.Core.Path.{_≡_, refl, sym, ap, _∙_}
-use mathlib.Core.Bool.{Bool, true, false, _&&_, _||_, not, and-false, false≢true}
+use mathlib.Core.Bool.{Bool, true, false, _&&_, _||_, not, and-false}
 use Prim.Native.Nat.{ℕ, _/_, _^_, _<_}
 use native.Mathlib.Omega.{arith}
-use lib.Dec.{eqb, lit<}
+use lib.Dec.{eqb}
 use Rattle.util.specs.Choice.{choose}
 use Rattle.util.specs.Diagram.{matches}
 use Rattle.util.proofs.Below.{every, every-at}
-use Rattle.util.proofs.Choice.{choose-true, choose-false, agree, agree-is}
+use Rattle.util.proofs.Choice.{choose-true, agree, agree-is}
 use Rattle.arm64_insn.specs.Encoding.{loadStore, loadStoreHigh}
-use Rattle.arm64_insn.specs.LoadStoreTable.{Row, load, store, prefetch, unallocated, rowOf, isAllocated}
-use Rattle.arm64_insn.specs.LoadStore.{takenAsLoad, loadStoreOf, takenWord}
+use Rattle.arm64_insn.specs.LoadStoreTable.{rowOf, isAllocated, moves}
+use Rattle.arm64_insn.specs.LoadStore.{loadStoreOf, loadStoreIn}
 use Rattle.arm64_insn.specs.Manual as M
-use Rattle.arm64_insn.specs.Manual.{decode, allocated, loadStoreForm, sizeIn, vIn, opcIn, rowIn}
-use Rattle.arm64_insn.proofs.Cells.{each-cell}
+use Rattle.arm64_insn.specs.Manual.{decode, allocated}
+use Rattle.arm64_insn.proofs.Decodes.{load-store-manual}
 use Rattle.arm64_insn.proofs.Manual.{decode-has}
-use Rattle.arm64_insn.proofs.ManualClasses.{by-class}
 use Rattle.arm64_ldst_class.specs.Entry.{classSeen}
-use Rattle.arm64_ldst_class.specs.Row.{classOfRow, classOfInsn, sizeAt, vAt, opcAt, classOfFields, classOfIndex, isAccess, marksLdrsw}
-use Rattle.arm64_ldst_class.proofs.High.{class-fields, class-high, taken-high}
-use Rattle.arm64_ldst_class.specs.declared.LoadStoreClass.{LoadStoreClass}
-use Rattle.arm64_ldst_class.specs.declared.LoadStoreClass.the-variants.{Neither}
+use Rattle.arm64_ldst_class.specs.Row.{classOfInsn, sizeAt, vAt, opcAt, rowAt, classOfIndex, isAccess, marksLdrsw}
+use Rattle.arm64_ldst_class.specs.Rust.{fieldsInRust, classInRust, onlyInRust}
+use Rattle.arm64_ldst_class.proofs.Back.{same, same-is}
+use Rattle.arm64_ldst_class.proofs.High.{cell, match-high, row-high, class-high}
 
 module _ (w : ℕ) where
-  -- what the instruction of a row moves
-  of-form : (r : Row) → rowIn w ≡ r → classOfInsn (loadStoreForm r w) ≡ classOfRow r
-  of-form (load m g n x) e = ap classOfRow e
-  of-form (store m g n) e = ap classOfRow e
-  of-form (prefetch m) e = refl
-  of-form unallocated e = refl
+  of-insn : (d : M.Decoded) → decode w ≡ d → classSeen (loadStoreIn w d) ≡ classOfInsn d
+  of-insn M.none e = refl
+  of-insn (M.instruction (M.ADR rd imm21)) e = refl
+  of-insn (M.instruction (M.ADRP rd imm21)) e = refl
+  of-insn (M.instruction (M.ADD sf sh rd rn imm12)) e = refl
+  of-insn (M.instruction (M.LDST size v opc rt rn imm12)) e =
+      let r = decode-has w (M.LDST size v opc rt rn imm12) e .in-range in
+      sym (choose-true (moves (rowOf size v opc)) _ _ (r .6)) ∙ cell size v opc (r .0) (r .1) (r .2)
+  of-insn (M.instruction (M.PRFM rt rn imm12)) e = refl
+  of-insn (M.instruction (M.LDR-literal opc v rt imm19)) e = refl
+  of-insn (M.instruction (M.B imm26)) e = refl
+  of-insn (M.instruction (M.BL imm26)) e = refl
+  of-insn (M.instruction (M.BR rn)) e = refl
+  of-insn (M.instruction M.NOP) e = refl
+  of-insn (M.instruction (M.MOVZ sf hw rd imm16)) e = refl
 
-  -- an instruction of another class moves nothing
-  of-other : matches loadStore w ≡ false → (d : M.Decoded) → decode w ≡ d → classOfInsn d ≡ Neither
-  of-other n M.none e = refl
-  of-other n (M.instruction (M.ADR rd imm21)) e = refl
-  of-other n (M.instruction (M.ADRP rd imm21)) e = refl
-  of-other n (M.instruction (M.ADD sf sh rd rn imm12)) e = refl
-  of-other n (M.instruction (M.LDST size v opc rt rn imm12)) e =
-      absurd (false≢true (sym n ∙ decode-has w (M.LDST size v opc rt rn imm12) e .matched))
-  of-other n (M.instruction (M.PRFM rt rn imm12)) e = refl
-  of-other n (M.instruction (M.LDR-literal opc v rt imm19)) e = refl
-  of-other n (M.instruction (M.B imm26)) e = refl
-  of-other n (M.instruction (M.BL imm26)) e = refl
-  of-other n (M.instruction (M.BR rn)) e = refl
-  of-other n (M.instruction M.NOP) e = refl
-  of-other n (M.instruction (M.MOVZ sf hw rd imm16)) e = refl
-
-  -- but for the words taken as loads, the class is what the manual's instruction moves
-  pub class-manual : takenWord w ≡ false → classSeen (loadStoreOf w) ≡ classOfInsn (decode w)
-  class-manual t = class-fields w ∙ go (matches loadStore w) refl
-    where
-      go : (m : Bool) → matches loadStore w ≡ m → choose (matches loadStore w) (classOfFields (sizeIn w) (vIn w) (opcIn w)) Neither ≡ classOfInsn (decode w)
-      go true e =
-          choose-true (matches loadStore w) _ _ e
-          ∙ choose-false (takenAsLoad (sizeIn w) (vIn w) (opcIn w)) _ _ (rw e at t)
-          ∙ sym (ap classOfInsn (by-class w 3 (lit< tt) e) ∙ of-form (rowIn w) refl)
-      go false e = choose-false (matches loadStore w) _ _ e ∙ sym (of-other e (decode w) refl)
-
-  cell : (not (isAllocated (rowIn w)) && isAccess (classOfFields (sizeIn w) (vIn w) (opcIn w))) ≡ takenAsLoad (sizeIn w) (vIn w) (opcIn w)
-  unfolding rowOf every choose
-  cell =
-      agree-is _ _
-      (each-cell (λ s v o. agree (not (isAllocated (rowOf s v o)) && isAccess (classOfFields s v o)) (takenAsLoad s v o)) refl
-      (sizeIn w) (vIn w) (opcIn w) (omega arith) (omega arith) (omega arith))
-
-  -- those are the unallocated words that have a class
-  pub taken-class : (not (allocated w) && isAccess (classSeen (loadStoreOf w))) ≡ takenWord w
-  unfolding allocated choose
-  taken-class = ap (λ (c : LoadStoreClass). not (allocated w) && isAccess c) (class-fields w) ∙ go (matches loadStore w) refl
-    where
-      go : (m : Bool) → matches loadStore w ≡ m
-          → (not (allocated w) && isAccess (choose (matches loadStore w) (classOfFields (sizeIn w) (vIn w) (opcIn w)) Neither)) ≡ takenWord w
-      go true e = rw e cell
-      go false e =
-          ap (λ (m : Bool). not (allocated w) && isAccess (choose m (classOfFields (sizeIn w) (vIn w) (opcIn w)) Neither)) e
-          ∙ and-false (not (allocated w))
-          ∙ rw e
+  -- the class is what the manual's instruction moves
+  pub class-manual : classSeen (loadStoreOf w) ≡ classOfInsn (decode w)
+  class-manual = ap classSeen (load-store-manual w) ∙ of-insn (decode w) refl
 
 module _ (w : ℕ) (l : w < 2 ^ 32) where
-  -- by their index
-  pub taken-at : takenWord w ≡ (eqb (w / 2 ^ 22) 0x1f6 || (eqb (w / 2 ^ 22) 0x1f7 || eqb (w / 2 ^ 22) 0x2f6))
-  unfolding every choose
-  taken-at =
-      taken-high w
-      ∙ agree-is _ _
-      (every-at
-      (λ k. agree (matches loadStoreHigh k && takenAsLoad (sizeAt k) (vAt k) (opcAt k)) (eqb k 0x1f6 || (eqb k 0x1f7 || eqb k 0x2f6)))
-      1024 refl (w / 2 ^ 22) (omega arith))
-
   -- LDRSW is marked at one index
   pub ldrsw-at : marksLdrsw (classSeen (loadStoreOf w)) ≡ eqb (w / 2 ^ 22) 0x2e6
   unfolding every choose classOfIndex rowOf
   ldrsw-at =
       ap marksLdrsw (class-high w)
       ∙ agree-is _ _ (every-at (λ k. agree (marksLdrsw (classOfIndex k)) (eqb k 0x2e6)) 1024 refl (w / 2 ^ 22) (omega arith))
+
+  -- the unallocated words that are loads in the Rust, by their index
+  pub only-in-rust : (not (allocated w) && isAccess (classInRust (w / 2 ^ 22))) ≡ onlyInRust (w / 2 ^ 22)
+  unfolding every choose rowOf allocated classInRust
+  only-in-rust =
+      go (matches loadStoreHigh (w / 2 ^ 22)) refl
+      ∙ agree-is _ _
+      (every-at
+      (λ k. agree (matches loadStoreHigh k && (not (isAllocated (rowAt k)) && isAccess (fieldsInRust (sizeAt k) (vAt k) (opcAt k)))) (onlyInRust k))
+      1024 refl (w / 2 ^ 22) (omega arith))
+    where
+      go : (t : Bool) → matches loadStoreHigh (w / 2 ^ 22) ≡ t
+          → (not (allocated w) && isAccess (classInRust (w / 2 ^ 22)))
+          ≡ (matches loadStoreHigh (w / 2 ^ 22)
+          && (not (isAllocated (rowAt (w / 2 ^ 22))) && isAccess (fieldsInRust (sizeAt (w / 2 ^ 22)) (vAt (w / 2 ^ 22)) (opcAt (w / 2 ^ 22)))))
+      go true e = rw (match-high w, e, row-high w)
+      go false e = rw e (and-false (not (allocated w)))
+
+  -- at every other index the Rust has the manual's class
+  pub as-in-rust : onlyInRust (w / 2 ^ 22) ≡ false → classSeen (loadStoreOf w) ≡ classInRust (w / 2 ^ 22)
+  unfolding every choose rowOf classOfIndex classInRust
+  as-in-rust n =
+      class-high w
+      ∙ same-is _ _
+      (rw n at (every-at (λ k. onlyInRust k || same (classOfIndex k) (classInRust k)) 1024 refl (w / 2 ^ 22) (omega arith)))

@@ -1,12 +1,12 @@
 -- The class by the manual's rows (RULES 7.5, 7.18 to 7.20, 7.32): of a row, of an instruction, and of an index, bits 31 to 22 of a word.
-use Prim.Native.Nat.{ℕ, _^_}
+use Prim.Native.Nat.{ℕ}
 use mathlib.Core.Bool.{Bool, true, false}
 use Rattle.util.specs.Choice.{choose}
 use Rattle.util.specs.Bits.{field}
 use Rattle.util.specs.Diagram.{matches}
 use Rattle.arm64_insn.specs.Encoding.{loadStoreHigh}
 use Rattle.arm64_insn.specs.LoadStoreTable.{Row, load, store, prefetch, unallocated, Registers, general, vector, rowOf}
-use Rattle.arm64_insn.specs.LoadStore.{takenAsLoad, isLdrsw}
+use Rattle.arm64_insn.specs.LoadStore.{isLdrsw}
 use Rattle.arm64_insn.specs.Manual as M
 use Rattle.arm64_ldst_class.specs.declared.LoadStoreClass.{LoadStoreClass}
 use Rattle.arm64_ldst_class.specs.declared.LoadStoreClass.the-variants.{Moves, Neither}
@@ -50,13 +50,13 @@ vAt k = field k 4 1
 abbrev pub opcAt : ℕ → ℕ
 opcAt k = field k 0 2
 
--- what size, V and opc move: a load of a vector register where RULES 7.19 takes them as one, else what their row moves
-abbrev pub classOfFields : ℕ → ℕ → ℕ → LoadStoreClass
-classOfFields size v opc = choose (takenAsLoad size v opc) (Moves (2 ^ size) false true false) (classOfRow (rowOf size v opc))
+-- its row
+abbrev pub rowAt : ℕ → Row
+rowAt k = rowOf (sizeAt k) (vAt k) (opcAt k)
 
 -- the class of an index: of one that has not the fixed fields none
 unfoldable pub classOfIndex : ℕ → LoadStoreClass
-classOfIndex k = choose (matches loadStoreHigh k) (classOfFields (sizeAt k) (vAt k) (opcAt k)) Neither
+classOfIndex k = choose (matches loadStoreHigh k) (classOfRow (rowAt k)) Neither
 
 -- whether a class is that of a load or store
 abbrev pub isAccess : LoadStoreClass → Bool

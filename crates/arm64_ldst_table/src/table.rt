@@ -503,8 +503,8 @@ pub const CLASSES: [u8; 1024] = [
     0, // 1f3 no load or store
     22, // 1f4 STR: store 2 vector
     18, // 1f5 LDR: load 2 vector
-    18, // 1f6 unallocated: load 2 vector
-    18, // 1f7 unallocated: load 2 vector
+    0, // 1f6 unallocated: no load or store
+    0, // 1f7 unallocated: no load or store
     0, // 1f8 no load or store
     0, // 1f9 no load or store
     0, // 1fa no load or store
@@ -759,7 +759,7 @@ pub const CLASSES: [u8; 1024] = [
     0, // 2f3 no load or store
     38, // 2f4 STR: store 4 vector
     34, // 2f5 LDR: load 4 vector
-    34, // 2f6 unallocated: load 4 vector
+    0, // 2f6 unallocated: no load or store
     0, // 2f7 unallocated: no load or store
     0, // 2f8 no load or store
     0, // 2f9 no load or store

@@ -1,4 +1,4 @@
--- An allocated load or store as the decoder of arm64_insn tells it: what it does, its literal form, and its form through another base.
+-- A load or store as the decoder of arm64_insn tells it: what it does, its literal form, and its form through another base.
 -- Carried by what arm64_insn proves of decoded and made words; an access moves a power of two of bytes, at most 16.
 use mathlib.Core.Path.{_≡_, refl, sym, ap, _∙_}
 use mathlib.Core.Bool.{Bool, true, false, not, _&&_, true≢false}
@@ -14,15 +14,15 @@ use Rattle.util.proofs.Below.{every}
 use Rattle.util.proofs.Choice.{both, choose-true}
 use Rattle.arm64_insn.specs.Fix.{scaleOf}
 use Rattle.arm64_insn.specs.Literal.{hasLiteralForm, literalWord, baseWord}
-use Rattle.arm64_insn.specs.LoadStore.{loadStoreOf, takenWord, loadStoreFrom}
+use Rattle.arm64_insn.specs.LoadStore.{loadStoreFrom, loadStoreOf}
 use Rattle.arm64_insn.specs.LoadStoreTable.{Row, load, store, prefetch, unallocated, Mnemonic, general, vector, Widening, rowOf, movedBy, moves, isStore}
-use Rattle.arm64_insn.specs.Manual.{allocated, imm12In, sizeIn, vIn, opcIn, rowIn}
+use Rattle.arm64_insn.specs.Manual.{imm12In, sizeIn, vIn, opcIn, rowIn}
 use Rattle.arm64_insn.specs.ManualTargets.{accessAddress}
 use Rattle.arm64_insn.specs.declared.ldst.LoadStore as L
 use Rattle.arm64_insn.specs.declared.ldst.LoadStoreWord.the-variants as LoadStoreWord
 use Rattle.arm64_insn.proofs.Cells.{each-cell}
 use Rattle.arm64_insn.proofs.Decoded.{decoded-load-store}
-use Rattle.arm64_insn.proofs.Decodes.{decodes-load-store, load-store-decodes, taken-decodes, load-store-scale}
+use Rattle.arm64_insn.proofs.Decodes.{decodes-load-store, load-store-decodes, load-store-scale}
 use Rattle.arm64_insn.proofs.Encodes.{based-made, literal-made, literal-row}
 use Rattle.arm64_insn.proofs.Scale.{scale-le}
 use Rattle.arm64_machine.specs.Machine.{access, literal, action}
@@ -43,14 +43,10 @@ pub record Accessed (w : ℕ) (l : L.LoadStore) : Type 0 where
   pub based : (base off : ℕ) → base < 32 → off < 4096 → action (baseWord l base off) ≡ access (rowIn w) (l .reg) base (off / l .size)
   pub based-address : (u off : ℕ) → off % l .size ≡ 0 → accessAddress (rowIn w) u (off / l .size) ≡ sum u off
 
-not-taken : (w : ℕ) (t : Bool) → takenWord w ≡ t → allocated w ≡ true → t ≡ false
-not-taken w true e h = absurd (true≢false (sym h ∙ taken-decodes w e .1))
-not-taken w false e h = refl
-
-pub accessed : (w : ℕ) {l : L.LoadStore} → loadStoreOf w ≡ LoadStoreWord.LoadStore l → allocated w ≡ true → Accessed w l
+pub accessed : (w : ℕ) {l : L.LoadStore} → loadStoreOf w ≡ LoadStoreWord.LoadStore l → Accessed w l
 unfolding accessAddress
-accessed w {l} e h =
-    let d = load-store-decodes w l e (not-taken w (takenWord w) refl h) in
+accessed w {l} e =
+    let d = load-store-decodes w l e in
     let g : loadStoreFrom w (vIn w) (l .reg) (l .base) (imm12In w) (rowIn w) ≡ l = cc (decodes-load-store w _ _ _ _ _ _ d, e) in
     let k = decoded-load-store w l e in
     let z : l .size ≡ movedBy (rowIn w) = ap (λ (l : L.LoadStore). l .size) (sym g) in

@@ -20,7 +20,7 @@ use Rattle.arm64_machine.proofs.Rewrites.{Chain, of-neither}
 -- all premises (RULES 9.12 to 9.20) give those that are needed
 pub fair : {ws : List Placed} {o : Other} {s : State} → WordPremises ws o s → FairWords ws
 fair p =
-    record { allocated = p .allocated; aligned = p .aligned; no-31-link = p .no-31-link; no-31-added = p .no-31-added; no-store = p .no-store }
+    record { aligned = p .aligned; no-31-link = p .no-31-link; no-31-added = p .no-31-added; no-store = p .no-store }
 
 -- a register number that is not 31
 below-31 : (d : ℕ) → d < 32 → eqb 31 d ≡ false → d < 31

@@ -30,15 +30,14 @@ module _ (t : ℕ → ℕ → Bool) (P : ℕ → ℕ → Type 0) (h : (w u : ℕ
       (each-by _ _ (λ u. h (w .word) (u .word)) ws (b .0), later-by ws (b .1))
 
 -- each premise of FairWords as a test of the list
-pub fair-by : {ws : List Placed} → each (λ w. Manual.allocated (w .word)) ws ≡ true → each (λ w. eqb (w .address % 4) 0) ws ≡ true
+pub fair-by : {ws : List Placed} → each (λ w. eqb (w .address % 4) 0) ws ≡ true
     → next (λ w u. not (links31 w u)) ws ≡ true → each (λ w. not (adds31 (w .word))) ws ≡ true → later (λ w u. not (storesMade w u)) ws ≡ true → FairWords ws
-fair-by {ws} a b c d e =
+fair-by {ws} a b c d =
     record {
-      allocated = each-by _ _ (λ w h. h) ws a;
-      aligned = each-by _ _ (λ w h. eqb-true (w .address % 4) 0 h) ws b;
-      no-31-link = next-by _ _ (λ w u h. not-true (links31 w u) h) ws c;
-      no-31-added = each-by _ _ (λ w h. not-true (adds31 (w .word)) h) ws d;
-      no-store = later-by _ _ (λ w u h. not-true (storesMade w u) h) ws e;
+      aligned = each-by _ _ (λ w h. eqb-true (w .address % 4) 0 h) ws a;
+      no-31-link = next-by _ _ (λ w u h. not-true (links31 w u) h) ws b;
+      no-31-added = each-by _ _ (λ w h. not-true (adds31 (w .word)) h) ws c;
+      no-store = later-by _ _ (λ w u h. not-true (storesMade w u) h) ws d;
     }
 
 -- ---- the premises that FairWords leaves out
@@ -80,16 +79,19 @@ vector-by ws x e d k q =
 -- all of them
 abbrev pub leftOut : List Placed → Other → State → Bool
 leftOut ws o s =
-    each (misses (λ (w : Placed). w .address) ws) ((run o ws s) .log) && (noSumPasses o ws s && each (λ a. noVectorLink ws (action (a .word))) ws)
+    each (λ w. Manual.allocated (w .word)) ws
+    && (each (misses (λ (w : Placed). w .address) ws) ((run o ws s) .log) && (noSumPasses o ws s && each (λ a. noVectorLink ws (action (a .word))) ws))
 
 pub premises-by : (ws : List Placed) (o : Other) (s : State) → FairWords ws → s .log ≡ [] → leftOut ws o s ≡ true → WordPremises ws o s
 premises-by ws o s fair empty e =
     let vectors : Bool = each (λ a. noVectorLink ws (action (a .word))) ws in
-    let b = both (each (misses (λ (w : Placed). w .address) ws) ((run o ws s) .log)) (noSumPasses o ws s && vectors) e in
+    let missed : Bool = each (misses (λ (w : Placed). w .address) ws) ((run o ws s) .log) in
+    let a = both (each (λ w. Manual.allocated (w .word)) ws) (missed && (noSumPasses o ws s && vectors)) e in
+    let b = both missed (noSumPasses o ws s && vectors) (a .1) in
     let c = both (noSumPasses o ws s) vectors (b .1) in
     record {
       empty-at-first = empty;
-      allocated = fair .allocated;
+      allocated = each-by _ _ (λ w h. h) ws (a .0);
       none-data = misses-by (λ (w : Placed). w .address) ws ((run o ws s) .log) (b .0);
       aligned = fair .aligned;
       no-sum-passes = sums-by o ws s (c .0);

@@ -74,7 +74,7 @@ module _ {a b p q : ℕ} {x : A.Adrp} (fair : FairWords (placed a p ∷ placed b
       → to ≡ adrpPage (x .imm) p + l .offset → to < 2 ^ 64 → to % 4 ≡ 0 → within1mb q to ≡ true
       → CloseRun (placed a p ∷ placed b q ∷ []) (placed nopWord p ∷ placed (literalWord l to q) q ∷ [])
   literal-second {l = l} to eb r f e lt four near =
-      let y = accessed b eb (fair .allocated .1 .0) in
+      let y = accessed b eb in
       let z : sum (adrpPage (x .imm) p) (l .offset) ≡ to = omega arith in
       FairLaws.load-literal fair (adrp-does a ea) (based-on b r (y .does)) nop-does (y .literals f to q)
       (y .address _ ∙ z ∙ sym (literal-means to q lt hq near four (fair .aligned .1 .0)))
@@ -94,7 +94,7 @@ module _ {a b c p q r : ℕ} {x : A.Adrp} {d : D.Add} {l : L.LoadStore} (fair : 
     (ea : adrpOf a ≡ AdrpWord.Adrp x) (eb : addOf b ≡ AddWord.Add d) (ec : loadStoreOf c ≡ LoadStoreWord.LoadStore l)
     (first : d .rn ≡ x .rd) (second : l .base ≡ d .rd) where
   third : Accessed c l
-  third = accessed c ec (fair .allocated .1 .1 .0)
+  third = accessed c ec
 
   chain : Chain a b c (x .rd) (x .imm) (d .rd) (d .imm) (l .reg) (imm12In c) (rowIn c)
   chain =
@@ -164,8 +164,8 @@ pub slot-second : {a b c p q r : ℕ} {x : A.Adrp} {g l : L.LoadStore} (slot : �
     → slot ≡ adrpPage (x .imm) p + g .offset → slot < 2 ^ 64 → slot % 4 ≡ 0 → q < 2 ^ 64 → within1mb q slot ≡ true
     → CloseRun (placed a p ∷ placed b q ∷ placed c r ∷ []) (placed nopWord p ∷ placed (literalWord g slot q) q ∷ placed c r ∷ [])
 slot-second {a} {b} {c} {p} {q} {r} {x = x} {g = g} slot fair ea eb ec first second st fl f e lt four hq near =
-    let y = accessed b eb (fair .allocated .1 .0) in
-    let w = accessed c ec (fair .allocated .1 .1 .0) in
+    let y = accessed b eb in
+    let w = accessed c ec in
     let z : sum (adrpPage (x .imm) p) (g .offset) ≡ slot = omega arith in
     general-load y st fl
     (λ row. action b ≡ access row (g .reg) (x .rd) (imm12In b) → action (literalWord g slot q) ≡ literal row (g .reg) (field (diff slot q) 2 19)

@@ -82,7 +82,6 @@ storesMade w u = storesAny (action u) (writesOr false (action w))
 
 -- what the theorems suppose of the words of a hint
 pub record FairWords (ws : List Placed) : Type 0 where
-  pub allocated : Each (λ w. Manual.allocated (w .word) ≡ true) ws
   pub aligned : Each (λ w. w .address % 4 ≡ 0) ws
   pub no-31-link : Next (λ w u. links31 w u ≡ false) ws
   pub no-31-added : Each (λ w. adds31 (w .word) ≡ false) ws

@@ -11,7 +11,8 @@ use Rattle.arch.specs.Table.{recordsFrom, recordsOf, subtractedAt, lengthsOf}
 use Rattle.arch.specs.Target.{sectionTarget, targetOf}
 use Rattle.macho.specs.Refusal.{answerNumber, filledOf}
 use Rattle.arch.specs.Walk.{entries, readFrom, readAll, answerOf}
-use Rattle.arm64_insn.specs.LoadStore.{accessOf, loadStoreOf}
+use Rattle.arm64_insn.specs.LoadStore.{loadStoreOf}
+use Rattle.arm64_insn.specs.LoadStoreTable.{rowOf}
 use Rattle.arm64_reader.specs.Support.{formsOf, supportedOf}
 use Rattle.arm64_reader.specs.Check.{loadedBytes, gotFits, tlvpFits, pointer32, wordCheck, checkReloc}
 use Rattle.arm64_reader.specs.Record.{addendOf, recordOf, stepAt}
@@ -65,8 +66,22 @@ pub turned-down :
     ∷ []
     ≡ 1 ∷ 2 ∷ 3 ∷ 4 ∷ 5 ∷ 6 ∷ 7 ∷ []
 unfolding readRelocs readRecords readAll readFrom choose lengthsOf recordsOf recordsFrom machRelAt le bytes subtractedAt stepAt recordOf checkReloc
-    supportedOf formsOf pointer32 addendOf targeted targetOf sectionTarget wordCheck gotFits tlvpFits loadedBytes loadStoreOf accessOf
+    supportedOf formsOf pointer32 addendOf targeted targetOf sectionTarget wordCheck gotFits tlvpFits loadedBytes loadStoreOf
 turned-down = refl
+
+-- a TLVP page offset on a word
+abbrev tlvp : ℕ → ℕ
+tlvp word = number (bytes 4 word) (record-of 0 0x9c000000) [] slot
+
+-- on the unallocated words 7d800000, 7dc00000 and bd800000; on ldrsh x0, ldrsh w0, ldrsw x0, ldr q0, ldr h0 and ldr s0
+pub tlvp-words :
+    tlvp 0x7d800000 ∷ tlvp 0x7dc00000 ∷ tlvp 0xbd800000
+    ∷ tlvp 0x79800000 ∷ tlvp 0x79c00000 ∷ tlvp 0xb9800000 ∷ tlvp 0x3dc00000 ∷ tlvp 0x7d400000 ∷ tlvp 0xbd400000
+    ∷ []
+    ≡ 6 ∷ 6 ∷ 6 ∷ 0 ∷ 0 ∷ 0 ∷ 0 ∷ 0 ∷ 0 ∷ []
+unfolding readRelocs readRecords readAll readFrom choose lengthsOf recordsOf recordsFrom machRelAt le bytes subtractedAt stepAt recordOf checkReloc
+    supportedOf formsOf pointer32 addendOf targeted targetOf sectionTarget wordCheck gotFits tlvpFits loadedBytes loadStoreOf rowOf
+tlvp-words = refl
 
 -- where two numbers apply, the earlier in the order 1, 2, by record 3 (offset), 4, 5, 3 (word), 6, 3 (pointer), 7 is returned: 9 bytes and no slot;
 -- an offset past the contents and 23 bytes; past the contents, and ADDEND the last record; past the contents, and a form of no type; ADDEND the last record,
@@ -86,7 +101,7 @@ pub first-number :
     ∷ []
     ≡ 1 ∷ 2 ∷ 3 ∷ 3 ∷ 4 ∷ 5 ∷ 5 ∷ 5 ∷ 3 ∷ 7 ∷ []
 unfolding readRelocs readRecords readAll readFrom choose lengthsOf recordsOf recordsFrom machRelAt le bytes subtractedAt stepAt recordOf checkReloc
-    supportedOf formsOf pointer32 addendOf targeted targetOf sectionTarget wordCheck gotFits tlvpFits loadedBytes loadStoreOf accessOf
+    supportedOf formsOf pointer32 addendOf targeted targetOf sectionTarget wordCheck gotFits tlvpFits loadedBytes loadStoreOf
 first-number = refl
 
 -- ---- tables that are not defined, one for each reason
@@ -115,7 +130,7 @@ pub undefined-read :
     ∷ (undefined addend-place, 1)
     ∷ []
 unfolding readRelocs readRecords readAll readFrom choose lengthsOf recordsOf recordsFrom machRelAt le bytes subtractedAt stepAt recordOf checkReloc
-    supportedOf formsOf pointer32 addendOf targeted targetOf sectionTarget wordCheck gotFits tlvpFits loadedBytes loadStoreOf accessOf
+    supportedOf formsOf pointer32 addendOf targeted targetOf sectionTarget wordCheck gotFits tlvpFits loadedBytes loadStoreOf
     meaningFrom turnAlone turnMinus turnPlus isDefined
 undefined-read = refl
 
@@ -155,6 +170,6 @@ pub defined-refused :
     ∷ (relocations (record { ty = 0; place = 0; size = 4; target = symbol 0; addend = 0xffffffff_d503201f; minus = nothing } ∷ []), 5)
     ∷ []
 unfolding readRelocs readRecords readAll readFrom choose lengthsOf recordsOf recordsFrom machRelAt le bytes subtractedAt stepAt recordOf checkReloc
-    supportedOf formsOf pointer32 addendOf targeted targetOf sectionTarget wordCheck gotFits tlvpFits loadedBytes loadStoreOf accessOf
+    supportedOf formsOf pointer32 addendOf targeted targetOf sectionTarget wordCheck gotFits tlvpFits loadedBytes loadStoreOf
     meaningFrom turnAlone turnMinus turnPlus isDefined
 defined-refused = refl

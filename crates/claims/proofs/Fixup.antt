@@ -88,6 +88,7 @@ fixup =
       entry-alone = λ section b entries targets slots f k l. entry l;
       pair-alone = λ section b entries targets slots f k m l l′ u rd imm d. pair l l′ u rd imm d;
       second-alone = Examples.second-lone;
+      unallocated-scaled = Examples.unallocated-scaled;
       both-alone =
           let r = Examples.both-roles in
           (Examples.both-lone .0, Examples.both-lone .1, λ k. none-named (Examples.pairFixed .section) k, r .0, r .1, r .2, r .3);

@@ -8,6 +8,7 @@ use Rattle.arm64_hint_laws.proofs.Hinted.{KeepsThird, Worded}
 use Rattle.arm64_hint_laws.proofs.Occurs as Occurs
 use Rattle.arm64_hint_laws.proofs.RustOrder as RustOrder
 use Rattle.arm64_hint_laws.proofs.AdrFirst as AdrFirst
+use Rattle.arm64_hint_laws.proofs.Unallocated as Unallocated
 use Rattle.arm64_hint_laws.proofs.Written as Written
 use Rattle.arm64_hint_laws.proofs.Written.{Fits, AllFit}
 use Rattle.arm64_hint_words.proofs.hint.Hint.get.Met as Get
@@ -16,6 +17,8 @@ use Rattle.arm64_hint_words.proofs.hint.Hint.addr.Met as Addr
 use Rattle.arm64_hint_words.proofs.hint.Hint.has_page_pair.Met as HasPagePair
 use Rattle.arm64_hint_run.proofs.Answers as Answers
 use Rattle.arm64_hint_run.proofs.Skipped as Skipped
+use Rattle.arm64_hint_run.proofs.Unallocated.{unallocated-leaves}
+use Rattle.arm64_hint_kept.proofs.Unallocated.{unallocated-decline}
 use Rattle.claims.specs.Hints.{Hints}
 
 -- a new word that fits is a word of 32 bits
@@ -34,6 +37,10 @@ hints =
       two-addends = Hinted.two-addends;
       references = Hinted.references;
       exceptions = Occurs.occurs;
+      unallocated-declines = Unallocated.unallocated-declines;
+      unallocated-leaves = unallocated-leaves;
+      unallocated-examples = unallocated-decline;
+      rewritten-allocated = Unallocated.rewritten-allocated;
       words = λ n s r p e. subst (Worded s n) e (Hinted.worded n s r);
       written = Written.written;
       moved = RustOrder.moved;

@@ -26,6 +26,7 @@ use Rattle.arm64_hint_kept.proofs.Folds.{fold-keeps, orders-alike}
 use Rattle.arm64_hint_kept.proofs.Examples as Examples
 use Rattle.arm64_hint_kept.proofs.ExampleRuns as Runs
 use Rattle.arm64_hint_kept.proofs.Needed as Needed
+use Rattle.arm64_hint_kept.proofs.Unallocated.{rewritten-words-allocated}
 use Rattle.claims.specs.Kept.{one, two, Kept}
 
 refuted : (SameRun (one 0x1004 0xf9400401) (one 0x1004 0xd503201f) → ⊥)
@@ -52,6 +53,7 @@ kept =
       own-rising = λ hints. Own.own-rising (objectAt hints) (lateAt hints) (hintCount hints);
       own-only = λ hints l. Own.own-only (objectAt hints) (lateAt hints) (hintCount hints) l;
       run-is = run-is;
+      rewritten-words-allocated = λ entries h image. rewritten-words-allocated h image entries;
       premises-fair = K.literal;
       literally = K.literally;
       of-the-run = K.of-the-run;
@@ -71,7 +73,6 @@ kept =
       falls = (Runs.fall-done, Runs.fall-left, Runs.falling-ends);
       kind-1-last = (Runs.late-order, Runs.late-run .0, Runs.late-run .1, Runs.by-position, Runs.not-kept);
       needs-disjoint = Needed.one-word-twice;
-      needs-allocated = Needed.unallocated;
       needs-aligned = Needed.unaligned;
       needs-no-31-link = Needed.linked-by-31;
       needs-no-31-added = Needed.added-to-31;

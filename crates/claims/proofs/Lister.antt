@@ -1,6 +1,6 @@
 -- The word lister: a list of words by induction over it, digits and sizes by computed tests; the rest by the theorems of lister_text.
 use mathlib.Core.Path.{_≡_, refl, sym, ap, ap₂, _∙_, subst}
-use mathlib.Core.Bool.{Bool, true, false, _||_}
+use mathlib.Core.Bool.{Bool, true, false, _||_, not}
 use mathlib.Core.Logic.{_⊎_, ⊎-elim}
 use mathlib.Core.List.{List, [], _∷_, _++_, append-nil, append-assoc}
 use Prim.Native.Nat.{ℕ, zero, suc, _+_, _*_, _/_, _%_, _^_, _≤_, _<_}
@@ -17,26 +17,26 @@ use Rattle.util.specs.Diagram.{matches}
 use Rattle.util.specs.Word.{le, bytes}
 use Rattle.util.proofs.Below.{every, every-at}
 use Rattle.util.proofs.Bytes.{le-bytes, le-append-left, le-append-right}
-use Rattle.util.proofs.Choice.{chosen}
+use Rattle.util.proofs.Choice.{split, chosen}
 use Rattle.util.proofs.Part.{length-bytes}
 use Rattle.util.proofs.Puts.{put-front}
 use Rattle.macho.specs.Refusal.{answerNumber}
 use Rattle.macho.specs.declared.refusal.Answer.{Answer}
 use Rattle.macho.specs.declared.refusal.Answer.the-variants.{Filled}
 use Rattle.arm64_insn.specs.Encoding.{loadStore}
-use Rattle.arm64_insn.specs.LoadStoreTable.{rowOf}
+use Rattle.arm64_insn.specs.LoadStoreTable.{rowOf, movedBy, moves}
+use Rattle.arm64_insn.specs.Manual.{sizeIn, vIn, opcIn, rowIn}
 use Rattle.arm64_insn.specs.Adrp.{adrpOf}
 use Rattle.arm64_insn.specs.Add.{addOf}
-use Rattle.arm64_insn.specs.LoadStore.{accessOf, loadStoreWith, loadStoreOf}
+use Rattle.arm64_insn.specs.LoadStore.{loadStoreOf}
 use Rattle.arm64_insn.specs.declared.adrp.AdrpWord.{AdrpWord}
 use Rattle.arm64_insn.specs.declared.adrp.AdrpWord.the-variants as AdrpWord
 use Rattle.arm64_insn.specs.declared.add.AddWord.{AddWord}
 use Rattle.arm64_insn.specs.declared.add.AddWord.the-variants as AddWord
-use Rattle.arm64_insn.specs.declared.ldst.Moved.{Moved}
-use Rattle.arm64_insn.specs.declared.ldst.Moved.the-variants.{Of, Neither}
 use Rattle.arm64_insn.specs.declared.ldst.LoadStoreWord.{LoadStoreWord}
 use Rattle.arm64_insn.specs.declared.ldst.LoadStoreWord.the-variants as LoadStoreWord
 use Rattle.arm64_insn.proofs.Cells.{each-cell}
+use Rattle.arm64_insn.proofs.Decodes.{unallocated-none}
 use Rattle.lister_text.specs.Class.{classBy, classOf}
 use Rattle.text.specs.Digits.{ascii, digitOf}
 use Rattle.lister_text.specs.Text.{hexOf, className, lineOf, linesOf, textOf}
@@ -117,10 +117,6 @@ line offset word =
 abbrev five : ℕ → Bool
 five n = eqb n 1 || eqb n 2 || eqb n 4 || eqb n 8 || eqb n 16
 
-abbrev fiveOf : Moved → Bool
-fiveOf (Of n s) = five n
-fiveOf Neither = true
-
 abbrev fiveBy : LoadStoreWord → Bool
 fiveBy (LoadStoreWord.LoadStore l) = five (l .size)
 fiveBy LoadStoreWord.Other = true
@@ -132,20 +128,17 @@ fiveIn Adrp = true
 fiveIn Add = true
 fiveIn Other = true
 
-five-access : (size v opc : ℕ) → size < 4 → v < 2 → opc < 4 → fiveOf (accessOf size v opc) ≡ true
-unfolding accessOf rowOf choose every
-five-access size v opc hs hv ho = each-cell (λ s v o. fiveOf (accessOf s v o)) refl size v opc hs hv ho
-
-five-with : (w : ℕ) (a : Moved) → fiveOf a ≡ true → fiveBy (loadStoreWith w a) ≡ true
-five-with w (Of n s) h = h
-five-with w Neither h = refl
+five-row : (size v opc : ℕ) → size < 4 → v < 2 → opc < 4 → (not (moves (rowOf size v opc)) || five (movedBy (rowOf size v opc))) ≡ true
+unfolding rowOf choose every
+five-row size v opc hs hv ho = each-cell (λ s v o. not (moves (rowOf s v o)) || five (movedBy (rowOf s v o))) refl size v opc hs hv ho
 
 five-word : (w : ℕ) → fiveBy (loadStoreOf w) ≡ true
 unfolding loadStoreOf
 five-word w =
     chosen (λ (l : LoadStoreWord). fiveBy l ≡ true) (matches loadStore w) _ LoadStoreWord.Other
-    (five-with w (accessOf (field w 30 2) (field w 26 1) (field w 22 2))
-    (five-access (field w 30 2) (field w 26 1) (field w 22 2) (omega arith) (omega arith) (omega arith)))
+    (split (λ (l : LoadStoreWord). fiveBy l ≡ true) (moves (rowIn w)) _ LoadStoreWord.Other
+    (λ m. rw m at (five-row (sizeIn w) (vIn w) (opcIn w) (omega arith) (omega arith) (omega arith)))
+    (λ _. refl))
     refl
 
 five-by : (a : AdrpWord) (d : AddWord) (l : LoadStoreWord) → fiveBy l ≡ true → fiveIn (classBy a d l) ≡ true
@@ -195,7 +188,7 @@ call-lists s out count h o n =
     )
 
 pub lister : Lister
-unfolding textOf linesOf lineOf hexOf className classOf adrpOf addOf loadStoreOf accessOf rowOf choose le bytes
+unfolding textOf linesOf lineOf hexOf className classOf adrpOf addOf loadStoreOf rowOf choose le bytes
 lister =
     record {
       lists = lists;
@@ -205,6 +198,7 @@ lister =
       class-load = λ w l e f g h. sym (loads (adrpOf w) (addOf w) (loadStoreOf w) l e f g h);
       class-store = λ w l e f g h. sym (stores (adrpOf w) (addOf w) (loadStoreOf w) l e f g h);
       class-other = λ w e f g. rw (e, f, g);
+      class-unallocated = λ w n. let u = unallocated-none w n in rw (u .0, u .1, u .2);
       names = (refl, refl, refl);
       load-names = (refl, refl, refl, refl, refl);
       store-names = (refl, refl, refl, refl, refl);
@@ -212,6 +206,7 @@ lister =
           ⊎-elim (λ (e : classOf w ≡ Load n). subst (λ (c : Class). fiveIn c ≡ true) e (five-class w))
           (λ (e : classOf w ≡ Store n). subst (λ (c : Class). fiveIn c ≡ true) e (five-class w));
       example = refl;
+      unallocated-example = refl;
       too-long = too-long;
       odd-length = odd-length;
       empty = refl;

@@ -30,7 +30,7 @@ use Rattle.arm64_reader.specs.Support.{formsOf, supportedOf}
 use Rattle.arm64_reader.specs.Check.{pointer32, checkReloc}
 use Rattle.arm64_reader.specs.Record.{addendOf, recordOf, stepAt}
 use Rattle.arm64_reader.specs.Read.{readRecords, readRelocs}
-use Rattle.arm64_reader.proofs.Examples.{turned-down, first-number}
+use Rattle.arm64_reader.proofs.Examples.{turned-down, tlvp-words, first-number}
 use Rattle.arm64_reader.proofs.Lengths as Lengths
 use Rattle.arm64_fixup_entry.specs.Target.{widthOf}
 use Rattle.arm64_fixup_entry.specs.Check.{checkOf}
@@ -192,6 +192,8 @@ numbers =
       number-4 = at 3 r;
       number-5 = (at 4 r, f .3);
       number-6 = at 5 r;
+      number-6-unallocated = (at 0 tlvp-words, at 1 tlvp-words, at 2 tlvp-words);
+      number-6-loads = (at 3 tlvp-words, at 4 tlvp-words, at 5 tlvp-words, at 6 tlvp-words, at 7 tlvp-words, at 8 tlvp-words);
       number-7 = at 6 r;
       number-8 = f .4;
       number-9 = f .5;

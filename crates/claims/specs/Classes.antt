@@ -1,16 +1,17 @@
--- The table of load and store classes (RULES 7.32, 7.33): what an entry holds, that the table is the manual's rows, where the two part, and the file that the
--- generator prints. That the exported call answers the entry of what the decoder sees is `Calls.load-store-class`.
+-- The table of load and store classes (RULES 7.19, 7.32, 7.33): what an entry holds, that the table is the manual's rows, where the Rust parts from it, and the
+-- file that the generator prints. That the exported call answers the entry of what the decoder sees is `Calls.load-store-class`.
 use mathlib.Core.Path.{_≡_}
-use mathlib.Core.Bool.{Bool, false, _&&_, _||_, not}
-use mathlib.Core.List.{List, [], _∷_, _++_}
+use mathlib.Core.Bool.{Bool, false, _&&_, not}
+use mathlib.Core.List.{List, [], _∷_, _++_, map}
 use Prim.Native.Nat.{ℕ, zero, suc, _/_, _^_, _≤_, _<_}
 use lib.Dec.{eqb}
 use Rattle.util.specs.Choice.{choose}
 use Rattle.text.specs.Digits.{ascii}
-use Rattle.arm64_insn.specs.LoadStore.{loadStoreOf, takenWord}
+use Rattle.arm64_insn.specs.LoadStore.{loadStoreOf}
 use Rattle.arm64_insn.specs.Manual.{decode, allocated}
 use Rattle.arm64_ldst_class.specs.Entry.{entryOf, classIn, classSeen}
 use Rattle.arm64_ldst_class.specs.Row.{classOfInsn, classOfIndex, isAccess, marksLdrsw}
+use Rattle.arm64_ldst_class.specs.Rust.{classInRust, onlyInRust}
 use Rattle.arm64_ldst_class.specs.declared.LoadStoreClass.the-variants.{Moves, Neither}
 use Rattle.ldst_table_text.specs.Text.{entryLine}
 use Rattle.arm64_ldst_table.proofs.lookup.Statement as Lookup
@@ -35,8 +36,8 @@ pub record Classes : Type 2 where
   -- every index that is a load or store, with its entry
   pub entries : accessesBelow 1024
       ≡ (0x0e4, 12) ∷ (0x0e5, 8) ∷ (0x0e6, 8) ∷ (0x0e7, 8) ∷ (0x0f4, 14) ∷ (0x0f5, 10) ∷ (0x0f6, 134) ∷ (0x0f7, 130)
-      ∷ (0x1e4, 20) ∷ (0x1e5, 16) ∷ (0x1e6, 16) ∷ (0x1e7, 16) ∷ (0x1f4, 22) ∷ (0x1f5, 18) ∷ (0x1f6, 18) ∷ (0x1f7, 18)
-      ∷ (0x2e4, 36) ∷ (0x2e5, 32) ∷ (0x2e6, 33) ∷ (0x2f4, 38) ∷ (0x2f5, 34) ∷ (0x2f6, 34)
+      ∷ (0x1e4, 20) ∷ (0x1e5, 16) ∷ (0x1e6, 16) ∷ (0x1e7, 16) ∷ (0x1f4, 22) ∷ (0x1f5, 18)
+      ∷ (0x2e4, 36) ∷ (0x2e5, 32) ∷ (0x2e6, 33) ∷ (0x2f4, 38) ∷ (0x2f5, 34)
       ∷ (0x3e4, 68) ∷ (0x3e5, 64) ∷ (0x3f4, 70) ∷ (0x3f5, 66)
       ∷ []
   -- an entry says the whole class, of any number of bytes but 0, and 0 is no load or store
@@ -46,12 +47,14 @@ pub record Classes : Type 2 where
   pub back : (w : ℕ) → classIn (entryOf (classSeen (loadStoreOf w))) ≡ classSeen (loadStoreOf w)
   -- every number is the entry of its class
   pub entry-back : (e : ℕ) → entryOf (classIn e) ≡ e
-  -- but for the words that RULES 7.19 takes as loads, the class is what the manual's instruction moves
-  pub manual : (w : ℕ) → takenWord w ≡ false → classSeen (loadStoreOf w) ≡ classOfInsn (decode w)
-  -- those are the words that the manual leaves unallocated and that have an entry
-  pub taken : (w : ℕ) → (not (allocated w) && isAccess (classSeen (loadStoreOf w))) ≡ takenWord w
-  -- they have three indices
-  pub taken-at : (w : ℕ) → w < 2 ^ 32 → takenWord w ≡ (eqb (w / 2 ^ 22) 0x1f6 || (eqb (w / 2 ^ 22) 0x1f7 || eqb (w / 2 ^ 22) 0x2f6))
+  -- the class is what the manual's instruction moves
+  pub manual : (w : ℕ) → classSeen (loadStoreOf w) ≡ classOfInsn (decode w)
+  -- RULES 7.19: the words that the manual leaves unallocated and that have a class in the Rust have three indices
+  pub only-in-rust : (w : ℕ) → w < 2 ^ 32 → (not (allocated w) && isAccess (classInRust (w / 2 ^ 22))) ≡ onlyInRust (w / 2 ^ 22)
+  -- there these are their entries, loads of 2, 2 and 4 bytes, the last marked as LDRSW
+  pub rust-entries : map (λ k. entryOf (classInRust k)) (0x1f6 ∷ 0x1f7 ∷ 0x2f6 ∷ []) ≡ 18 ∷ 18 ∷ 35 ∷ []
+  -- every other word has the Rust's class
+  pub as-in-rust : (w : ℕ) → w < 2 ^ 32 → onlyInRust (w / 2 ^ 22) ≡ false → classSeen (loadStoreOf w) ≡ classInRust (w / 2 ^ 22)
   -- RULES 7.20: LDRSW is marked at one index, of general registers
   pub ldrsw-at : (w : ℕ) → w < 2 ^ 32 → marksLdrsw (classSeen (loadStoreOf w)) ≡ eqb (w / 2 ^ 22) 0x2e6
   -- RULES 7.33: the generator puts the file of the table
@@ -76,15 +79,15 @@ pub record Classes : Type 2 where
       ++ (ascii "    16, // 1e7 LDRSH: load 2 general\n"
       ++ (ascii "    22, // 1f4 STR: store 2 vector\n"
       ++ (ascii "    18, // 1f5 LDR: load 2 vector\n"
-      ++ (ascii "    18, // 1f6 unallocated: load 2 vector\n"
-      ++ (ascii "    18, // 1f7 unallocated: load 2 vector\n"
+      ++ (ascii "    0, // 1f6 unallocated: no load or store\n"
+      ++ (ascii "    0, // 1f7 unallocated: no load or store\n"
       ++ (ascii "    36, // 2e4 STR: store 4 general\n"
       ++ (ascii "    32, // 2e5 LDR: load 4 general\n"
       ++ (ascii "    33, // 2e6 LDRSW: load 4 general\n"
       ++ (ascii "    0, // 2e7 unallocated: no load or store\n"
       ++ (ascii "    38, // 2f4 STR: store 4 vector\n"
       ++ (ascii "    34, // 2f5 LDR: load 4 vector\n"
-      ++ (ascii "    34, // 2f6 unallocated: load 4 vector\n"
+      ++ (ascii "    0, // 2f6 unallocated: no load or store\n"
       ++ (ascii "    0, // 2f7 unallocated: no load or store\n"
       ++ (ascii "    68, // 3e4 STR: store 8 general\n"
       ++ (ascii "    64, // 3e5 LDR: load 8 general\n"

@@ -35,7 +35,7 @@ use Rattle.arm64_fixup.specs.Footprint.{offsetAt, Touches, Writes, Alone, Lone,
 use Rattle.arm64_fixup.specs.Stub.{stubSize, wordsIn, stubAnswer, stubNumber, thunkCheck}
 use Rattle.hauklivo.specs.Fixup.{numberTo, countTo}
 use Rattle.claims.specs.Lent as Lent
-use Rattle.claims.specs.Lent.{has-address, resolved}
+use Rattle.claims.specs.Lent.{has-address, resolved, fixUp, becomes, misaligned}
 
 -- ---- entry k of a call that was lent section, bases b, entries and targets, and ended with f
 
@@ -255,6 +255,13 @@ pub record Fixup : Type 0 where
       × Offset (lentEntry pairEntries 1) (lentTarget pairTargets 1) 0x5678
       × (decode (wordAt pairEntries pairWords 0) ≡ instruction (ADRP 0 0))
       × (decode (wordAt pairEntries pairWords 1) ≡ instruction (ADD 1 0 0 0 0))
+  -- RULES 7.27: unallocated words that are loads in the Rust alone take a page offset by their size field
+  pub unallocated-scaled : (fixUp 0x7d800000 ARM64-RELOC-PAGEOFF12 0x1236 has-address ≡ becomes 0x7d846c00)
+      × (fixUp 0x7d800000 ARM64-RELOC-PAGEOFF12 0x1235 has-address ≡ misaligned 2 0x7d800000)
+      × (fixUp 0x7dc00000 ARM64-RELOC-PAGEOFF12 0x1236 has-address ≡ becomes 0x7dc46c00)
+      × (fixUp 0x7dc00000 ARM64-RELOC-PAGEOFF12 0x1235 has-address ≡ misaligned 2 0x7dc00000)
+      × (fixUp 0xbd800000 ARM64-RELOC-PAGEOFF12 0x1234 has-address ≡ becomes 0xbd823400)
+      × (fixUp 0xbd800000 ARM64-RELOC-PAGEOFF12 0x1236 has-address ≡ misaligned 4 0xbd800000)
   -- RULES 5.27: a call that returns 0 and counts no report ends with the section that it leaves and names no entry
   pub none-reported : (section : List ℕ) (base tls : ℕ) (entries targets slots : List ℕ) (count : ℕ)
       → numberTo section base tls entries targets slots ≡ 0 → countTo section base tls entries targets slots count ≡ 0

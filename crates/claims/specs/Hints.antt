@@ -12,13 +12,15 @@ use Rattle.macho.specs.Types.{MCLOH-AdrpAdrp, MCLOH-AdrpLdrGotLdr, MCLOH-AdrpLd
 use Rattle.macho.specs.declared.reloc.Reloc.{Reloc}
 use Rattle.macho.specs.declared.hint.HintRecord.{HintRecord}
 use Rattle.macho.specs.declared.refusal.Refusal.the-variants.{Overflow}
+use Rattle.image.specs.Words.{wordsAt}
 use Rattle.image.specs.Steps.{Work, answered, stepOf}
+use Rattle.arm64_insn.specs.Manual.{anyUnallocated}
 use Rattle.arm64_insn.specs.Adrp.{adrWord}
 use Rattle.arm64_insn.specs.Literal.{hasLiteralForm}
 use Rattle.arm64_insn.specs.Reach.{within1mb}
 use Rattle.arm64_insn.specs.declared.add.Add.{Add}
 use Rattle.arm64_insn.specs.declared.ldst.LoadStore.{LoadStore}
-use Rattle.arm64_hint_terms.specs.Kinds.{wordsOf, AreWords, Refers}
+use Rattle.arm64_hint_terms.specs.Kinds.{wordsOf, heldWords, AreWords, Refers}
 use Rattle.arm64_hint_terms.specs.Plans.{adrFirst, adrThird, folded}
 use Rattle.arm64_hint_terms.specs.declared.answer.Insns.{Insns}
 use Rattle.arm64_hint_terms.specs.declared.answer.Plan.{Plan}
@@ -37,10 +39,11 @@ use Rattle.arm64_hint_words.proofs.hint.Hint.has_page_pair.Statement as HasPage
 use Rattle.arm64_hint_places.specs.Hint.{isSkipped}
 use Rattle.arm64_hint_rules.specs.Rule.{outcomeNumber}
 use Rattle.arm64_hint_rules.specs.declared.outcome.HintOutcome.the-variants.{Skipped}
-use Rattle.arm64_hint_work.specs.Step.{addDecision, addOutcome, total, stepsOf}
+use Rattle.arm64_hint_work.specs.Step.{placesOf, addDecision, addOutcome, total, stepsOf}
 use Rattle.arm64_hint_work.specs.declared.tally.Tally.{Tally}
 use Rattle.arm64_hint_run.specs.Run.{runOf}
 use Rattle.arm64_hint_run.specs.declared.run.RunAnswer.the-variants.{Done}
+use Rattle.arm64_hint_kept.specs.Unallocated.{UnallocatedDecline}
 
 -- what is claimed of hints
 pub record Hints : Type 2 where
@@ -64,7 +67,16 @@ pub record Hints : Type 2 where
   pub references : (n : ℕ) (s : Insns) (r : Rels) (p : Plan) → decide n s r ≡ Rewritten p → Refers n r
   -- each exception of the entries occurs: whatever entries refer so, there are words with which the hint is rewritten
   pub exceptions : (n : ℕ) (r : Rels) → (wordsOf n ≡ [] → ⊥) → Refers n r → Occurs n r
-  -- what is rewritten has the kind's words, by the manual's instructions, or what may stand there instead
+  -- RULES 8.34: a hint that holds an unallocated word declines, whatever its kind and entries: it reaches no sum
+  pub unallocated-declines : (n : ℕ) (s : Insns) (r : Rels) → anyUnallocated (heldWords n s) ≡ true → decide n s r ≡ Declined
+  -- in a run it is told by the words that stand at the hint's places at its turn; it leaves the image, and is counted
+  pub unallocated-leaves : (hints entries : List ℕ) (k : ℕ) (w : Work Tally) → anyUnallocated (wordsAt (placesOf (hintOf hints k)) (w .image)) ≡ true
+      → stepOf (stepsOf hints entries) k w ≡ record { image = w .image; tally = addDecision Declined (w .tally) }
+  -- so do hints with each word that the Rust takes as a load, also where a sum would pass 2^64 - 1; the same hints with loads of the manual do not
+  pub unallocated-examples : UnallocatedDecline
+  -- what is rewritten has allocated words
+  pub rewritten-allocated : (n : ℕ) (s : Insns) (r : Rels) (p : Plan) → decide n s r ≡ Rewritten p → anyUnallocated (heldWords n s) ≡ false
+  -- RULES 8.4: it has the kind's words, by the manual's instructions, or what may stand there instead
   pub words : (n : ℕ) (s : Insns) (r : Rels) (p : Plan) → decide n s r ≡ Rewritten p → AreWords (wordsOf n) (s .w0 ∷ s .w1 ∷ s .w2 ∷ [])
   -- RULES 8.12, 8.14: what each rewrite writes at each place, and which kinds may answer nine: the table Written (arm64_hint_laws/specs/Written)
   pub written : (kind : ℕ) (s : Insns) (r : Rels) → Written s kind (decide kind s r)
@@ -73,7 +85,7 @@ pub record Hints : Type 2 where
       → (decide kind s r ≡ folded (f .ls) (f .d .rn) (f .d .imm)) × (inRustOrder kind s r ≡ adrThird s (f .ls) (f .addr))
   -- that ADR is never the ADRP that the fold keeps
   pub moved-word : (kind : ℕ) (s : Insns) (r : Rels) (f : BothFit kind s r) → adrWord (f .ls .base) (f .addr) (s .p0) ≡ s .w0 → ⊥
-  -- no other hint of these two kinds moves: it is decided as in the Rust's order
+  -- no other hint of these two kinds moves by the order: it is decided as in the Rust's
   pub moved-only : (kind : ℕ) (s : Insns) (r : Rels) → (decide kind s r ≡ inRustOrder kind s r) ⊎ BothFit kind s r
   -- a load and a store of ADRP_ADD_LDR and a store of ADRP_ADD_STR that both fit, with the words of both orders
   pub moved-examples : MovedExamples

@@ -8,9 +8,10 @@ use Prim.Native.Nat.{ℕ, _+_, _^_, _≤_, _<_}
 use lib.ListN.{length, getD}
 use Rattle.macho.specs.Hint.{noEntry, wordCount, hintCount, hintOf}
 use Rattle.macho.specs.declared.hint.HintRecord.{HintRecord}
-use Rattle.image.specs.Words.{span}
+use Rattle.image.specs.Words.{span, wordsAt}
 use Rattle.arm64_insn.specs.LoadStoreTable as Table
 use Rattle.arm64_insn.specs.LoadStoreTable.{Row, Mnemonic, general, zeros, sign64}
+use Rattle.arm64_insn.specs.Manual.{allocated}
 use Rattle.arm64_insn.specs.ManualTargets.{literalTarget, accessAddress}
 use Rattle.arm64_insn.specs.Page.{adrpPage}
 use Rattle.arm64_machine.specs.Machine.{load, store, Placed, placed, State, Other, action, adrp, access, literal, nop, other, run}
@@ -27,6 +28,9 @@ use Rattle.arm64_hint_laws.specs.RustOrder.{inRustOrder, BothFit}
 use Rattle.arm64_hint_order.specs.Lists.{Once}
 use Rattle.arm64_hint_order.specs.Cursor.{objectAt, lateAt, orderOf}
 use Rattle.arm64_hint_order.specs.Rising.{Rising}
+use Rattle.arm64_hint_rules.specs.Rule.{hintOutcome}
+use Rattle.arm64_hint_rules.specs.declared.outcome.HintOutcome.the-variants.{Worked}
+use Rattle.arm64_hint_work.specs.Step.{placesOf}
 use Rattle.arm64_hint_work.specs.declared.tally.Tally.{Tally}
 use Rattle.arm64_hint_run.specs.Run.{worked, runOf, imageOf}
 use Rattle.arm64_hint_run.specs.declared.run.RunAnswer.{RunAnswer}
@@ -67,6 +71,10 @@ pub record Kept : Type 0 where
   -- image and tally of that list are the run's
   pub run-is : (image hints entries : List ℕ) (t : Tally) → runOf image hints entries ≡ Done t
       → worked image hints entries (orderOf hints) ≡ record { image = imageOf image hints entries; tally = t }
+  -- RULES 9.13, 9.21: the words of a hint that is rewritten at its turn are allocated, which FairWords therefore does not suppose
+  pub rewritten-words-allocated : (entries : List ℕ) (h : HintRecord) (image : List ℕ) (p : Plan) (s : Insns)
+      → hintOutcome entries h (wordsAt (placesOf h) image) ≡ Worked (Rewritten p) s
+      → Machine.Each (λ w. allocated (w .word) ≡ true) (Order.codes h image)
   -- RULES 9.21: every premise gives those that are needed, and so the claim with every premise follows
   pub premises-fair : (h : HintRecord) (image : List ℕ) (o : Other) (s : State) → Premises h image o s → Fair h image
   pub literally : (image hints entries l : List ℕ) (t : Tally) → HintsKept image hints entries l t → Literally image hints entries l t
@@ -138,24 +146,22 @@ pub record Kept : Type 0 where
       × (imageOf lateWords (lent late) pair ≡ lateAfter)
       × (worked lateWords (lent late) pair (0 ∷ 1 ∷ []) ≡ record { image = words (0x90000000 ∷ 0xd503201f ∷ 0xf9400401 ∷ []); tally = counts 1 0 1 0 })
       × (Order.KeepsOrder (lent late) (0 ∷ 1 ∷ []) → ⊥)
-  -- RULES 9.21: without one premise, and with all the others of 9.12 to 9.17, a rewrite need not run alike (Fails: arm64_hint_kept/specs/Needed). Disjoint
+  -- RULES 9.21: without one premise, and with all the others of 9.12 and 9.14 to 9.17, a rewrite need not run alike (Fails:
+  -- arm64_hint_kept/specs/Needed). Disjoint
   pub needs-disjoint : Fails pair (hintIn 1 0 0 4 (place 0 0 0x1000) (place 0 0 0x1000) none-at) (0x90000000 ∷ [])
-      (false ∷ true ∷ true ∷ true ∷ true ∷ true ∷ []) (0xd503201f ∷ [])
-  -- allocated
-  pub needs-allocated : Fails pair (hintIn 2 0 0 8 (place 0 0 0x9ff019ccdecb92c) (place 4 1 0x9ff019ccdecb930) none-at) (0xb0fffbe1 ∷ 0xbd800820 ∷ [])
-      (true ∷ false ∷ true ∷ true ∷ true ∷ true ∷ []) (0xd503201f ∷ 0x1cbe36c0 ∷ [])
+      (false ∷ true ∷ true ∷ true ∷ true ∷ []) (0xd503201f ∷ [])
   -- aligned
   pub needs-aligned : Fails pair (hintIn 2 0 0 8 (place 0 0 0x1002) (place 4 1 0x1006) none-at) (0x90000000 ∷ 0x3ded9c01 ∷ [])
-      (true ∷ true ∷ false ∷ true ∷ true ∷ true ∷ []) (0xd503201f ∷ 0x9c05b341 ∷ [])
+      (true ∷ false ∷ true ∷ true ∷ true ∷ []) (0xd503201f ∷ 0x9c05b341 ∷ [])
   -- no link by 31
   pub needs-no-31-link : Fails pair (hintIn 2 0 0 8 (place 0 0 0x1000) (place 4 1 0x1004) none-at) (0x9000001f ∷ 0xbd4003e1 ∷ [])
-      (true ∷ true ∷ true ∷ false ∷ true ∷ true ∷ []) (0xd503201f ∷ 0x1cffffe1 ∷ [])
+      (true ∷ true ∷ false ∷ true ∷ true ∷ []) (0xd503201f ∷ 0x1cffffe1 ∷ [])
   -- no ADD to 31
   pub needs-no-31-added : Fails pair (hintIn 7 0 0 8 (place 0 0 0x1000) (place 4 1 0x1004) none-at) (0xd0000340 ∷ 0x9100401f ∷ [])
-      (true ∷ true ∷ true ∷ true ∷ false ∷ true ∷ []) (0x1035009f ∷ 0xd503201f ∷ [])
+      (true ∷ true ∷ true ∷ false ∷ true ∷ []) (0x1035009f ∷ 0xd503201f ∷ [])
   -- no store of what was made
   pub needs-no-store : Fails gotPair (hintIn 6 0 0 12 (place 0 0 0x1000) (place 4 1 0x1004) (place 8 noEntry 0x1008))
-      (0x90000000 ∷ 0x91004002 ∷ 0xf9000040 ∷ []) (true ∷ true ∷ true ∷ true ∷ true ∷ false ∷ []) (0x10000082 ∷ 0xd503201f ∷ 0xf9000040 ∷ [])
+      (0x90000000 ∷ 0x91004002 ∷ 0xf9000040 ∷ []) (true ∷ true ∷ true ∷ true ∷ false ∷ []) (0x10000082 ∷ 0xd503201f ∷ 0xf9000040 ∷ [])
   -- hints that share a byte, and parts of different objects that meet
   pub needs-alone : Shared
   pub needs-apart : Meeting

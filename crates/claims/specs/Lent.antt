@@ -1,13 +1,15 @@
--- Lent records as bytes, for the examples: entries, resolved targets, relocation records, hints. Words of an image, places of a hint and the halves of a
--- reference are those of arm64_hint_kept/specs/Examples.
-use mathlib.Core.List.{List, _++_}
+-- Lent records as bytes, for the examples: entries, resolved targets, relocation records, hints; and the fix-up of one word. Words of an image, places
+-- of a hint and the halves of a reference are those of arm64_hint_kept/specs/Examples.
+use mathlib.Core.List.{List, [], _∷_, _++_}
 use Prim.Native.Nat.{ℕ, _+_, _*_, _^_}
 use Rattle.util.specs.Word.{bytes}
 use Rattle.macho.specs.Reloc.{relocBytes}
 use Rattle.macho.specs.Resolved.{resolvedBytes}
+use Rattle.macho.specs.Report.{reportSize}
 use Rattle.macho.specs.Hint.{noEntry, hintBytes}
 use Rattle.macho.specs.declared.resolved.Resolved.{Resolved}
 use Rattle.macho.specs.declared.hint.HintInsn.{HintInsn}
+use Rattle.arm64_fixup.specs.Answer.{basesOf, Outcome, fixed, outcomeOf}
 use Rattle.arm64_hint_kept.specs.Examples.{place}
 
 -- a NOP
@@ -38,6 +40,18 @@ target addr flags = record { addr = addr; got = 0; branch = addr; thunk = 0; hel
 -- its bytes
 abbrev pub resolved : (addr flags : ℕ) → List ℕ
 resolved addr flags = resolvedBytes (target addr flags)
+
+-- the fix-up of one word at 0x1000 by one entry of a type, to an address with flags
+abbrev pub fixUp : (word ty addr flags : ℕ) → Outcome
+fixUp word ty addr flags = outcomeOf (bytes 4 word) (basesOf 0x1000 0) (entry ty 0 0) (resolved addr flags) (bytes reportSize 0)
+
+-- the word that it leaves, with no report
+abbrev pub becomes : ℕ → Outcome
+becomes word = fixed (record { section = bytes 4 word; reports = [] })
+
+-- with a report of an alignment
+abbrev pub misaligned : (size word : ℕ) → Outcome
+misaligned size word = fixed (record { section = bytes 4 word; reports = record { entry = 0; kind = 3; size = size; place = 0; target = 0 } ∷ [] })
 
 -- a hint of a kind with n words, of object 0, with its part and its places
 abbrev pub hint : (kind n start len : ℕ) (a b c : HintInsn) → List ℕ

@@ -9,6 +9,7 @@ use lib.Dec.{eqb}
 use lib.ListN.{length, getD, take, drop}
 use Rattle.util.specs.All.{All}
 use Rattle.util.specs.Bits.{field}
+use Rattle.arm64_insn.specs.Manual.{allocated}
 use Rattle.arm64_insn.specs.Adrp.{adrpOf}
 use Rattle.arm64_insn.specs.Add.{addOf}
 use Rattle.arm64_insn.specs.LoadStore.{loadStoreOf}
@@ -56,6 +57,8 @@ pub record Lister : Type 0 where
   pub class-store : (w : ℕ) (l : L.LoadStore) → adrpOf w ≡ AdrpWord.Other → addOf w ≡ AddWord.Other → loadStoreOf w ≡ LoadStoreWord.LoadStore l
       → l .«is_store» ≡ true → classOf w ≡ Store (l .size)
   pub class-other : (w : ℕ) → adrpOf w ≡ AdrpWord.Other → addOf w ≡ AddWord.Other → loadStoreOf w ≡ LoadStoreWord.Other → classOf w ≡ Other
+  -- so it is of every word that the manual leaves unallocated
+  pub class-unallocated : (w : ℕ) → allocated w ≡ false → classOf w ≡ Other
   -- the names of the classes
   pub names : (className Adrp ≡ ascii "adrp") × (className Add ≡ ascii "add") × (className Other ≡ ascii "other")
   pub load-names : (className (Load 1) ≡ ascii "load 1")
@@ -74,6 +77,9 @@ pub record Lister : Type 0 where
   pub example : textOf (words (0x90000000 ∷ 0x91000400 ∷ 0xf9400001 ∷ 0xd503201f ∷ []))
       ≡ ascii "00000000 90000000 adrp\n"
       ++ (ascii "00000004 91000400 add\n" ++ (ascii "00000008 f9400001 load 8\n" ++ ascii "0000000c d503201f other\n"))
+  -- RULES 7.19: the unallocated words of vector registers with 2 and 4 bytes that the Rust takes as loads
+  pub unallocated-example : textOf (words (0x7d800000 ∷ 0x7dc00000 ∷ 0xbd800000 ∷ []))
+      ≡ ascii "00000000 7d800000 other\n" ++ (ascii "00000004 7dc00000 other\n" ++ ascii "00000008 bd800000 other\n")
   -- RULES 10.4: an input above 16,384 bytes prints this alone
   pub too-long : (input : List ℕ) → 16384 < length input → textOf input ≡ ascii "refused 2\n"
   -- otherwise one whose length is no multiple of 4 prints this alone

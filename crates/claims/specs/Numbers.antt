@@ -30,6 +30,10 @@ use Rattle.claims.specs.Lent.{nop, machRel, entry, resolved, hint, plain
 abbrev pub reader : (contents records slots : List ℕ) → ℕ
 reader contents records slots = Reader.numberTo contents records [] slots
 
+-- of a TLVP page offset on a word
+abbrev pub tlvpOn : ℕ → ℕ
+tlvpOn word = reader (bytes 4 word) (machRel 0 0x9c000000) (replicate 24 0)
+
 -- of the fix-up
 abbrev pub fixUp : (section : List ℕ) (base : ℕ) (entries targets slots : List ℕ) → ℕ
 fixUp section base entries targets slots = Fixup.numberTo section base 0 entries targets slots
@@ -72,6 +76,14 @@ pub record Numbers : Type 0 where
       × (fixUp (bytes 8 0) 0 (entry ARM64-RELOC-ADDEND 0 0) (resolved 0 0) (bytes 24 0) ≡ 5)
   -- a TLVP page offset on NOP
   pub number-6 : reader nop (machRel 0 0x9c000000) (zeros 24) ≡ 6
+  -- RULES 4.8: one on the unallocated words 7d800000, 7dc00000 and bd800000; with ldrsh x0, ldrsh w0, ldrsw x0, ldr q0, ldr h0 and ldr s0 the record is read
+  pub number-6-unallocated : (tlvpOn 0x7d800000 ≡ 6) × (tlvpOn 0x7dc00000 ≡ 6) × (tlvpOn 0xbd800000 ≡ 6)
+  pub number-6-loads : (tlvpOn 0x79800000 ≡ 0)
+      × (tlvpOn 0x79c00000 ≡ 0)
+      × (tlvpOn 0xb9800000 ≡ 0)
+      × (tlvpOn 0x3dc00000 ≡ 0)
+      × (tlvpOn 0x7d400000 ≡ 0)
+      × (tlvpOn 0xbd400000 ≡ 0)
   -- ordinal 0
   pub number-7 : reader (zeros 8) (machRel 0 0x06000000) (zeros 24) ≡ 7
   -- one SUBTRACTOR entry

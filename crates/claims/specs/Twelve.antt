@@ -4,12 +4,10 @@ use mathlib.Core.Bool.{true}
 use mathlib.Core.List.{List, [], _∷_, _++_}
 use Prim.Native.Nat.{ℕ, _-_, _*_, _^_}
 use lib.ListN.{length, replicate}
-use Rattle.util.specs.Word.{bytes}
 use Rattle.macho.specs.Types.{MCLOH-AdrpLdr, MCLOH-AdrpAddStr, MCLOH-AdrpAdd, ARM64-RELOC-PAGE21}
 use Rattle.macho.specs.Types.{ARM64-RELOC-BRANCH26, ARM64-RELOC-PAGEOFF12, ARM64-RELOC-GOT-LOAD-PAGEOFF12}
 use Rattle.macho.specs.Reloc.{relocSize}
 use Rattle.macho.specs.Resolved.{hasAddress, canRelaxGot}
-use Rattle.macho.specs.Report.{reportSize}
 use Rattle.arch.specs.Walk.{entries}
 use Rattle.arm64_insn.specs.Page.{adrpPage}
 use Rattle.arm64_insn.specs.Adrp.{adrpOf, adrWord}
@@ -20,11 +18,10 @@ use Rattle.arm64_insn.specs.declared.adrp.AdrpWord.the-variants as AdrpWord
 use Rattle.arm64_insn.specs.declared.ldst.LoadStoreWord.{LoadStoreWord}
 use Rattle.arm64_insn.specs.declared.ldst.LoadStoreWord.the-variants as LoadStoreWord
 use Rattle.arm64_reader.specs.Read.{readRelocs}
-use Rattle.arm64_fixup.specs.Answer.{basesOf, Outcome, fixed, outcomeOf}
 use Rattle.arm64_hint_run.specs.Run.{runOf, imageOf}
 use Rattle.arm64_hint_run.specs.declared.run.RunAnswer.the-variants.{Done}
 use Rattle.arm64_hint_kept.specs.Examples.{words, pair}
-use Rattle.claims.specs.Lent.{machRel, entry, has-address, can-relax-got, target, resolved, plain}
+use Rattle.claims.specs.Lent.{machRel, has-address, can-relax-got, target, fixUp, becomes, misaligned, plain}
 
 -- the page that a decoded ADRP makes at pc
 abbrev pub pageMade : AdrpWord → ℕ → ℕ
@@ -41,18 +38,6 @@ abbrev pub Rewrites : (kind : ℕ) (old new : List ℕ) → Type 0
 Rewrites kind old new =
     (runOf (words old) (plain kind (length old) 0x1000) pair ≡ Done (record { rewritten = 1; skipped = 0; declined = 0; «turned_down» = 0 }))
     × (imageOf (words old) (plain kind (length old) 0x1000) pair ≡ words new)
-
--- the fix-up of one word at 0x1000 by one entry of a type, to an address with flags
-abbrev pub fixUp : (word ty addr flags : ℕ) → Outcome
-fixUp word ty addr flags = outcomeOf (bytes 4 word) (basesOf 0x1000 0) (entry ty 0 0) (resolved addr flags) (bytes reportSize 0)
-
--- the word that it leaves, with no report
-abbrev pub becomes : ℕ → Outcome
-becomes word = fixed (record { section = bytes 4 word; reports = [] })
-
--- with a report of alignment 8
-abbrev pub misaligned : ℕ → Outcome
-misaligned word = fixed (record { section = bytes 4 word; reports = record { entry = 0; kind = 3; size = 8; place = 0; target = 0 } ∷ [] })
 
 -- the twelve examples of RULES 11
 pub record Twelve : Type 0 where
@@ -74,7 +59,7 @@ pub record Twelve : Type 0 where
   pub example-8 : Rewrites MCLOH-AdrpAddStr (0x90001000 ∷ 0x91004000 ∷ 0xf9000001 ∷ []) (0x90001000 ∷ 0xd503201f ∷ 0xf9000801 ∷ [])
   -- RULES 11.9: PAGEOFF12 of 0x1238 makes f9411c00 of f9400000; of 0x1234 it leaves f9400000 and reports alignment 8
   pub example-9 : (fixUp 0xf9400000 ARM64-RELOC-PAGEOFF12 0x1238 has-address ≡ becomes 0xf9411c00)
-      × (fixUp 0xf9400000 ARM64-RELOC-PAGEOFF12 0x1234 has-address ≡ misaligned 0xf9400000)
+      × (fixUp 0xf9400000 ARM64-RELOC-PAGEOFF12 0x1234 has-address ≡ misaligned 8 0xf9400000)
   -- RULES 11.10: BRANCH26 of 0xffc makes 97ffffff of 94000000 at 0x1000
   pub example-10 : fixUp 0x94000000 ARM64-RELOC-BRANCH26 0xffc has-address ≡ becomes 0x97ffffff
   -- RULES 11.11: a relaxed GOT_LOAD_PAGEOFF12 of 0x1234 makes 9108d000 of f9400000

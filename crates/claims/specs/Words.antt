@@ -9,14 +9,14 @@ use Rattle.util.specs.Wrap.{sum, diff}
 use Rattle.util.specs.Diagram.{matches}
 use Rattle.arm64_insn.specs.Encoding.{addUnshifted, loadStore, ldrImmediate}
 use Rattle.arm64_insn.specs.LoadStoreTable.{rowOf, literalRowOf, movedBy, moves}
-use Rattle.arm64_insn.specs.Manual.{ADR, ADRP, ADD, LDST, PRFM, LDR-literal, B, BL, BR, NOP, MOVZ, instruction, none, encode, decode, allocated}
+use Rattle.arm64_insn.specs.Manual.{ADR, ADRP, ADD, LDST, PRFM, LDR-literal, B, BL, BR, NOP, MOVZ, instruction, encode, decode, allocated}
 use Rattle.arm64_insn.specs.Manual.{rdIn, rnIn, imm12In, sfIn, sizeIn, vIn, opcIn, rowIn}
 use Rattle.arm64_insn.specs.ManualTargets.{adrTarget, literalTarget, branchTarget, accessAddress, addValue, movzValue}
 use Rattle.arm64_insn.specs.Page.{pageOf, adrpPage}
 use Rattle.arm64_insn.specs.Reach.{pageImm, adrpReaches, within1mb}
 use Rattle.arm64_insn.specs.Adrp.{adrpOf, adrWord}
 use Rattle.arm64_insn.specs.Add.{addOf}
-use Rattle.arm64_insn.specs.LoadStore.{loadStoreOf, loadStoreFrom, takenWord, takenIn}
+use Rattle.arm64_insn.specs.LoadStore.{loadStoreFrom, loadStoreOf, loadStoreIn}
 use Rattle.arm64_insn.specs.Literal.{hasLiteralForm, literalOpc, literalV, literalWord, Rebased, baseWord}
 use Rattle.arm64_insn.specs.Branch.{branchReaches, branchWord, helperWord}
 use Rattle.arm64_insn.specs.Stub.{stubWords, thunkWords}
@@ -40,20 +40,24 @@ pub record Words : Type 0 where
   pub add-decodes : (w : ℕ) (a : D.Add) → addOf w ≡ AddWord.Add a → decode w ≡ instruction (ADD 1 0 (a .rd) (a .rn) (a .imm))
   pub decodes-add : (w rd rn imm : ℕ) → w < 2 ^ 32 → decode w ≡ instruction (ADD 1 0 rd rn imm)
       → addOf w ≡ AddWord.Add (record { rd = rd; rn = rn; imm = imm })
-  -- RULES 7.18: `LoadStore::decode` answers every load and store of the manual, and, but for the words taken as loads, nothing else
+  -- RULES 7.18: `LoadStore::decode` is the manual: of every word, what the word's instruction is as a load or store, and none of any other instruction
+  pub load-store-manual : (w : ℕ) → loadStoreOf w ≡ loadStoreIn w (decode w)
+  -- so it answers every load and store of the manual, and nothing else
   pub decodes-load-store : (w size v opc rt rn imm12 : ℕ) → decode w ≡ instruction (LDST size v opc rt rn imm12)
       → loadStoreOf w ≡ LoadStoreWord.LoadStore (loadStoreFrom w v rt rn imm12 (rowOf size v opc))
-  pub load-store-decodes : (w : ℕ) (l : L.LoadStore) → loadStoreOf w ≡ LoadStoreWord.LoadStore l → takenWord w ≡ false
+  pub load-store-decodes : (w : ℕ) (l : L.LoadStore) → loadStoreOf w ≡ LoadStoreWord.LoadStore l
       → decode w ≡ instruction (LDST (sizeIn w) (vIn w) (opcIn w) (l .reg) (l .base) (imm12In w))
-  -- RULES 7.19: the words taken as loads have no instruction and are not allocated
-  pub taken-decodes : (w : ℕ) → takenWord w ≡ true → (decode w ≡ none) × (allocated w ≡ false) × (loadStoreOf w ≡ LoadStoreWord.LoadStore (takenIn w))
+  -- RULES 7.19: no decoder takes a word that the manual leaves unallocated
+  pub unallocated-none : (w : ℕ) → allocated w ≡ false
+      → (adrpOf w ≡ AdrpWord.Other) × (addOf w ≡ AddWord.Other) × (loadStoreOf w ≡ LoadStoreWord.Other)
   -- RULES 4.8: what a GOT page offset may stand on: an unshifted ADD of either width, an 8-byte load
   pub got-fits : (w : ℕ) → w < 2 ^ 32 → gotFits w ≡ (isUnshiftedAdd (decode w) || eqb (loadedBy (decode w)) 8)
-  -- what a TLVP page offset may stand on: any load, and the words taken as loads
-  pub tlvp-fits : (w : ℕ) → tlvpFits w ≡ (takenWord w || not (eqb (loadedBy (decode w)) 0))
+  -- what a TLVP page offset may stand on: any load, and so no word that the manual leaves unallocated
+  pub tlvp-fits : (w : ℕ) → tlvpFits w ≡ not (eqb (loadedBy (decode w)) 0)
+  pub tlvp-unallocated : (w : ℕ) → allocated w ≡ false → tlvpFits w ≡ false
   -- the two tests behind them
   pub add-is : (w : ℕ) → w < 2 ^ 32 → matches addUnshifted w ≡ isUnshiftedAdd (decode w)
-  pub loaded-is : (w : ℕ) → loadedBytes w ≡ choose (takenWord w) (2 ^ sizeIn w) (loadedBy (decode w))
+  pub loaded-is : (w : ℕ) → loadedBytes w ≡ loadedBy (decode w)
   -- `is_add_either` holds of the ADDs with an unshifted immediate
   pub add-either-decodes : (w : ℕ) → matches addUnshifted w ≡ true → decode w ≡ instruction (ADD (sfIn w) 0 (rdIn w) (rnIn w) (imm12In w))
   pub decodes-add-either : (w sf rd rn imm12 : ℕ) → w < 2 ^ 32 → decode w ≡ instruction (ADD sf 0 rd rn imm12) → matches addUnshifted w ≡ true
@@ -62,7 +66,8 @@ pub record Words : Type 0 where
       → (2 ≤ sizeIn w) × (decode w ≡ instruction (LDST (sizeIn w) 0 0b01 (rdIn w) (rnIn w) (imm12In w)))
   pub decodes-ldr-imm : (w size rt rn imm12 : ℕ) → w < 2 ^ 32 → 2 ≤ size → decode w ≡ instruction (LDST size 0 0b01 rt rn imm12)
       → matches ldrImmediate w ≡ true
-  -- the scale of a page offset is that of the bytes that a load or store moves; of one that moves none its size field's; of any other word none
+  -- the scale of a page offset is that of the bytes that a load or store moves; of PRFM and the unallocated words of that class the size field's; of
+  -- any other word none
   pub load-store-scale : (w size v opc rt rn imm12 : ℕ) → decode w ≡ instruction (LDST size v opc rt rn imm12) → 2 ^ scaleOf w ≡ movedBy (rowOf size v opc)
   pub unmoved-scale : (w : ℕ) → matches loadStore w ≡ true → moves (rowIn w) ≡ false → scaleOf w ≡ sizeIn w
   pub other-scale : (w : ℕ) → matches loadStore w ≡ false → scaleOf w ≡ 0

@@ -1,20 +1,17 @@
 -- The class by a row's mnemonic is the class by the row: 32 cells by one computed test. The fixed fields of an index, by two tests.
 use mathlib.Core.Path.{_≡_, refl, sym, ap, _∙_}
 use mathlib.Core.Bool.{Bool, true, false, _&&_, and-true}
-use Prim.Native.Nat.{ℕ, _*_, _/_, _%_, _^_, _<_}
-use native.Mathlib.Nat.{one-mul}
-use native.Mathlib.Omega.{arith}
-use lib.Dec.{eqb, lit<}
-use lib.Pow.{shr-shr, shl-exact}
+use Prim.Native.Nat.{ℕ, _/_, _%_, _<_}
+use lib.Dec.{eqb}
+use lib.Pow.{shr-shr}
 use Rattle.util.specs.Choice.{choose}
 use Rattle.util.specs.Diagram.{matches}
 use Rattle.util.proofs.Below.{every}
-use Rattle.util.proofs.Choice.{choose-true, choose-false, agree, agree-is}
+use Rattle.util.proofs.Choice.{agree, agree-is}
 use Rattle.arm64_insn.specs.LoadStoreTable as T
-use Rattle.arm64_insn.specs.LoadStore.{takenAsLoad}
 use Rattle.arm64_insn.proofs.Cells.{each-cell}
 use Rattle.arm64_insn.specs.Encoding.{loadStoreHigh}
-use Rattle.arm64_ldst_class.specs.Row.{isVector, classOfRow, classOfFields, marksLdrsw}
+use Rattle.arm64_ldst_class.specs.Row.{isVector, classOfRow, marksLdrsw}
 use Rattle.arm64_ldst_class.specs.declared.LoadStoreClass.{LoadStoreClass}
 use Rattle.arm64_ldst_class.specs.declared.LoadStoreClass.the-variants.{Moves, Neither}
 use Rattle.ldst_table_rows.specs.Rows.{rowFrom, isLdrswName}
@@ -37,7 +34,7 @@ same-mark T.unallocated e = refl
 
 module _ (size v opc : ℕ) (h : (size < 4) × (v < 2) × (opc < 4)) where
   -- the class by the mnemonic
-  pub class-by-name : classFrom (rowFrom (T.rowOf size v opc)) ≡ classOfRow (T.rowOf size v opc)
+  class-by-name : classFrom (rowFrom (T.rowOf size v opc)) ≡ classOfRow (T.rowOf size v opc)
   unfolding T.rowOf every choose
   class-by-name =
       let r = T.rowOf size v opc in
@@ -45,17 +42,9 @@ module _ (size v opc : ℕ) (h : (size < 4) × (v < 2) × (opc < 4)) where
       (each-cell (λ s v o. agree (marksLdrsw (classFrom (rowFrom (T.rowOf s v o)))) (marksLdrsw (classOfRow (T.rowOf s v o)))) refl
       size v opc (h .0) (h .1) (h .2)))
 
-  -- what a row says, where the fields are not taken as a load
-  pub class-row : (t : Bool) → t ≡ takenAsLoad size v opc → t ≡ false
-      → (a r : Row) → a ≡ rowFrom (T.rowOf size v opc) → a ≡ r → classFrom r ≡ classOfFields size v opc
-  class-row t e f a r g k =
-      ap classFrom (sym k ∙ g) ∙ class-by-name ∙ sym (choose-false (takenAsLoad size v opc) _ _ (sym e ∙ f))
-
-  -- a load of 2^size bytes, where they are
-  pub class-taken : (t : Bool) → t ≡ takenAsLoad size v opc → t ≡ true → Moves ((1 * 2 ^ size) % 2 ^ 8) false true false ≡ classOfFields size v opc
-  class-taken t e f =
-      ap (λ (n : ℕ). Moves n false true false) (shl-exact 1 size 8 (lit< tt) (omega arith) ∙ one-mul (2 ^ size))
-      ∙ sym (choose-true (takenAsLoad size v opc) _ _ (sym e ∙ f))
+  -- what a row says
+  pub class-row : (a r : Row) → a ≡ rowFrom (T.rowOf size v opc) → a ≡ r → classFrom r ≡ classOfRow (T.rowOf size v opc)
+  class-row a r g k = ap classFrom (sym k ∙ g) ∙ class-by-name
 
 -- the fixed fields of an index
 pub fixed-fields : (k : ℕ) → matches loadStoreHigh k ≡ (eqb (k / 4 % 4) 1 && eqb (k / 32 % 8) 7)

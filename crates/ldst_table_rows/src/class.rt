@@ -1,4 +1,4 @@
-// The class of an index, bits 31 to 22 of a word, from the manual's rows and the unallocated ones that RULES 7.19 takes as loads.
+// The class of an index, bits 31 to 22 of a word, from the manual's rows.
 use crate::rows::Mnemonic;
 use crate::rows::Row;
 use crate::rows::row_of;
@@ -6,23 +6,10 @@ use arm64_ldst_class::LoadStoreClass;
 ghost use mathlib.Core.Path.{_≡_};
 ghost use Prim.Native.Nat.{_<_};
 ghost use Rattle.util.specs.Diagram.{matches};
-ghost use Rattle.arm64_insn.specs.LoadStore.{takenAsLoad};
 ghost use Rattle.arm64_insn.specs.Encoding.{loadStoreHigh};
-ghost use Rattle.arm64_ldst_class.specs.Row.{classOfFields, classOfIndex};
+ghost use Rattle.arm64_insn.specs.LoadStoreTable.{rowOf};
+ghost use Rattle.arm64_ldst_class.specs.Row.{classOfRow, classOfIndex};
 ghost use Rattle.ldst_table_rows.specs.Rows.{isLdrswName};
-
-// Whether size, V and opc are unallocated and taken as a load: a vector register, 2 bytes with opc 1x or 4 bytes with opc 10.
-fn is_taken_as_load(size: u32, v: u32, opc: u32) -> bool
-    ensures { λ r. ⌜ r ≡ takenAsLoad size v opc ⌝ }
-{
-    if v != 1 {
-        return false;
-    }
-    if size == 1 {
-        return opc >= 2;
-    }
-    size == 2 && opc == 2
-}
 
 // Whether a mnemonic is LDRSW.
 fn is_ldrsw(mnemonic: Mnemonic) -> bool
@@ -45,11 +32,8 @@ fn is_ldrsw(mnemonic: Mnemonic) -> bool
 // What size, V and opc move.
 fn class_of_fields(size: u32, v: u32, opc: u32) -> LoadStoreClass
     requires { ⌜ (size < 4) × (v < 2) × (opc < 4) ⌝ }
-    ensures { λ r. ⌜ r ≡ classOfFields size v opc ⌝ }
+    ensures { λ r. ⌜ r ≡ classOfRow (rowOf size v opc) ⌝ }
 {
-    if is_taken_as_load(size, v, opc) {
-        return LoadStoreClass::Moves(1u8 << size, false, true, false);
-    }
     match row_of(size, v, opc) {
         Row::Load(mnemonic, vector, bytes) => {
             LoadStoreClass::Moves(bytes, false, vector, is_ldrsw(mnemonic))

@@ -176,14 +176,6 @@ fn one_of(words: Words3, k: u32) -> u64 {
     }
 }
 
-// Words that the manual leaves unallocated and the decoder takes as loads of 2 and 4 bytes, by bits 31..22 (docs/DIFFERENCES.md).
-fn is_taken_as_load(word: u32) -> bool {
-    match word / 0x40_0000 {
-        0x1f6 | 0x1f7 | 0x2f6 => true,
-        _ => false,
-    }
-}
-
 // 3 for ADRP, 4 for ADD, else 0.
 fn other_class(word: u32) -> u64 {
     match Adrp::decode(word) {
@@ -199,20 +191,13 @@ fn other_class(word: u32) -> u64 {
 fn class_of(word: u32, class: u64, bytes: u64) -> u64 {
     match LoadStore::decode(word) {
         LoadStoreWord::LoadStore(l) => {
-            if is_taken_as_load(word) {
-                let size = 2 * ((word / 0x4000_0000) as u64);
-                if class == 0 && bytes == 0 && !l.is_store && l.is_float && l.size == size {
-                    return 0;
-                }
-                return DIFFERS;
-            }
             if class != 1 + flag(l.is_store, 1) || bytes != l.size {
                 return DIFFERS;
             }
             flag(l.is_float, 1) + flag(l.is_ldrsw, 2)
         }
         LoadStoreWord::Other => {
-            if class == other_class(word) && bytes == 0 && !is_taken_as_load(word) {
+            if class == other_class(word) && bytes == 0 {
                 0
             } else {
                 DIFFERS
@@ -224,13 +209,6 @@ fn class_of(word: u32, class: u64, bytes: u64) -> u64 {
 // The same by the table of classes.
 fn table_class_of(word: u32, class: u64, bytes: u64) -> u64 {
     let entry = lookup(word) as u64;
-    if is_taken_as_load(word) {
-        let size = 2 * ((word / 0x4000_0000) as u64);
-        if class == 0 && bytes == 0 && entry == 8 * size + 2 {
-            return 0;
-        }
-        return DIFFERS;
-    }
     if entry == 0 {
         if class == other_class(word) && bytes == 0 {
             return 0;

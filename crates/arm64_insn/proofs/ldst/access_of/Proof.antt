@@ -34,7 +34,7 @@ returns-3 : tie.Need-returns-3
 unfolding tested choose
 returns-3 c =
     let d = c .before .before .before in
-    found _ _ _ _ (d .before .pre) (simp (
+    found _ _ _ _ (d .before .pre) (rw (
       ne-eqb _ _ (d .if1 .left),
       ne-eqb _ _ (c .before .before .if2 .left),
       eq-eqb _ _ (c .before .if3 .taken),
@@ -46,7 +46,6 @@ unfolding tested choose
 returns-4 c =
     let d = c .before .before .before in
     found _ _ _ _ (d .before .pre) (simp (
-      one-shl (d .before .args .size) (omega arith),
       ne-eqb _ _ (d .if1 .left),
       ne-eqb _ _ (c .before .before .if2 .left),
       eq-eqb _ _ (c .before .if3 .taken),
@@ -64,7 +63,7 @@ returns-5 c =
       eq-eqb _ _ (c .if5 .taken),
     ))
 
--- past the tests of opc 0 and 1 and of size 0 and 3
+-- past the tests of opc 0 and 1, of V and of size 3
 late : (d : lts.Else5 reads.Pre reads.Post) → let a = d .before .before .before .before .args in
     tested (a .size) (a .v) (a .opc)
     ≡ choose (eqb (a .size) 2) (choose (eqb (a .opc) 3) Neither (Of (2 ^ a .size) false)) (Of (2 ^ a .size) false)

@@ -1,20 +1,8 @@
--- `class_of_fields` meets its contract: what RULES 7.19 takes as loads, else the row by its mnemonic. Assumes nothing.
-use Rattle.ldst_table_rows.proofs.ClassLaws.{class-taken, class-row}
+-- `class_of_fields` meets its contract: the row by its mnemonic. Assumes nothing.
+use Rattle.ldst_table_rows.proofs.ClassLaws.{class-row}
 use borrow.Author.Needs.{needs}
 use Rattle.ldst_table_rows.proofs.class.class_of_fields.Statement.{statement}
 use Rattle.ldst_table_rows.proofs.class.class_of_fields.Tie as tie
-
-is-taken-as-load-requires : tie.Need-is-taken-as-load-requires
-is-taken-as-load-requires c κs = search needs
-
-cast-t10 : tie.Need-cast-t10
-cast-t10 c = search needs
-
-shl-t11 : tie.Need-shl-t11
-shl-t11 c = search needs
-
-returns : tie.Need-returns
-returns c = class-taken _ _ _ (c .before .before .pre) _ (c .before .is-taken-as-load .ensures) (c .if1 .taken)
 
 row-of-requires : tie.Need-row-of-requires
 row-of-requires c κs = search needs
@@ -34,50 +22,42 @@ enum-told c = search needs
 enum-told-2 : tie.Need-enum-told-2
 enum-told-2 c = search needs
 
+returns : tie.Need-returns
+returns c =
+    let row-of = c .before .before .before .before in
+    rw (c .is-ldrsw .ensures)
+    (class-row _ _ _ (row-of .before .pre) _ _ (row-of .row-of .ensures)
+    (c .before .before .mnemonic .given .1))
+
 returns-2 : tie.Need-returns-2
 returns-2 c =
-    let row-of = c .before .before .before .before in
-    let test = row-of .before .before in
-    rw (c .is-ldrsw .ensures)
-    (class-row _ _ _ (test .before .pre) _ (test .is-taken-as-load .ensures) (row-of .before .if1 .left) _ _ (row-of .row-of .ensures)
-    (c .before .before .mnemonic .given .1))
+    let row-of = c .before .before .before in
+    class-row _ _ _ (row-of .before .pre) _ _ (row-of .row-of .ensures)
+    (c .before .vector .given .1)
 
 returns-3 : tie.Need-returns-3
 returns-3 c =
-    let row-of = c .before .before .before in
-    let test = row-of .before .before in
-    class-row _ _ _ (test .before .pre) _ (test .is-taken-as-load .ensures) (row-of .before .if1 .left) _ _ (row-of .row-of .ensures)
-    (c .before .vector .given .1)
+    let row-of = c .before .before in
+    class-row _ _ _ (row-of .before .pre) _ _ (row-of .row-of .ensures)
+    (c .enum-told .given .1)
 
 returns-4 : tie.Need-returns-4
 returns-4 c =
     let row-of = c .before .before in
-    let test = row-of .before .before in
-    class-row _ _ _ (test .before .pre) _ (test .is-taken-as-load .ensures) (row-of .before .if1 .left) _ _ (row-of .row-of .ensures)
-    (c .enum-told .given .1)
-
-returns-5 : tie.Need-returns-5
-returns-5 c =
-    let row-of = c .before .before in
-    let test = row-of .before .before in
-    class-row _ _ _ (test .before .pre) _ (test .is-taken-as-load .ensures) (row-of .before .if1 .left) _ _ (row-of .row-of .ensures)
+    class-row _ _ _ (row-of .before .pre) _ _ (row-of .row-of .ensures)
     (c .enum-told2 .given .1)
 
 pub class-of-fields-spec : {M : Type 1} → statement M
 class-of-fields-spec =
     tie.close
     (tie.spec
-    is-taken-as-load-requires
-    cast-t10
-    shl-t11
-    returns
     row-of-requires
     enum-known-mnemonic
     is-ldrsw-requires
     enum-known-vector
     enum-told
     enum-told-2
+    returns
     returns-2
     returns-3
-    returns-4
-    returns-5)
+    returns-4)

@@ -6,7 +6,9 @@ use Rattle.util.specs.Choice.{choose}
 use Rattle.util.specs.Bits.{field}
 use Rattle.util.proofs.Diagram.{matched, unmatched}
 use Rattle.arm64_insn.specs.Encoding.{loadStore}
-use Rattle.arm64_insn.specs.LoadStore.{loadStoreOf}
+use Rattle.arm64_insn.specs.LoadStore.{accessOf, loadStoreOf}
+use Rattle.arm64_insn.specs.Manual.{sizeIn, vIn, opcIn, rowIn}
+use Rattle.arm64_insn.proofs.Cells.{ldrsw-cell, access-row, neither-row}
 use Rattle.arm64_insn.proofs.Decoded.{access-le}
 use borrow.Author.Needs.{needs}
 use Rattle.arm64_insn.proofs.ldst.LoadStore.decode.Statement.{statement}
@@ -48,17 +50,26 @@ enum-told : tie.Need-enum-told
 enum-told c = search needs
 
 returns-2 : tie.Need-returns-2
-unfolding loadStoreOf choose
+unfolding loadStoreOf accessOf choose
 returns-2 c =
     let i = c .before .before .before .before .before .args .insn in
     let e = sym (c .before .before .before .access-of .ensures) ∙ c .before .bytes .given .1 in
-    rw (matched loadStore i refl (c .before .before .before .before .if1 .left), e, div-one)
+    let r = access-row (rowIn i) _ _ e in
+    rw (
+      matched loadStore i refl (c .before .before .before .before .if1 .left),
+      r .0,
+      r .1,
+      r .2,
+      ← ldrsw-cell (sizeIn i) (vIn i) (opcIn i) (omega arith) (omega arith) (omega arith),
+      div-one,
+    )
 
 returns-3 : tie.Need-returns-3
-unfolding loadStoreOf choose
+unfolding loadStoreOf accessOf choose
 returns-3 c =
+    let i = c .before .before .before .before .args .insn in
     let e = sym (c .before .before .access-of .ensures) ∙ c .enum-told .given .1 in
-    rw (matched loadStore (c .before .before .before .before .args .insn) refl (c .before .before .before .if1 .left), e)
+    rw (matched loadStore i refl (c .before .before .before .if1 .left), neither-row (rowIn i) e)
 
 pub decode-spec : {M : Type 1} → statement M
 decode-spec =
