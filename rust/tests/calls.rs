@@ -416,10 +416,13 @@ fn unallocated_words() {
         assert_eq!(listed(&bytes(&[word]), hauklivo::LINE), Ok(format!("00000000 {word:08x} other\n")));
         let record = record(0, 0x9c000005);
         assert_eq!(hauklivo::read_relocs(&bytes(&[word]), &record.to_bytes(), &[], &mut [0; 24]), Err(Refusal::Unfit));
-        // From x1, which the ADRP makes; then with the greatest offset, in the last page.
-        for (address, word) in [(0x1000, word | 0x20), (0xfffffffffffff000, word | 0x3ffc20)] {
-            let words = [0x90000001, word];
-            assert_eq!(work(&words, &[hint(kind::ADRP_LDR, 2, 0, 0, address)]), Ok((bytes(&words), declined)));
+        // From x2, which ADRP and ADD make; then from x1 with the greatest offset, in the last page.
+        for (kind, address, words) in [
+            (kind::ADRP_ADD_LDR, 0x1000, vec![0x90000001, 0x91004022, word | 0x43]),
+            (kind::ADRP_LDR, 0xfffffffffffff000, vec![0x90000001, word | 0x3ffc20]),
+        ] {
+            let hint = hint(kind, words.len() as u8, 0, 0, address);
+            assert_eq!(work(&words, &[hint]), Ok((bytes(&words), declined)));
         }
         let (after, reports) = fix(&[word], &[(entry(0, ty::PAGEOFF12, 4), at(0x1001))]).unwrap();
         assert_eq!((after, reports[0].kind()), (bytes(&[word]), Some(ReportKind::Alignment(size))));

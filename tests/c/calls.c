@@ -461,21 +461,27 @@ static void classes(void)
     CHECK(count == 23);
 }
 
-/* adrp x1 of its own page, and a word through x1: the hint must decline and leave both. */
-static void declines(uint64_t address, uint32_t word)
+/* adrp x1 of its own page, in a hint of three words add x2, x1, #16, and a word: the hint must decline and leave them. */
+static void declines(uint8_t kind, uint8_t words, uint64_t address, uint32_t word)
 {
     const struct hauklivo_reloc entries[2] = {
         {.type = HAUKLIVO_PAGE21, .size = 4, .is_pcrel = 1, .target = 5},
         {.offset = 4, .type = HAUKLIVO_PAGEOFF12, .size = 4, .target = 5},
     };
     const struct hauklivo_hint_record hint = {
-        .kind = HAUKLIVO_ADRP_LDR, .words = 2, .length = 8, .places = {{0, 0, address}, {4, 1, address + 4}}};
-    uint8_t image[8];
+        .kind = kind,
+        .words = words,
+        .length = 4 * words,
+        .places = {{0, 0, address}, {4, 1, address + 4}, {8, HAUKLIVO_WITHOUT_ENTRY, address + 8}},
+    };
+    uint8_t image[12], before[12];
     struct hauklivo_tally tally;
     put_word(image, 0, 0x90000001);
-    put_word(image, 4, word);
-    CHECK(hauklivo_apply_hints(image, 8, &hint, 64, entries, sizeof entries, &tally) == HAUKLIVO_DONE);
-    CHECK(word_at(image, 0) == 0x90000001 && word_at(image, 4) == word);
+    put_word(image, 4, 0x91004022);
+    put_word(image, 4 * (words - 1), word);
+    memcpy(before, image, hint.length);
+    CHECK(hauklivo_apply_hints(image, hint.length, &hint, 64, entries, sizeof entries, &tally) == HAUKLIVO_DONE);
+    CHECK(memcmp(image, before, hint.length) == 0);
     CHECK(tally.rewritten == 0 && tally.skipped == 0 && tally.declined == 1 && tally.turned_down == 0);
 }
 
@@ -497,8 +503,9 @@ static void unallocated(uint32_t word, uint8_t size)
     CHECK(hauklivo_list(bytes, 4, out, sizeof out, &count) == HAUKLIVO_DONE);
     CHECK(count == strlen(text) && memcmp(out, text, count) == 0);
     refused_reading(HAUKLIVO_UNFIT, bytes, 4, record, 8, 24);
-    declines(0x1000, word | 0x20);
-    declines(UINT64_C(0xfffffffffffff000), word | 0x3ffc20);
+    /* From x2; then from x1, with the greatest offset, in the last page. */
+    declines(HAUKLIVO_ADRP_ADD_LDR, 3, 0x1000, word | 0x43);
+    declines(HAUKLIVO_ADRP_LDR, 2, UINT64_C(0xfffffffffffff000), word | 0x3ffc20);
     CHECK(hauklivo_apply_reloc_alloc(bytes, 4, 0x1000, 0, &entry, 24, &odd, 48, &report, 24, &count) == HAUKLIVO_DONE);
     CHECK(count == 1 && report.kind == HAUKLIVO_REPORT_ALIGNMENT && report.size == size && word_at(bytes, 0) == word);
 }

@@ -20,7 +20,12 @@ pub fn groups() -> Vec<Group> {
 pub const UNALLOCATED: [u32; 3] = [0x1f6, 0x1f7, 0x2f6];
 
 /// Of the accesses beside them: of the other register file, of 1 or 16 bytes, or with another opc.
-pub const NEIGHBOURS: [u32; 9] = [0x1e6, 0x1e7, 0x2e6, 0x0f6, 0x0f7, 0x1f4, 0x1f5, 0x2f4, 0x2f5];
+pub const NEIGHBOURS: [u32; 11] = [0x1e6, 0x1e7, 0x2e6, 0x0f4, 0x0f5, 0x0f6, 0x0f7, 0x1f4, 0x1f5, 0x2f4, 0x2f5];
+
+/// The unallocated ones, then those beside them.
+pub fn with_neighbours() -> Vec<u32> {
+    [UNALLOCATED.as_slice(), &NEIGHBOURS].concat()
+}
 
 pub fn is_unallocated(word: u32) -> bool {
     UNALLOCATED.contains(&(word >> 22))

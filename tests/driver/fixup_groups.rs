@@ -1,12 +1,12 @@
 //! The cases of the fix-up.
 
-use hauklivo::{Record, Reloc, Resolved, Target, flag};
+use hauklivo::{Record, Reloc, Report, Resolved, Target, flag};
 
 use crate::class::UNALLOCATED;
 use crate::fixup::{Case, check, of_lengths};
 use crate::reader_groups::flip;
 use crate::rng::{Digits, Rng};
-use crate::rows::Rows;
+use crate::rows::{ON_UNALLOCATED_FIXED, Rows};
 use crate::run::{Group, Verdict};
 use crate::table::Table;
 use crate::{Difference, World};
@@ -84,9 +84,9 @@ fn unallocated(index: u64, world: &World, table: &mut Table) -> Verdict {
     let value = rng.next() & !15 | aligned as u64;
     let section = bytes(&[UNALLOCATED[class] << 22 | low]);
     let answer = check(&Case::new(section, BASE, &[page_offset(kind, value)]), world, table)?;
-    let is_relaxed = [2, 4].contains(&kind);
-    let row = [0, 2, 4, 5, 7][kind] + usize::from(!is_relaxed && !answer.reports.is_empty());
-    table.hit_cell(Rows::FixupUnallocated as usize, row, class);
+    let report = Report::list(&answer.reports).expect("whole reports").first().map_or(0, |r| r.kind);
+    let row = ON_UNALLOCATED_FIXED.iter().position(|row| (row.0, row.1) == (kind, report));
+    table.hit_cell(Rows::FixupUnallocated as usize, row.expect("a row of the table"), class);
     Ok(())
 }
 

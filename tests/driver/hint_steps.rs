@@ -4,14 +4,14 @@ use hauklivo::{HintRecord, Record};
 
 use crate::class::is_unallocated;
 use crate::differences::{Met, Of};
-use crate::hint_shape::NOP;
+use crate::hint_shape::{LDRSW, NOP};
 use crate::hint_ways::{
     Named, Way, access, as_taken, base, destination, has_literal_form, immediate, is_add, is_adrp, is_near, page_of,
     rust_way, unpaired,
 };
-use crate::hints::{Answer, Case, DECLINED, REWRITTEN, is_skipped, looked_at, named};
+use crate::hints::{Answer, Case, DECLINED, REWRITTEN, SKIPPED, is_skipped, looked_at, named};
 use crate::lent::hex;
-use crate::{Difference, World};
+use crate::{Difference, Stop, World};
 
 /// The new word of each place that gets one.
 type Words = [Option<u32>; 3];
@@ -38,9 +38,7 @@ impl Step {
 const PREDICATES: &[(&str, fn(u8, &[Named]) -> bool)] = &[
     ("add_ldr_folds_near_adrp", |kind, n| kind == 3 && folds_near_adrp(n) && !is_literal(n)),
     ("add_str_folds_near_adrp", |kind, n| kind == 5 && folds_near_adrp(n) && is_store(n)),
-    ("ldr_unallocated", |kind, n| kind == 2 && is_taken_unallocated(kind, n)),
-    ("add_ldr_unallocated", |kind, n| kind == 3 && is_taken_unallocated(kind, n)),
-    ("got_ldr_unallocated", |kind, n| kind == 4 && is_taken_unallocated(kind, n)),
+    ("unallocated_in_hint", unallocated_in_hint),
 ];
 
 /// By name, of the same words: what is expected.
@@ -48,33 +46,35 @@ const EXPECTED: &[(&str, fn(&[Named]) -> Step)] =
     &[("as_fold", |n| Step::rewritten(as_fold(n))), ("as_declined", |_| Step::left(DECLINED))];
 
 /// Whether a word is unallocated and the Rust does not decline.
-fn is_taken_unallocated(kind: u8, n: &[Named]) -> bool {
+fn unallocated_in_hint(kind: u8, n: &[Named]) -> bool {
     n.iter().any(|n| is_unallocated(n.word)) && rust_way(kind, n).outcome() != DECLINED
 }
 
-/// What the Rust makes of a hint that a row holds of.
-fn by_rust(kind: u8, n: &[Named]) -> Step {
-    let way = rust_way(kind, n);
-    if way.outcome() != REWRITTEN {
-        return Step::left(way.outcome());
+/// What the Rust's rule makes of a hint.
+fn by_rust(hint: &HintRecord, n: &[Named]) -> Step {
+    use Way::*;
+    if is_skipped(hint) {
+        return Step::left(SKIPPED);
     }
+    let way = rust_way(hint.kind, n);
     Step::rewritten(match way {
-        Way::Literal => as_literal(n),
-        Way::SlotLiteral => as_slot_literal(n),
-        Way::Fold => as_fold(n),
-        _ => as_adr(kind, n),
+        SecondAdrp => [None, Some(NOP), None],
+        Literal => as_literal(n),
+        SlotLiteral => as_slot_literal(n),
+        Fold | FoldStore => as_fold(n),
+        Adr | AdrSmall | AdrStore | AdrUnaligned | AdrLoadFar | FoldNear | FoldNearStore => as_adr(hint.kind, n),
+        _ => return Step::left(way.outcome()),
     })
 }
 
-/// The address that ADRP and, in a hint of three words, ADD make.
+/// The address that ADRP and, if it is the second word, ADD make.
 fn address(n: &[Named]) -> u64 {
-    page_of(&n[0]) + if n.len() > 2 { immediate(n[1].word) } else { 0 }
+    page_of(&n[0]) + if is_add(n[1].word) { immediate(n[1].word) } else { 0 }
 }
 
-/// The bytes that the last word moves, and its offset, as the Rust takes it.
-fn size_and_offset(n: &[Named]) -> (u64, u64) {
-    let word = n[n.len() - 1].word;
-    let (size, _) = access(as_taken(word)).expect("the row's access");
+/// The bytes that an access moves, and its offset, as the Rust takes it.
+fn size_and_offset(word: u32) -> (u64, u64) {
+    let (size, _) = access(as_taken(word)).expect("an access");
     (size, immediate(word) * size)
 }
 
@@ -104,39 +104,47 @@ fn folds_near_adrp(n: &[Named]) -> bool {
 
 /// The ADRP is kept, and the access goes through its register with the ADD's immediate and its own offset.
 fn as_fold(n: &[Named]) -> Words {
-    let (size, offset) = size_and_offset(n);
+    let (size, offset) = size_and_offset(n[2].word);
     let units = ((immediate(n[1].word) + offset) / size) as u32;
     [None, Some(NOP), Some(n[2].word & 0xffc0_001f | units << 10 | base(n[1].word) << 5)]
 }
 
-/// An ADR makes an address in the access's base: in kinds 3 and 5 the one that is accessed, and the access has no
-/// offset; else that of the ADD.
+/// An ADR makes an address in the ADD's register: in kinds 3 and 5 the one that is accessed, and the access has no offset;
+/// else that of the ADD.
 fn as_adr(kind: u8, n: &[Named]) -> Words {
     let is_accessed = [3, 5].contains(&kind);
-    let offset = if is_accessed { size_and_offset(n).1 } else { 0 };
+    let offset = if is_accessed { size_and_offset(n[2].word).1 } else { 0 };
     let distance = (address(n) + offset).wrapping_sub(n[0].address) as u32;
-    let adr = 0x1000_0000 | (distance & 3) << 29 | (distance >> 2 & 0x7_ffff) << 5 | base(n[2].word);
-    [Some(adr), Some(NOP), is_accessed.then_some(n[2].word & !(0xfff << 10))]
+    let adr = 0x1000_0000 | (distance & 3) << 29 | (distance >> 2 & 0x7_ffff) << 5 | destination(n[1].word);
+    [Some(adr), Some(NOP), is_accessed.then(|| n[2].word & !(0xfff << 10))]
 }
 
-/// Bits 23..5 of a literal load of a target.
-fn literal(from: &Named, target: u64) -> u32 {
-    (target.wrapping_sub(from.address) as u32 >> 2 & 0x7_ffff) << 5
+/// A load as a literal load of a target.
+fn literal(load: &Named, target: u64) -> u32 {
+    let opcode = match (size_and_offset(load.word).0, load.word >> 26 & 1) {
+        (4, 0) if load.word >> 22 == LDRSW => 0x9800_0000,
+        (4, 0) => 0x1800_0000,
+        (4, _) => 0x1c00_0000,
+        (8, 0) => 0x5800_0000,
+        (8, _) => 0x5c00_0000,
+        _ => 0x9c00_0000,
+    };
+    let distance = target.wrapping_sub(load.address) as u32;
+    opcode | (distance >> 2 & 0x7_ffff) << 5 | destination(load.word)
 }
 
-/// The load of 4 bytes of a vector register is literal, the words before it are NOP.
+/// The last word is a literal load, the words before it are NOP.
 fn as_literal(n: &[Named]) -> Words {
     let last = n.len() - 1;
     let mut words = [Some(NOP); 3];
-    let target = address(n) + size_and_offset(n).1;
-    words[last] = Some(0x1c00_0000 | literal(&n[last], target) | destination(n[last].word));
+    words[last] = Some(literal(&n[last], address(n) + size_and_offset(n[last].word).1));
     words
 }
 
-/// The load of the GOT slot is literal, and the access through it is kept.
+/// The load of the GOT slot is literal, and an access through it is kept.
 fn as_slot_literal(n: &[Named]) -> Words {
-    let slot = page_of(&n[0]) + 8 * immediate(n[1].word);
-    [Some(NOP), Some(0x5800_0000 | literal(&n[1], slot) | destination(n[1].word)), None]
+    let slot = page_of(&n[0]) + size_and_offset(n[1].word).1;
+    [Some(NOP), Some(literal(&n[1], slot)), None]
 }
 
 /// A row about one hint.
@@ -155,11 +163,9 @@ impl Row {
     }
 }
 
-/// The first row that holds of a hint over an image.
-fn row_of<'a>(rows: &'a [Row], image: &[u8], case: &Case, hint: &HintRecord) -> Option<(&'a Row, Vec<Named>)> {
-    let words = named(image, &case.entries, hint);
-    let row = rows.iter().find(|row| !is_skipped(hint) && (row.holds)(hint.kind, &words))?;
-    Some((row, words))
+/// The first row that holds of a hint with these words.
+fn row_of<'a>(rows: &'a [Row], hint: &HintRecord, words: &[Named]) -> Option<&'a Row> {
+    rows.iter().find(|row| !is_skipped(hint) && (row.holds)(hint.kind, words))
 }
 
 /// What is expected of a case that the Rust ran to its end: the Rust's answer, or, where a row holds of a hint at its turn,
@@ -168,14 +174,14 @@ pub fn expected(rows: &[Row], case: &Case, rust: Answer, world: &World) -> Resul
     let list = case.list();
     let is_untouched = match &list[..] {
         [] => true,
-        [hint] => row_of(rows, &case.image, case, hint).is_none(),
+        [hint] => row_of(rows, hint, &named(&case.image, &case.entries, hint)).is_none(),
         _ => false,
     };
     if is_untouched {
         return Ok(rust);
     }
     let walked = walk(rows, case, &list, world)?;
-    if walked.by_row.contains(&true) {
+    if walked.is_by_row() {
         return Ok(Answer { by_own_walk: rust.by_own_walk, ..walked });
     }
     let same = walked.image == rust.image && walked.outcomes == rust.outcomes && walked.tally == rust.tally;
@@ -186,44 +192,46 @@ pub fn expected(rows: &[Row], case: &Case, rust: Answer, world: &World) -> Resul
     })
 }
 
-/// The hints in the order of work, each by the row that holds of it at its turn or else by the Rust's rule. Where a row
-/// holds, the Rust's rule must do what `by_rust` says of it.
+/// The hints in the order of work, each by the row that holds of it at its turn or else by the Rust's rule, which must do
+/// what `by_rust` says of it.
 fn walk(rows: &[Row], case: &Case, list: &[HintRecord], world: &World) -> Result<Answer, Difference> {
     let mut order: Vec<_> = (0..list.len()).collect();
     order.sort_by_key(|&i| (list[i].object, list[i].kind == 1));
     let mut image = case.image.clone();
-    let (mut tally, mut outcomes, mut by_row) = ([0; 4], vec![0; list.len()], vec![false; list.len()]);
+    let (mut tally, mut outcomes, mut by_row) = ([0; 4], vec![0; list.len()], vec![None; list.len()]);
     for i in order {
         let hint = &list[i];
-        let row = row_of(rows, &image, case, hint);
-        let before = row.is_some().then(|| image.clone());
-        outcomes[i] = by_rule(&mut image, case, hint, world)?;
-        if let (Some((row, words)), Some(before)) = (row, before) {
-            let steps = [(row.expected)(&words), by_rust(hint.kind, &words)];
-            let [due, rust] = steps.map(|step| (step.outcome, worked(&before, hint, step.words)));
-            let done = (outcomes[i], image);
-            if done != rust {
-                return Err(other_step(case, i, &done, &rust));
-            }
-            row.met.add(due != rust);
-            ((outcomes[i], image), by_row[i]) = (due, true);
+        let words = named(&image, &case.entries, hint);
+        let end = |step: Step| (step.outcome, worked(&image, hint, step.words));
+        let (done, rust) = (by_rule(&image, case, hint, world)?, end(by_rust(hint, &words)));
+        if done != rust {
+            return Err(other_step(case, i, &done, &rust));
         }
+        let mut due = done;
+        if let Some(row) = row_of(rows, hint, &words) {
+            due = end((row.expected)(&words));
+            row.met.add(due != rust);
+            by_row[i] = Some(words.iter().map(|n| n.word).collect());
+        }
+        (outcomes[i], image) = due;
         tally[outcomes[i]] += 1;
     }
     Ok(Answer { number: 0, image, tally, outcomes, by_row, by_own_walk: false })
 }
 
-/// Works one hint by the Rust's rule.
-fn by_rule(image: &mut [u8], case: &Case, hint: &HintRecord, world: &World) -> Result<usize, Difference> {
-    let done = (world.oracle.apply_hints)(image, HintRecord::bytes(&[*hint]), &case.entries);
-    done.map(|run| run.outcomes[0]).map_err(|stop| Difference {
+/// How one hint ends by the Rust's rule, and the image after it.
+fn by_rule(image: &[u8], case: &Case, hint: &HintRecord, world: &World) -> Result<(usize, Vec<u8>), Difference> {
+    let mut image = image.to_vec();
+    let done = (world.oracle.apply_hints)(&mut image, HintRecord::bytes(&[*hint]), &case.entries);
+    let stopped = |stop: Stop| Difference {
         input: case.show(),
         port: "not asked".into(),
         expected: format!("no stop at a single hint; the Rust: {}", stop.text),
-    })
+    };
+    done.map(|run| (run.outcomes[0], image)).map_err(stopped)
 }
 
-/// A hint where a row holds, and where the Rust's rule does not do what is said of it.
+/// A hint with which the Rust's rule does not do what `by_rust` says.
 fn other_step(case: &Case, i: usize, done: &(usize, Vec<u8>), due: &(usize, Vec<u8>)) -> Difference {
     let shown = |(outcome, image): &(usize, Vec<u8>)| format!("outcome {outcome}, image {}", hex(image));
     Difference {

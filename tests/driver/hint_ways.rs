@@ -1,5 +1,5 @@
-//! How a single hint ends, told from its words, addresses and entries: for the rows of the table alone. What it reads in
-//! a word serves hint_steps.rs, too.
+//! How a hint ends, told from its words, addresses and entries: for the rows of the table, and for what hint_steps.rs says
+//! of the Rust's rules.
 
 use hauklivo::Reloc;
 

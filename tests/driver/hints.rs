@@ -41,8 +41,9 @@ pub struct Case {
     pub entries: Vec<u8>,
 }
 
-/// Outcomes of a hint; that of one that is skipped is 1.
+/// Outcomes of a hint.
 pub const REWRITTEN: usize = 0;
+pub const SKIPPED: usize = 1;
 pub const DECLINED: usize = 2;
 pub const TURNED_DOWN: usize = 3;
 
@@ -53,16 +54,21 @@ pub struct Answer {
     pub image: Vec<u8>,
     pub tally: [u32; 4],
     pub outcomes: Vec<usize>,
-    /// Of which hints a row of docs/DIFFERENCES.md says how they end; empty where of none.
-    pub by_row: Vec<bool>,
+    /// The words, at its turn, of each hint of which a row of docs/DIFFERENCES.md says how it ends; empty where of none.
+    pub by_row: Vec<Option<Vec<u32>>>,
     /// Whether the Rust's own walk came to the same as its rules hint by hint.
     pub by_own_walk: bool,
 }
 
 impl Answer {
-    /// Whether a hint of the list ends so because a row of docs/DIFFERENCES.md says it.
-    fn ends_by_row(&self, i: usize, outcome: usize) -> bool {
-        self.by_row.get(i) == Some(&true) && self.outcomes[i] == outcome
+    /// Whether a row of docs/DIFFERENCES.md says of some hint how it ends.
+    pub fn is_by_row(&self) -> bool {
+        self.by_row.iter().any(Option::is_some)
+    }
+
+    /// The words, at its turn, of a hint of the list that ends so because a row of docs/DIFFERENCES.md says it.
+    fn ended_by_row(&self, i: usize, outcome: usize) -> Option<&[u32]> {
+        self.by_row.get(i)?.as_deref().filter(|_| self.outcomes[i] == outcome)
     }
 }
 
@@ -231,7 +237,7 @@ fn record_single(case: &Case, hint: &HintRecord, answer: &Answer, table: &mut Ta
     let words = named(&case.image, &case.entries, hint);
     let (way, rust) = (way(hint.kind, &words), rust_way(hint.kind, &words));
     let is_by_row = way.is_fold_near() || rust.outcome() != way.outcome();
-    let is_due = way.outcome() == answer.outcomes[0] && is_by_row == answer.by_row.contains(&true);
+    let is_due = way.outcome() == answer.outcomes[0] && is_by_row == answer.is_by_row();
     assert!(is_due, "the table's row {way:?} of {}", case.show());
     table.hit_cell(Rows::HintWay as usize, way as usize, hint.kind as usize - 1);
     if let Some((row, column)) = in_reach(hint.kind, &words, way) {
@@ -312,7 +318,7 @@ fn distances(some: &[u64], others: &[u64]) -> impl Iterator<Item = u64> {
 
 /// Folds that a row of docs/DIFFERENCES.md has in place of the Rust's ADR, and hints that share words with them.
 fn record_folds(list: &[HintRecord], answer: &Answer, hit: &mut impl FnMut(HintList)) {
-    let is_fold = |i: usize| answer.ends_by_row(i, REWRITTEN);
+    let is_fold = |i: usize| answer.ended_by_row(i, REWRITTEN).is_some();
     let folds: Vec<_> = (0..list.len()).filter(|&i| is_fold(i)).collect();
     if !folds.is_empty() && answer.tally[TURNED_DOWN] > 0 {
         hit(HintList::FoldAndNine);
@@ -346,16 +352,19 @@ fn record_folds(list: &[HintRecord], answer: &Answer, hit: &mut impl FnMut(HintL
 /// make of the words.
 fn record_unallocated(case: &Case, list: &[HintRecord], answer: &Answer, hit: &mut impl FnMut(HintList)) {
     for (i, hint) in list.iter().enumerate() {
-        let words = named(&case.image, &case.entries, hint);
-        let (is_lent, outcome) = (words.iter().any(|n| is_unallocated(n.word)), answer.outcomes[i]);
-        if is_lent && outcome == REWRITTEN {
+        let lent = named(&case.image, &case.entries, hint);
+        if answer.outcomes[i] == REWRITTEN && lent.iter().any(|n| is_unallocated(n.word)) {
             hit(HintList::UnallocatedNoMore);
         }
-        if !answer.ends_by_row(i, DECLINED) {
-            continue;
-        }
-        if !is_lent {
-            hit(HintList::UnallocatedByThen);
+        let Some(words) = answer.ended_by_row(i, DECLINED) else { continue };
+        for (lent, word) in lent.iter().zip(words) {
+            match word >> 22 {
+                class if class == lent.word >> 22 => {}
+                0x1f6 => hit(HintList::Made1f6),
+                0x1f7 => hit(HintList::Made1f7),
+                0x2f6 => hit(HintList::Made2f6),
+                _ => {}
+            }
         }
         if answer.tally[TURNED_DOWN] > 0 {
             hit(HintList::UnallocatedAndNine);

@@ -41,7 +41,7 @@ impl Case {
         turns(&list).into_iter().filter(is_on).map(|turn| turn.own).collect()
     }
 
-    fn show(&self) -> String {
+    pub fn show(&self) -> String {
         let Self { contents, records, sections, slots } = self;
         format!(
             "read_relocs: contents {}\n    records {}\n    sections {sections:x?}\n    {slots} bytes of slots",

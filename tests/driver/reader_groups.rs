@@ -2,7 +2,7 @@
 
 use hauklivo::MachRel;
 
-use crate::class::{NEIGHBOURS, UNALLOCATED};
+use crate::class::{UNALLOCATED, with_neighbours};
 use crate::reader::{Case, check};
 use crate::rng::{Digits, Rng};
 use crate::rows::{OnUnallocated, Rows, supported};
@@ -25,7 +25,7 @@ pub fn groups() -> Vec<Group> {
     vec![
         Group::new("reader/forms", 256 * 5 * 6 * 4 * 2, 16_000, forms),
         Group::new("reader/words", 1024 * 2 * 5 * 4, 10_000, words),
-        Group::new("reader/unallocated", 12 * 4 * 6 * 5 * 2 * 3 * 2, 17_280, unallocated),
+        Group::new("reader/unallocated", 14 * 4 * 6 * 5 * 2 * 3 * 2, 20_160, unallocated),
         Group::new("reader/bounds", 15 * 13 * 15 * 3, 8_775, bounds),
         Group::new("reader/lengths", 41 * 131 * 2, 2_000, lengths),
         Group::new("reader/addends", 11 * 8192, 4_000, addends),
@@ -85,11 +85,11 @@ fn words(index: u64, world: &World, table: &mut Table) -> Verdict {
 /// theirs, of a section; between records that are read, some of them from bytes of the same word, or refused.
 fn unallocated(index: u64, world: &World, table: &mut Table) -> Verdict {
     let mut d = Digits(index);
-    let (class, offset, before, after) = (d.next(12), 4 + d.next(4), d.next(6), d.next(5));
+    let (class, offset, before, after) = (d.next(14), 4 + d.next(4), d.next(6), d.next(5));
     let (ty, (form, idx)) = (d.pick(&[9, 6]), d.pick(&[(12, 1), (4, 1), (4, 9)]));
     let low = d.pick(&[0, Rng::new("reader/unallocated", index).word() & 0x3f_ffff]);
     let mut contents = vec![0; 16];
-    put(&mut contents, offset, [UNALLOCATED.as_slice(), &NEIGHBOURS].concat()[class] << 22 | low);
+    put(&mut contents, offset, with_neighbours()[class] << 22 | low);
     let some = |offset: usize, ty, form, idx| Some(record(offset as u32, ty, form, idx));
     let (pointer, of_no_section) = (|at| some(at, 0, 14, 1), some(0, 0, 6, 9));
     let past = 17;
@@ -98,8 +98,8 @@ fn unallocated(index: u64, world: &World, table: &mut Table) -> Verdict {
     let own = some(if before == 1 { past } else { offset }, ty, form, idx);
     let after_it = [None, some(0, 2, 13, 1), pointer(offset), of_no_section, some(0, 10, 4, 1)];
     let records: Vec<_> = [before_it[before], own, after_it[after]].into_iter().flatten().collect();
-    let answer = check(&Case::new(contents, &records, &SECTIONS), world, table)?;
-    let row = match (answer, before, after) {
+    let case = Case::new(contents, &records, &SECTIONS);
+    let row = match (check(&case, world, table)?, before, after) {
         (Err(5), 0, 0) if form == 4 => OnUnallocated::OfSection,
         (Err(6), 0, 0) if offset == 4 => OnUnallocated::Alone,
         (Err(6), 0, 0) => OnUnallocated::Unaligned,
@@ -111,8 +111,18 @@ fn unallocated(index: u64, world: &World, table: &mut Table) -> Verdict {
     };
     if ty == 9 && class < UNALLOCATED.len() {
         table.hit_cell(Rows::ReaderUnallocated as usize, row as usize, class);
+        if matches!(row, OnUnallocated::Alone | OnUnallocated::Unaligned) {
+            return read_by_rust(&case, world);
+        }
     }
     Ok(())
+}
+
+/// The Rust must read a record that is refused for its unallocated word: it takes the word for a load.
+fn read_by_rust(case: &Case, world: &World) -> Verdict {
+    let Err(number) = reader::rust(case, world)? else { return Ok(()) };
+    let expected = format!("that the Rust reads the record; it answers {number}");
+    Err(Difference { input: case.show(), port: "not asked".into(), expected })
 }
 
 /// Every supported record at each offset of contents of each small length.

@@ -241,16 +241,17 @@ fn report_of_type(kind: usize, ty: usize) -> bool {
     }
 }
 
-/// Page offsets of five kinds on an unallocated word: what becomes of it.
-const ON_UNALLOCATED_FIXED: [&str; 8] = [
-    "PAGEOFF12",
-    "PAGEOFF12, misaligned: report 3",
-    "GOT page offset, of the slot",
-    "GOT page offset, of the slot, misaligned: report 3",
-    "GOT page offset, relaxed: report 4",
-    "TLVP page offset, of the slot",
-    "TLVP page offset, of the slot, misaligned: report 3",
-    "TLVP page offset, relaxed: report 4",
+/// Page offsets of five kinds on an unallocated word: the kind's number, that of the report, 0 where there is none, and what
+/// both are.
+pub const ON_UNALLOCATED_FIXED: [(usize, u8, &str); 8] = [
+    (0, 0, "PAGEOFF12"),
+    (0, 3, "PAGEOFF12, misaligned: report 3"),
+    (1, 0, "GOT page offset, of the slot"),
+    (1, 3, "GOT page offset, of the slot, misaligned: report 3"),
+    (2, 4, "GOT page offset, relaxed: report 4"),
+    (3, 0, "TLVP page offset, of the slot"),
+    (3, 3, "TLVP page offset, of the slot, misaligned: report 3"),
+    (4, 4, "TLVP page offset, relaxed: report 4"),
 ];
 
 pub const STUB_AND_THUNK: [&str; 8] = [
@@ -296,10 +297,10 @@ pub enum HintList {
     Empty, OwnWalk, Objects, Falling, Mixed, AdrpAdrpFirst, SameWord, Overlap, SharedWord, SharedBytes,
     FoldOverlap, FoldSharedWord, FoldSharedBytes, FoldsOfOneAdrp, FoldThenDropped, FoldThenDeclined,
     FoldAndNine,
-    UnallocatedNoMore, UnallocatedByThen, UnallocatedAndNine, UnallocatedSharedAdrp,
+    UnallocatedNoMore, Made1f6, Made1f7, Made2f6, UnallocatedAndNine, UnallocatedSharedAdrp,
 }
 
-const HINT_LISTS: [&str; 21] = [
+const HINT_LISTS: [&str; 23] = [
     "empty list",
     "walked by the Rust's own apply_hints",
     "several objects",
@@ -318,7 +319,9 @@ const HINT_LISTS: [&str; 21] = [
     "a fold in ADR's reach, then ADRP_ADRP of its ADRP: declined",
     "a fold in ADR's reach, and a hint turned down by 9",
     "an unallocated word that an earlier hint made an access of: rewritten",
-    "a word that an earlier hint made unallocated: declined",
+    "a word of which an earlier hint made 1f6, unallocated: declined",
+    "a word of which an earlier hint made 1f7, unallocated: declined",
+    "a word of which an earlier hint made 2f6, unallocated: declined",
     "an unallocated word, and a hint turned down by 9",
     "an unallocated word, and another hint of its ADRP: rewritten",
 ];
@@ -431,6 +434,7 @@ fn reader_blocks() -> Vec<Block> {
 
 fn fixup_blocks() -> Vec<Block> {
     let with_rest = || TYPES[..10].iter().copied().chain(["types from 10 on"]);
+    let on_unallocated = ON_UNALLOCATED_FIXED.map(|row| row.2);
     vec![
         Block::list("Fix-up, calls by number", FIXUP_NUMBERS),
         Block::grid("Fix-up, single entries by type and number", with_rest(), FIXUP_TYPE_NUMBERS, fixup_type_number),
@@ -438,7 +442,7 @@ fn fixup_blocks() -> Vec<Block> {
         Block::grid("Fix-up, reports by kind and type", REPORTS, 0..10, report_of_type),
         Block::grid("Fix-up, entries that SUBTRACTOR takes, by type", with_rest(), [""], all),
         Block::condensed("Fix-up, classes of bits 31..22 under five kinds of page offset", 5 * 1024),
-        Block::grid("Fix-up, page offsets on unallocated words", ON_UNALLOCATED_FIXED, named(UNALLOCATED), all),
+        Block::grid("Fix-up, page offsets on unallocated words", on_unallocated, named(UNALLOCATED), all),
         Block::condensed("Fix-up, page offsets under an access of 1, 2, 4, 8, 16 bytes and ADD", 6 * 4096),
         Block::condensed("Fix-up, branch displacements around -2^27, 0 and 2^27", 57),
         Block::condensed("Fix-up, page differences around -2^32, 0 and 2^32, five kinds of page", 5 * 15),

@@ -23,6 +23,7 @@ use Rattle.arm64_ldst_class.proofs.Back.{same, same-is}
 use Rattle.arm64_ldst_class.proofs.High.{cell, match-high, row-high, class-high}
 
 module _ (w : ℕ) where
+  -- what an instruction is as a load or store has its class
   of-insn : (d : M.Decoded) → decode w ≡ d → classSeen (loadStoreIn w d) ≡ classOfInsn d
   of-insn M.none e = refl
   of-insn (M.instruction (M.ADR rd imm21)) e = refl

@@ -12,7 +12,7 @@ use Rattle.arm64_ldst_class.specs.Row.{sizeAt, vAt, opcAt}
 use Rattle.arm64_ldst_class.specs.declared.LoadStoreClass.{LoadStoreClass}
 use Rattle.arm64_ldst_class.specs.declared.LoadStoreClass.the-variants.{Moves, Neither}
 
--- what its match on size and opc gives, in the order of the two, where `moves` is told bytes and whether they are stored
+-- the arms of its match on size and opc, by their number; `moves` is told the bytes, and whether they are stored
 abbrev pub armsOf : (ℕ → Bool → LoadStoreClass) → Bool → List LoadStoreClass
 armsOf moves isFloat =
     moves 1 true ∷ moves 1 false ∷ choose isFloat (moves 16 true) (moves 1 false) ∷ choose isFloat (moves 16 false) (moves 1 false)

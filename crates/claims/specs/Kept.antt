@@ -146,8 +146,9 @@ pub record Kept : Type 0 where
       × (imageOf lateWords (lent late) pair ≡ lateAfter)
       × (worked lateWords (lent late) pair (0 ∷ 1 ∷ []) ≡ record { image = words (0x90000000 ∷ 0xd503201f ∷ 0xf9400401 ∷ []); tally = counts 1 0 1 0 })
       × (Order.KeepsOrder (lent late) (0 ∷ 1 ∷ []) → ⊥)
-  -- RULES 9.21: without one premise, and with all the others of 9.12 and 9.14 to 9.17, a rewrite need not run alike (Fails:
-  -- arm64_hint_kept/specs/Needed). Disjoint
+  -- RULES 9.21: without one premise, and with all the others of 9.12 and 9.14 to 9.17, a rewrite need not run alike
+  -- (Fails: arm64_hint_kept/specs/Needed)
+  -- disjoint
   pub needs-disjoint : Fails pair (hintIn 1 0 0 4 (place 0 0 0x1000) (place 0 0 0x1000) none-at) (0x90000000 ∷ [])
       (false ∷ true ∷ true ∷ true ∷ true ∷ []) (0xd503201f ∷ [])
   -- aligned

@@ -30,10 +30,6 @@ use Rattle.claims.specs.Lent.{nop, machRel, entry, resolved, hint, plain
 abbrev pub reader : (contents records slots : List ℕ) → ℕ
 reader contents records slots = Reader.numberTo contents records [] slots
 
--- of a TLVP page offset on a word
-abbrev pub tlvpOn : ℕ → ℕ
-tlvpOn word = reader (bytes 4 word) (machRel 0 0x9c000000) (replicate 24 0)
-
 -- of the fix-up
 abbrev pub fixUp : (section : List ℕ) (base : ℕ) (entries targets slots : List ℕ) → ℕ
 fixUp section base entries targets slots = Fixup.numberTo section base 0 entries targets slots
@@ -45,6 +41,10 @@ hintRun size hints entries = runNumber (runOf (bytes size 0) hints entries)
 -- n zeros
 abbrev pub zeros : ℕ → List ℕ
 zeros n = replicate n 0
+
+-- of a TLVP page offset on a word
+abbrev pub tlvpOn : ℕ → ℕ
+tlvpOn word = reader (bytes 4 word) (machRel 0 0x9c000000) (zeros 24)
 
 -- a hint whose second word ends past its part
 abbrev pub pastPart : List ℕ
