@@ -171,16 +171,7 @@ fn row_of<'a>(rows: &'a [Row], hint: &HintRecord, words: &[Named]) -> Option<&'a
 /// What is expected of a case that the Rust ran to its end: the Rust's answer, or, where a row holds of a hint at its turn,
 /// what the hints come to one after another.
 pub fn expected(rows: &[Row], case: &Case, rust: Answer, world: &World) -> Result<Answer, Difference> {
-    let list = case.list();
-    let is_untouched = match &list[..] {
-        [] => true,
-        [hint] => row_of(rows, hint, &named(&case.image, &case.entries, hint)).is_none(),
-        _ => false,
-    };
-    if is_untouched {
-        return Ok(rust);
-    }
-    let walked = walk(rows, case, &list, world)?;
+    let walked = walk(rows, case, &case.list(), world)?;
     if walked.is_by_row() {
         return Ok(Answer { by_own_walk: rust.by_own_walk, ..walked });
     }
