@@ -11,11 +11,11 @@ use lib.Dec.{eqb, ltb}
 use lib.Pow.{pow-lt, pow-add, shl-shr}
 use Rattle.util.proofs.Below.{every, every-at}
 use Rattle.util.proofs.Choice.{both}
-use Rattle.util.specs.Bits.{field}
+use Rattle.util.specs.Bits.{field, hasBit}
 use Rattle.macho.specs.MachRel.{pcrelOf, p2sizeOf, externOf, typeOf, formOf}
 use Rattle.macho.specs.declared.mach_rel.MachRel.{MachRel}
 use Rattle.macho.proofs.Packed.{form-fields}
-use Rattle.arch.specs.Form.{Form, form, formIn, sameForm, member, formNumber, bitOf, bitsOf, hasBit, fieldsFit}
+use Rattle.arch.specs.Form.{Form, form, formIn, sameForm, member, formNumber, bitOf, bitsOf, fieldsFit}
 
 -- the number in a record's bits is its form's
 pub form-number : (r : MachRel) → formOf (r .bits) ≡ formNumber (formIn r)

@@ -4,7 +4,6 @@ use mathlib.Core.Bool.{Bool, true, false, _&&_, _||_}
 use mathlib.Core.List.{List, [], _∷_}
 use lib.Bits.{bitOr}
 use lib.Dec.{eqb, ltb}
-use Rattle.util.specs.Bits.{field}
 use Rattle.macho.specs.MachRel.{pcrelOf, p2sizeOf, externOf}
 use Rattle.macho.specs.declared.mach_rel.MachRel.{MachRel}
 
@@ -43,10 +42,6 @@ bitOf f = 2 ^ formNumber f
 abbrev pub bitsOf : List Form → ℕ
 bitsOf [] = 0
 bitsOf (f ∷ fs) = bitOr (bitOf f) (bitsOf fs)
-
--- whether a set of bits has the bit of a form's number
-abbrev pub hasBit : ℕ → ℕ → Bool
-hasBit forms number = eqb (field forms number 1) 1
 
 -- whether the fields of a set's forms are such as a record can have: one, two and one bits
 abbrev pub fieldsFit : List Form → Bool

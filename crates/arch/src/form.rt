@@ -4,8 +4,9 @@ use util::bit;
 ghost use mathlib.Core.Path.{_≡_};
 ghost use Prim.Native.Nat.{_<_};
 ghost use Rattle.util.specs.Choice.{flag};
+ghost use Rattle.util.specs.Bits.{hasBit};
 ghost use Rattle.macho.specs.MachRel.{formOf};
-ghost use Rattle.arch.specs.Form.{form, bitOf, hasBit};
+ghost use Rattle.arch.specs.Form.{form, bitOf};
 
 // One form of a record, its pcrel, p2size and extern fields, as a bit in a set of forms.
 pub fn reloc_form(pcrel: bool, p2size: u32, ext: bool) -> u16

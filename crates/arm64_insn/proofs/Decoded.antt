@@ -14,7 +14,7 @@ use Rattle.arm64_insn.specs.LoadStoreTable.{rowOf, movedBy, moves}
 use Rattle.arm64_insn.specs.Adrp.{adrpOf}
 use Rattle.arm64_insn.specs.Add.{addOf}
 use Rattle.arm64_insn.specs.Manual.{rdIn, rnIn, imm12In, sizeIn, vIn, opcIn, rowIn}
-use Rattle.arm64_insn.specs.LoadStore.{accessOf, loadStoreFrom, loadStoreOf}
+use Rattle.arm64_insn.specs.LoadStore.{loadStoreFrom, loadStoreOf}
 use Rattle.arm64_insn.specs.Literal.{literalOpc, literalV}
 use Rattle.arm64_insn.specs.declared.adrp.Adrp as A
 use Rattle.arm64_insn.specs.declared.adrp.AdrpWord.{AdrpWord}
@@ -22,11 +22,10 @@ use Rattle.arm64_insn.specs.declared.adrp.AdrpWord.the-variants as AdrpW
 use Rattle.arm64_insn.specs.declared.add.Add as D
 use Rattle.arm64_insn.specs.declared.add.AddWord.{AddWord}
 use Rattle.arm64_insn.specs.declared.add.AddWord.the-variants as AddWord
-use Rattle.arm64_insn.specs.declared.ldst.Moved.the-variants.{Of}
 use Rattle.arm64_insn.specs.declared.ldst.LoadStore as L
 use Rattle.arm64_insn.specs.declared.ldst.LoadStoreWord.{LoadStoreWord}
 use Rattle.arm64_insn.specs.declared.ldst.LoadStoreWord.the-variants as LoadStoreWord
-use Rattle.arm64_insn.proofs.Cells.{each-cell, access-row}
+use Rattle.arm64_insn.proofs.Cells.{each-cell}
 
 -- an ADRP names a register, and its immediate has 21 bits
 pub record DecodedAdrp (a : A.Adrp) : Type 0 where
@@ -67,12 +66,6 @@ row-small size v opc hs hv ho m =
     let u = each-cell (λ s v o. not (moves (rowOf s v o)) || (ltb 0 (movedBy (rowOf s v o)) && leb (movedBy (rowOf s v o)) 16)) refl size v opc hs hv ho in
     let h = both (ltb 0 (movedBy (rowOf size v opc))) (leb (movedBy (rowOf size v opc)) 16) (rw m at u) in
     (ltb-true 0 (movedBy (rowOf size v opc)) (h .0), leb-true (movedBy (rowOf size v opc)) 16 (h .1))
-
-pub access-le : (size v opc n : ℕ) (s : Bool) → accessOf size v opc ≡ Of n s → size < 4 → v < 2 → opc < 4 → n ≤ 16
-unfolding accessOf
-access-le size v opc n s e hs hv ho =
-    let a = access-row (rowOf size v opc) n s e in
-    omega (arith, a .1, row-small size v opc hs hv ho (a .0) .1)
 
 -- a load or store names registers, moves 1 to 16 bytes, and has a whole number of them below 4,096 as its offset
 pub record DecodedLoadStore (x : ℕ) (l : L.LoadStore) : Type 0 where

@@ -3,12 +3,10 @@
 use mathlib.Core.Path.{_≡_, refl, sym, ap, _∙_}
 use mathlib.Core.Bool.{Bool, true, false, _&&_, _||_, not, false≢true}
 use mathlib.Core.List.{[], _∷_}
-use Prim.Native.Nat.{ℕ, _-_, _/_, _%_, _^_, _<_, _≤_}
+use Prim.Native.Nat.{ℕ, _-_, _/_, _^_, _<_, _≤_}
 use native.Mathlib.Omega.{arith}
 use borrow.Author.Tests.{lt-ltb, eqb-true}
 use lib.Dec.{eqb, ltb, lit<, lit≤}
-use lib.Pow.{shr-shr}
-use lib.Pow as Pow
 use Rattle.util.specs.Choice.{choose}
 use Rattle.util.specs.Bits.{field}
 use Rattle.util.specs.Diagram.{matches, fill}
@@ -33,7 +31,7 @@ use Rattle.arm64_insn.specs.declared.add.AddWord.the-variants as AddWord
 use Rattle.arm64_insn.specs.declared.ldst.LoadStore as L
 use Rattle.arm64_insn.specs.declared.ldst.LoadStoreWord.{LoadStoreWord}
 use Rattle.arm64_insn.specs.declared.ldst.LoadStoreWord.the-variants as LoadStoreWord
-use Rattle.arm64_insn.proofs.Cells.{each-cell}
+use Rattle.arm64_insn.proofs.Cells.{each-cell, opc-high}
 use Rattle.arm64_insn.proofs.Manual.{decode-has, has-decode, encode-decode, decode-in-range, decode-allocated}
 use Rattle.arm64_insn.proofs.ManualClasses.{by-class}
 
@@ -196,8 +194,7 @@ rightScale size v opc =
 scale-cell : (w : ℕ) → matches loadStore w ≡ true → scaleOf w ≡ scaleAt (sizeIn w) (vIn w) (opcIn w)
 unfolding scaleOf
 scale-cell w m =
-    let o : opcIn w / 2 ≡ field w 23 1 = Pow.field (w / 2 ^ 22) 1 1 ∙ ap (λ (y : ℕ). y % 2) (shr-shr w 22 1) in
-    let q : matches quad w ≡ (eqb (opcIn w / 2) 1 && (eqb (vIn w) 1 && (eqb (sizeIn w) 0 && true))) = matches-fields quad w ∙ rw o in
+    let q : matches quad w ≡ (eqb (opcIn w / 2) 1 && (eqb (vIn w) 1 && (eqb (sizeIn w) 0 && true))) = matches-fields quad w ∙ rw (← opc-high w) in
     choose-true (matches loadStore w) _ _ m ∙ ap (λ (t : Bool). choose t 4 (sizeIn w)) q
 
 right-scale : (w : ℕ) → rightScale (sizeIn w) (vIn w) (opcIn w) ≡ true

@@ -8,6 +8,7 @@ pub mod ManualAssembled
 pub mod ManualLines
 pub mod ManualGaps
 pub mod Cells
+pub mod Split
 pub mod Decoded
 pub mod Scale
 pub mod Three

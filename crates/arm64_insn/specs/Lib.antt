@@ -8,6 +8,7 @@ pub mod Reach
 pub mod Adrp
 pub mod Add
 pub mod LoadStore
+pub mod LoadStoreSplit
 pub mod Literal
 pub mod Branch
 pub mod Stub

@@ -8,19 +8,9 @@ use Rattle.arm64_insn.specs.Encoding.{loadStore}
 use Rattle.arm64_insn.specs.LoadStoreTable.{Row, load, store, prefetch, unallocated, zeros, sign32, sign64, rowOf, movedBy, moves, isStore}
 use Rattle.arm64_insn.specs.Manual as M
 use Rattle.arm64_insn.specs.Manual.{rdIn, rnIn, imm12In, vIn, rowIn}
-use Rattle.arm64_insn.specs.declared.ldst.Moved.{Moved}
-use Rattle.arm64_insn.specs.declared.ldst.Moved.the-variants.{Of, Neither}
 use Rattle.arm64_insn.specs.declared.ldst.LoadStore as L
 use Rattle.arm64_insn.specs.declared.ldst.LoadStoreWord.{LoadStoreWord}
 use Rattle.arm64_insn.specs.declared.ldst.LoadStoreWord.the-variants.{LoadStore, Other}
-
--- what a row moves, and whether it stores that
-abbrev pub accessIn : Row → Moved
-accessIn row = choose (moves row) (Of (movedBy row) (isStore row)) Neither
-
--- what size, V and opc move
-unfoldable pub accessOf : ℕ → ℕ → ℕ → Moved
-accessOf size v opc = accessIn (rowOf size v opc)
 
 -- a load of 4 bytes that copies its sign up to bit 63: LDRSW
 abbrev pub isLdrsw : Row → Bool

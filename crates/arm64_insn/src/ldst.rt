@@ -3,43 +3,82 @@ ghost use mathlib.Core.Path.{_≡_};
 ghost use Prim.Native.Nat.{_+_, _*_, _^_, _<_};
 ghost use Rattle.util.specs.Diagram.{matches};
 ghost use Rattle.arm64_insn.specs.Encoding.{ldrImmediate};
-ghost use Rattle.arm64_insn.specs.LoadStore.{accessOf, loadStoreOf};
+ghost use Rattle.arm64_insn.specs.LoadStore.{loadStoreOf};
+ghost use Rattle.arm64_insn.specs.LoadStoreSplit.{vectorAccess, generalAccess, accessBySplit};
 ghost use Rattle.arm64_insn.specs.Literal.{hasLiteralForm, literalOpc, literalV, literalWord, Rebased, baseWord};
 
-// The bytes that an access moves, and whether it stores them.
+// What an access moves: that many bytes, whether it stores them, and whether it is LDRSW.
 pub enum Moved {
-    Of(u64, bool),
+    Of(u64, bool, bool),
     Neither,
 }
 
-// What the size, V and opc fields say. With opc 1x a vector register's 16-byte access takes the encodings of the sign-extending byte loads, and
-// no other size of a vector register is allocated. Of general registers size 11 has PRFM there (opc 10), which moves nothing.
-fn access_of(size: u32, v: u32, opc: u32) -> Moved
-    requires { ⌜ (size < 4) × (v < 2) × (opc < 4) ⌝ }
-    ensures { λ r. ⌜ r ≡ accessOf size v opc ⌝ }
+// What a word of the class moves. Bit 26 comes first: it is V and tells the register file.
+fn access_of(v: bool, size: u32, bit_23: bool, bit_22: bool) -> Moved
+    requires { ⌜ size < 4 ⌝ }
+    ensures { λ r. ⌜ r ≡ accessBySplit v size «bit_23» «bit_22» ⌝ }
 {
-    let bytes = 1u64 << size;
-    if opc == 0 {
-        return Moved::Of(bytes, true);
+    if v {
+        return vector_access(size, bit_23, bit_22);
     }
-    if opc == 1 {
-        return Moved::Of(bytes, false);
-    }
-    if v == 1 {
-        if size == 0 {
-            return Moved::Of(16, opc == 2);
-        }
-        return Moved::Neither;
-    }
+    general_access(size, bit_23, bit_22)
+}
+
+// A vector register: the size, then bit 23, then bit 22, which is clear in a store. With bit 23 set, size 00 is an access of 16 bytes, and every
+// other size is unallocated.
+fn vector_access(size: u32, bit_23: bool, bit_22: bool) -> Moved
+    requires { ⌜ size < 4 ⌝ }
+    ensures { λ r. ⌜ r ≡ vectorAccess size «bit_23» «bit_22» ⌝ }
+{
     if size == 3 {
-        return Moved::Neither;
-    }
-    if size == 2 {
-        if opc == 3 {
+        if bit_23 {
             return Moved::Neither;
         }
+        return Moved::Of(8, !bit_22, false);
     }
-    Moved::Of(bytes, false)
+    if size == 2 {
+        if bit_23 {
+            return Moved::Neither;
+        }
+        return Moved::Of(4, !bit_22, false);
+    }
+    if size == 1 {
+        if bit_23 {
+            return Moved::Neither;
+        }
+        return Moved::Of(2, !bit_22, false);
+    }
+    if bit_23 {
+        return Moved::Of(16, !bit_22, false);
+    }
+    Moved::Of(1, !bit_22, false)
+}
+
+// A general register: the size, then bit 23, then bit 22, which is clear in a store. With bit 23 set, size 11 is PRFM, which moves nothing, or
+// unallocated; size 10 is LDRSW, or unallocated where bit 22 is set; sizes 01 and 00 are loads that copy the sign.
+fn general_access(size: u32, bit_23: bool, bit_22: bool) -> Moved
+    requires { ⌜ size < 4 ⌝ }
+    ensures { λ r. ⌜ r ≡ generalAccess size «bit_23» «bit_22» ⌝ }
+{
+    if size == 3 {
+        if bit_23 {
+            return Moved::Neither;
+        }
+        return Moved::Of(8, !bit_22, false);
+    }
+    if size == 2 {
+        if bit_23 {
+            if bit_22 {
+                return Moved::Neither;
+            }
+            return Moved::Of(4, false, true);
+        }
+        return Moved::Of(4, !bit_22, false);
+    }
+    if bit_23 {
+        return Moved::Of(1u64 << size, false, false);
+    }
+    Moved::Of(1u64 << size, !bit_22, false)
 }
 
 // A load or store with a scaled unsigned offset.
@@ -107,18 +146,19 @@ impl LoadStore {
     // Of Qt: opc 10, V 1.
     pub const LITERAL_Q: u32 = 0x9c;
 
-    // The Rust's parse_ldst.
+    // The Rust's parse_ldst. The class is asked first, since outside it bit 26 may be no V; inside it bit 26, the size, bit 23, bit 22.
     pub fn decode(insn: u32) -> LoadStoreWord
         ensures { λ r. ⌜ r ≡ loadStoreOf insn ⌝ }
     {
         if insn & Self::MASK != Self::FIXED {
             return LoadStoreWord::Other;
         }
+        let v = insn / 0x400_0000 % 2 == 1;
         let size = insn / 0x4000_0000 % 4;
-        let v = insn / 0x400_0000 % 2;
-        let opc = insn / 0x40_0000 % 4;
-        match access_of(size, v, opc) {
-            Moved::Of(bytes, is_store) => {
+        let bit_23 = insn / 0x80_0000 % 2 == 1;
+        let bit_22 = insn / 0x40_0000 % 2 == 1;
+        match access_of(v, size, bit_23, bit_22) {
+            Moved::Of(bytes, is_store, is_ldrsw) => {
                 let imm = (insn / 0x400 % 0x1000) as u64;
                 LoadStoreWord::LoadStore(LoadStore {
                     insn,
@@ -127,8 +167,8 @@ impl LoadStore {
                     offset: imm * bytes,
                     size: bytes,
                     is_store,
-                    is_float: v == 1,
-                    is_ldrsw: size * 8 + v * 4 + opc == 0b10_0_10,
+                    is_float: v,
+                    is_ldrsw,
                 })
             }
             Moved::Neither => LoadStoreWord::Other,

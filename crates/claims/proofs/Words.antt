@@ -1,5 +1,6 @@
 -- Decoders and encoders against the manual: the theorems of arm64_insn and of the reader's words.
 use Rattle.arm64_insn.proofs.Decodes as Decodes
+use Rattle.arm64_insn.proofs.Split as Split
 use Rattle.arm64_insn.proofs.Encodes as Encodes
 use Rattle.arm64_insn.proofs.Meaning as Meaning
 use Rattle.arm64_insn.proofs.ManualTargets as Targets
@@ -16,6 +17,8 @@ words =
       load-store-manual = Decodes.load-store-manual;
       decodes-load-store = Decodes.decodes-load-store;
       load-store-decodes = Decodes.load-store-decodes;
+      load-store-split = Split.load-store-split;
+      ldrsw-marked = Split.ldrsw-marked;
       unallocated-none = Decodes.unallocated-none;
       got-fits = Reader.got-fits-is;
       tlvp-fits = Reader.tlvp-fits-is;

@@ -1,10 +1,10 @@
--- Decoders and encoders against the manual (RULES 1.6, 7.11 to 7.31): what each answers, what each makes, and where in reach the made words lead.
+-- Decoders and encoders against the manual (RULES 1.6, 1.30, 7.11 to 7.31, 7.34): what each answers, what each makes, and where in reach the made words lead.
 use mathlib.Core.Path.{_≡_}
-use mathlib.Core.Bool.{true, false, _||_, not}
+use mathlib.Core.Bool.{true, false, _&&_, _||_, not}
 use Prim.Native.Nat.{ℕ, _*_, _/_, _%_, _^_, _≤_, _<_}
 use lib.Dec.{eqb}
 use Rattle.util.specs.Choice.{choose}
-use Rattle.util.specs.Bits.{field, extend}
+use Rattle.util.specs.Bits.{field, hasBit, extend}
 use Rattle.util.specs.Wrap.{sum, diff}
 use Rattle.util.specs.Diagram.{matches}
 use Rattle.arm64_insn.specs.Encoding.{addUnshifted, loadStore, ldrImmediate}
@@ -17,6 +17,7 @@ use Rattle.arm64_insn.specs.Reach.{pageImm, adrpReaches, within1mb}
 use Rattle.arm64_insn.specs.Adrp.{adrpOf, adrWord}
 use Rattle.arm64_insn.specs.Add.{addOf}
 use Rattle.arm64_insn.specs.LoadStore.{loadStoreFrom, loadStoreOf, loadStoreIn}
+use Rattle.arm64_insn.specs.LoadStoreSplit.{loadStoreBySplit}
 use Rattle.arm64_insn.specs.Literal.{hasLiteralForm, literalOpc, literalV, literalWord, Rebased, baseWord}
 use Rattle.arm64_insn.specs.Branch.{branchReaches, branchWord, helperWord}
 use Rattle.arm64_insn.specs.Stub.{stubWords, thunkWords}
@@ -47,6 +48,11 @@ pub record Words : Type 0 where
       → loadStoreOf w ≡ LoadStoreWord.LoadStore (loadStoreFrom w v rt rn imm12 (rowOf size v opc))
   pub load-store-decodes : (w : ℕ) (l : L.LoadStore) → loadStoreOf w ≡ LoadStoreWord.LoadStore l
       → decode w ≡ instruction (LDST (sizeIn w) (vIn w) (opcIn w) (l .reg) (l .base) (imm12In w))
+  -- RULES 7.34: split by bit 26, then the size, then bit 23, then bit 22, the class is the decoder's on every word, inside the class and outside it
+  pub load-store-split : (w : ℕ) → loadStoreOf w ≡ loadStoreBySplit w
+  -- RULES 7.20: LDRSW is marked where bit 26 is clear, the size is 10, bit 23 is set and bit 22 is clear
+  pub ldrsw-marked : (w : ℕ) (l : L.LoadStore) → loadStoreOf w ≡ LoadStoreWord.LoadStore l
+      → l .«is_ldrsw» ≡ (not (hasBit w 26) && (eqb (sizeIn w) 0b10 && (hasBit w 23 && not (hasBit w 22))))
   -- RULES 7.19: no decoder takes a word that the manual leaves unallocated
   pub unallocated-none : (w : ℕ) → allocated w ≡ false
       → (adrpOf w ≡ AdrpWord.Other) × (addOf w ≡ AddWord.Other) × (loadStoreOf w ≡ LoadStoreWord.Other)

@@ -2,9 +2,8 @@
 use Prim.Native.Nat.{ℕ, _+_, _^_}
 use mathlib.Core.Bool.{Bool}
 use mathlib.Core.List.{List, [], _∷_}
-use lib.Dec.{eqb}
 use Rattle.util.specs.Word.{le}
-use Rattle.util.specs.Bits.{field}
+use Rattle.util.specs.Bits.{hasBit}
 use Rattle.macho.specs.Record.{Field, _of_, bytesOf}
 use Rattle.macho.specs.declared.reloc.Reloc.{Reloc}
 
@@ -41,4 +40,4 @@ targetSection = 2 ^ 31
 
 -- whether a target has it: bit 31
 abbrev pub isSection : ℕ → Bool
-isSection target = eqb (field target 31 1) 1
+isSection target = hasBit target 31

@@ -4,7 +4,7 @@ use mathlib.Core.Bool.{Bool, _&&_, not}
 use mathlib.Core.List.{List, [], _∷_}
 use lib.Dec.{eqb, ltb}
 use Rattle.util.specs.Word.{le}
-use Rattle.util.specs.Bits.{field}
+use Rattle.util.specs.Bits.{hasBit}
 use Rattle.macho.specs.Record.{Field, _of_, bytesOf}
 use Rattle.macho.specs.declared.resolved.Resolved.{Resolved}
 
@@ -34,45 +34,41 @@ resolvedFields r =
 unfoldable pub resolvedBytes : Resolved → List ℕ
 resolvedBytes r = bytesOf (resolvedFields r)
 
--- flag bit n
-abbrev pub flagOf : ℕ → ℕ → Bool
-flagOf flags n = eqb (field flags n 1) 1
-
 -- bit 0: imported
 abbrev pub isImported : Resolved → Bool
-isImported r = flagOf (r .flags) 0
+isImported r = hasBit (r .flags) 0
 
 -- bit 1: thread-local
 abbrev pub isTls : Resolved → Bool
-isTls r = flagOf (r .flags) 1
+isTls r = hasBit (r .flags) 1
 
 -- bit 2: has address
 abbrev pub hasAddress : Resolved → Bool
-hasAddress r = flagOf (r .flags) 2
+hasAddress r = hasBit (r .flags) 2
 
 -- bit 3: GOT can be relaxed
 abbrev pub canRelaxGot : Resolved → Bool
-canRelaxGot r = flagOf (r .flags) 3
+canRelaxGot r = hasBit (r .flags) 3
 
 -- bit 4: thunk present
 abbrev pub hasThunk : Resolved → Bool
-hasThunk r = flagOf (r .flags) 4
+hasThunk r = hasBit (r .flags) 4
 
 -- bit 5: helper present
 abbrev pub hasHelper : Resolved → Bool
-hasHelper r = flagOf (r .flags) 5
+hasHelper r = hasBit (r .flags) 5
 
 -- bit 6: helper own
 abbrev pub helperIsOwn : Resolved → Bool
-helperIsOwn r = flagOf (r .flags) 6
+helperIsOwn r = hasBit (r .flags) 6
 
 -- bit 7: probe
 abbrev pub isProbe : Resolved → Bool
-isProbe r = flagOf (r .flags) 7
+isProbe r = hasBit (r .flags) 7
 
 -- bit 8: is-enabled
 abbrev pub isEnabled : Resolved → Bool
-isEnabled r = flagOf (r .flags) 8
+isEnabled r = hasBit (r .flags) 8
 
 -- no flag bit 9 or above, the last four bytes zero, not probe with is-enabled: what number 11 asks
 unfoldable pub wellFormed : Resolved → Bool

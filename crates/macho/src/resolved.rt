@@ -4,7 +4,8 @@ use util::read64;
 ghost use mathlib.Core.Path.{_≡_};
 ghost use Prim.Native.Nat.{_+_, _≤_, _<_};
 ghost use lib.ListN.{length};
-ghost use Rattle.macho.specs.Resolved.{resolvedSize, resolvedAt, flagOf, wellFormed};
+ghost use Rattle.util.specs.Bits.{hasBit};
+ghost use Rattle.macho.specs.Resolved.{resolvedSize, resolvedAt, wellFormed};
 ghost use Rattle.macho.specs.Resolved.{isImported, isTls, hasAddress, canRelaxGot, hasThunk, hasHelper, helperIsOwn, isProbe, isEnabled};
 
 // A resolved target, 48 bytes: address, GOT slot, branch target, thunk, helper, flags, four zero bytes.
@@ -40,7 +41,7 @@ impl Resolved {
     // Flag bit n.
     fn flag(self, n: u32) -> bool
         requires { ⌜ n < 32 ⌝ }
-        ensures { λ r. ⌜ r ≡ flagOf (self .flags) n ⌝ }
+        ensures { λ r. ⌜ r ≡ hasBit (self .flags) n ⌝ }
     {
         self.flags >> n & 1 == 1
     }

@@ -5,8 +5,9 @@ use Prim.Native.Nat.{ℕ, _<_}
 use native.Mathlib.Omega.{arith}
 use Rattle.macho.specs.MachRel.{formOf, typeOf}
 use Rattle.util.specs.Choice.{choose}
+use Rattle.util.specs.Bits.{hasBit}
 use Rattle.util.proofs.Below.{every, every-at}
-use Rattle.arch.specs.Form.{hasBit, bitsOf, fieldsFit}
+use Rattle.arch.specs.Form.{bitsOf, fieldsFit}
 use Rattle.arch.proofs.Forms.{has-member}
 use Rattle.arm64_reader.specs.Support.{formsOf, supportedOf}
 use borrow.Author.Needs.{needs}

@@ -5,8 +5,8 @@ use Prim.Native.Nat.{ℕ, _^_, _≤_, _<_}
 use native.Mathlib.Omega.{arith}
 use borrow.Author.Tests.{lt-ltb, eq-eqb, ne-eqb, ltb-true, ltb-false}
 use lib.Dec.{eqb, ltb}
-use Rattle.util.specs.Bits.{field}
-use Rattle.macho.specs.Resolved.{flagOf, wellFormed}
+use Rattle.util.specs.Bits.{field, hasBit}
+use Rattle.macho.specs.Resolved.{wellFormed}
 use Rattle.macho.proofs.resolved.Resolved.is_well_formed.Statement.{statement}
 use Rattle.macho.proofs.resolved.Resolved.is_well_formed.Tie as tie
 
@@ -19,21 +19,21 @@ and-true true = refl
 and-true false = refl
 
 -- not both of the bits
-apart : (f : ℕ) → f < 0x180 → (flagOf f 7 && flagOf f 8) ≡ false
+apart : (f : ℕ) → f < 0x180 → (hasBit f 7 && hasBit f 8) ≡ false
 apart f h = go (ltb f (2 ^ 8)) refl
   where
-    go : (b : Bool) → ltb f (2 ^ 8) ≡ b → (flagOf f 7 && flagOf f 8) ≡ false
-    go true e = let l = ltb-true f (2 ^ 8) e in simp (ne-eqb (field f 8 1) 1 (λ q. omega arith), and-false (flagOf f 7))
+    go : (b : Bool) → ltb f (2 ^ 8) ≡ b → (hasBit f 7 && hasBit f 8) ≡ false
+    go true e = let l = ltb-true f (2 ^ 8) e in simp (ne-eqb (field f 8 1) 1 (λ q. omega arith), and-false (hasBit f 7))
     go false e = let l = ltb-false f (2 ^ 8) e in simp (ne-eqb (field f 7 1) 1 (λ q. omega arith))
 
-let-through : (f : ℕ) (z : Bool) → f < 0x180 → z ≡ (ltb f (2 ^ 9) && (z && not (flagOf f 7 && flagOf f 8)))
+let-through : (f : ℕ) (z : Bool) → f < 0x180 → z ≡ (ltb f (2 ^ 9) && (z && not (hasBit f 7 && hasBit f 8)))
 let-through f z h = rw (lt-ltb f (2 ^ 9) (omega arith), apart f h) (and-true z)
 
 -- both of them, or a bit above
-turned-down : (f : ℕ) (z : Bool) → 0x180 ≤ f → (ltb f (2 ^ 9) && (z && not (flagOf f 7 && flagOf f 8))) ≡ false
+turned-down : (f : ℕ) (z : Bool) → 0x180 ≤ f → (ltb f (2 ^ 9) && (z && not (hasBit f 7 && hasBit f 8))) ≡ false
 turned-down f z h = go (ltb f (2 ^ 9)) refl
   where
-    go : (b : Bool) → ltb f (2 ^ 9) ≡ b → (ltb f (2 ^ 9) && (z && not (flagOf f 7 && flagOf f 8))) ≡ false
+    go : (b : Bool) → ltb f (2 ^ 9) ≡ b → (ltb f (2 ^ 9) && (z && not (hasBit f 7 && hasBit f 8))) ≡ false
     go true e =
         let l = ltb-true f (2 ^ 9) e in
         simp (e, eq-eqb (field f 7 1) 1 (omega arith), eq-eqb (field f 8 1) 1 (omega arith), and-false z)
