@@ -50,7 +50,7 @@ wordMoving (Of bytes stores ldrsw) w =
     })
 wordMoving Neither w = Other
 
--- a word as a load or store: the class first, since bit 26 tells the register file in it alone; then the split
+-- a word as a load or store: the class first, since outside it bit 26 need not tell a register file; then the split
 unfoldable pub loadStoreBySplit : ℕ → LoadStoreWord
 loadStoreBySplit w =
     choose (matches loadStore w) (wordMoving (accessBySplit (hasBit w 26) (sizeIn w) (hasBit w 23) (hasBit w 22)) w) Other
