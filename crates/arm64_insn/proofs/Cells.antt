@@ -17,9 +17,10 @@ each-cell f e size v opc hs hv ho =
     let eo : k % 4 ≡ opc = omega arith in
     rw (es, ev, eo) at (every-at (λ k. f (k / 8) (k / 4 % 2) (k % 4)) 32 e k (omega arith))
 
--- bit 23 is the high bit of opc, bit 22 the low one
+-- bit 23 is the high bit of opc
 pub opc-high : (w : ℕ) → field w 23 1 ≡ opcIn w / 2
 opc-high w = omega arith
 
+-- bit 22 is the low one
 pub opc-low : (w : ℕ) → field w 22 1 ≡ opcIn w % 2
 opc-low w = omega arith

@@ -38,6 +38,7 @@ same (Of m s x) Neither = false
 same Neither (Of n t y) = false
 same Neither Neither = true
 
+-- then they are equal
 same-is : (a b : Moved) → same a b ≡ true → a ≡ b
 same-is (Of m s x) (Of n t y) e =
     let p = both (eqb m n) (agree s t && agree x y) e in
@@ -80,7 +81,7 @@ module _ (w : ℕ) where
   moved-row : moved ≡ rowMoved (rowIn w)
   moved-row = rw (← opc-high w, ← opc-low w) at (split-cells (sizeIn w) (vIn w) (opcIn w) (omega arith) (omega arith) (omega arith))
 
-  -- and is then the load or store of its row
+  -- and is then the load or store of its row, or none where the row moves nothing
   by-row : (r : Row) → wordMoving (rowMoved r) w ≡ loadStoreBy r w
   unfolding choose
   by-row (load m g n x) = refl
@@ -95,12 +96,12 @@ module _ (w : ℕ) where
       ap (λ (x : LoadStoreWord). choose (matches loadStore w) x LoadStoreWord.Other)
       (sym (ap (λ (a : Moved). wordMoving a w) moved-row ∙ by-row (rowIn w)))
 
-  -- a word of the class is what it moves
+  -- a word of the class decodes as what it moves says
   pub split-moves : (a : Moved) → matches loadStore w ≡ true → moved ≡ a → loadStoreOf w ≡ wordMoving a w
   unfolding loadStoreBySplit
   split-moves a m e = load-store-split ∙ choose-true (matches loadStore w) _ _ m ∙ ap (λ (a : Moved). wordMoving a w) e
 
-  -- a decoded word is marked as LDRSW where its cell is
+  -- a decoded word is marked as LDRSW where bit 26 is clear, the size 10, bit 23 set and bit 22 clear
   pub ldrsw-marked : (l : L.LoadStore) → loadStoreOf w ≡ LoadStoreWord.LoadStore l
       → l .«is_ldrsw» ≡ ldrswAt (hasBit w 26) (sizeIn w) (hasBit w 23) (hasBit w 22)
   unfolding loadStoreBySplit

@@ -54,8 +54,8 @@ fn vector_access(size: u32, bit_23: bool, bit_22: bool) -> Moved
     Moved::Of(1, !bit_22, false)
 }
 
-// A general register: the size, then bit 23, then bit 22, which is clear in a store. With bit 23 set, size 11 is PRFM, which moves nothing, or
-// unallocated; size 10 is LDRSW, or unallocated where bit 22 is set; sizes 01 and 00 are loads that copy the sign.
+// A general register: the size, then bit 23, then bit 22. With bit 23 clear, bit 22 is clear in a store. With bit 23 set, size 11 is PRFM, which
+// moves nothing, or unallocated; size 10 is LDRSW, or unallocated where bit 22 is set; sizes 01 and 00 are loads that copy the sign.
 fn general_access(size: u32, bit_23: bool, bit_22: bool) -> Moved
     requires { ⌜ size < 4 ⌝ }
     ensures { λ r. ⌜ r ≡ generalAccess size «bit_23» «bit_22» ⌝ }
@@ -146,7 +146,8 @@ impl LoadStore {
     // Of Qt: opc 10, V 1.
     pub const LITERAL_Q: u32 = 0x9c;
 
-    // The Rust's parse_ldst. The class is asked first, since outside it bit 26 may be no V; inside it bit 26, the size, bit 23, bit 22.
+    // The Rust's parse_ldst, but for the unallocated words of RULES 7.19, and in an order of its own: the class first, since outside it bit 26
+    // may be no V; then bit 26, the size, bit 23, bit 22.
     pub fn decode(insn: u32) -> LoadStoreWord
         ensures { λ r. ⌜ r ≡ loadStoreOf insn ⌝ }
     {

@@ -48,7 +48,7 @@ pub record Words : Type 0 where
       → loadStoreOf w ≡ LoadStoreWord.LoadStore (loadStoreFrom w v rt rn imm12 (rowOf size v opc))
   pub load-store-decodes : (w : ℕ) (l : L.LoadStore) → loadStoreOf w ≡ LoadStoreWord.LoadStore l
       → decode w ≡ instruction (LDST (sizeIn w) (vIn w) (opcIn w) (l .reg) (l .base) (imm12In w))
-  -- RULES 7.34: split by bit 26, then the size, then bit 23, then bit 22, the class is the decoder's on every word, inside the class and outside it
+  -- RULES 7.34: the split by bit 26, then the size, then bit 23, then bit 22 answers what the decoder does, for every word, of the class or not
   pub load-store-split : (w : ℕ) → loadStoreOf w ≡ loadStoreBySplit w
   -- RULES 7.20: LDRSW is marked where bit 26 is clear, the size is 10, bit 23 is set and bit 22 is clear
   pub ldrsw-marked : (w : ℕ) (l : L.LoadStore) → loadStoreOf w ≡ LoadStoreWord.LoadStore l
