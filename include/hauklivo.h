@@ -4,7 +4,7 @@
  * For every input whose pieces don't overlap, a call touches nothing but what it is lent. A call that
  * is lent something returns 0 or the number of a refusal (enum hauklivo_number). A refused call changes
  * nothing that it was lent: no byte, no slot, no count, no tally. The calls that are lent nothing
- * (hauklivo_version, hauklivo_version_3, hauklivo_load_store_class) refuse nothing, and what they return
+ * (hauklivo_version, hauklivo_version_4, hauklivo_load_store_class) refuse nothing, and what they return
  * is no such number.
  *
  * Pieces that don't overlap: what a call may write (a section, an image, slots, bytes, a count, a
@@ -37,14 +37,14 @@ extern "C" {
  * also where it returns a number that is added with it: a program that makes the call does not link
  * with a library that was made before it, and any other program links with both and gets the same
  * answers. */
-#define HAUKLIVO_VERSION 3
+#define HAUKLIVO_VERSION 4
 
 /* The version of the library that is linked: HAUKLIVO_VERSION, unless it and this header are of
  * different versions. */
 uint32_t hauklivo_version(void);
 
 /* The same. Only a library of this version has the name: a program that calls it links with no other. */
-uint32_t hauklivo_version_3(void);
+uint32_t hauklivo_version_4(void);
 
 /* What a call that is lent something returns. */
 enum hauklivo_number {

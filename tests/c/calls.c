@@ -513,7 +513,7 @@ static void unallocated(uint32_t word, uint8_t size)
 static void version(void)
 {
     CHECK(hauklivo_version() == HAUKLIVO_VERSION);
-    CHECK(hauklivo_version_3() == HAUKLIVO_VERSION);
+    CHECK(hauklivo_version_4() == HAUKLIVO_VERSION);
 }
 
 int main(void)

@@ -384,7 +384,7 @@ fn lengths(index: u64, world: &World, table: &mut Table) -> Verdict {
 
 /// A second hint that names the ADRP of a first one.
 #[derive(Clone, Copy)]
-struct Second {
+pub struct Second {
     kind: u8,
     offsets: [u32; 3],
     /// How far the page of its own ADRP, if it has one, is from the first hint's.
@@ -405,7 +405,7 @@ const APART: [u32; 3] = [4, 16, 20];
 
 /// ADRP_ADRP with an ADRP before or after the first hint's; a hint of another kind with words of its own, in the end one
 /// over the last byte of the first hint's access; and hints that 9 turns down.
-const SECONDS: [Second; 12] = [
+pub const SECONDS: [Second; 12] = [
     second(1, [0, 4, 20], 0),
     second(1, [0, 4, 20], 0x1000),
     second(1, APART, 0),
@@ -426,7 +426,15 @@ fn one_adrp(index: u64, world: &World, table: &mut Table) -> Verdict {
     let mut first = Shape::new(d.pick(&[3, 5]));
     first.class = d.pick(&[LOADS.as_slice(), &STORES, &UNALLOCATED].concat());
     first.immediates[1] = d.next(2) as u32;
-    let (distance, Second { kind, offsets, page, is_past_end }) = (d.next(3), d.pick(&SECONDS));
+    let (distance, second, register) = (d.next(3), d.pick(&SECONDS), d.pick(&[1, 2]));
+    let (mut case, list) = with_second(first, distance, second, register);
+    in_order(&mut case, list, d.next(2), d.pick(&OBJECTS));
+    check(&case, world, table).map(|_| ())
+}
+
+/// A hint with its target at a distance, and a second one that names its ADRP and goes by a register.
+pub fn with_second(mut first: Shape, distance: usize, second: Second, register: u32) -> (Case, [HintRecord; 2]) {
+    let Second { kind, offsets, page, is_past_end } = second;
     let base = if is_past_end { 0x5000u64.wrapping_neg() } else { BASE };
     (first.page, first.addresses) = (base + 0x4000, [base, base + 4, base + 8]);
     place_at(&mut first, distance);
@@ -435,15 +443,22 @@ fn one_adrp(index: u64, world: &World, table: &mut Table) -> Verdict {
     if is_past_end {
         other.immediates[usize::from(kind != 2)] = 0xfff;
     }
-    (other.adrp, other.second[0]) = d.pick(&[(1, 1), (2, 2)]);
+    (other.adrp, other.second[0]) = (register, register);
     let mut case = Case::new(bytes(&[NOP; 6]), &[], &[]);
     // The first hint's words stand in the end, where both have one.
     let second = laid(&mut case, &other, offsets);
-    let mut list = [laid(&mut case, &first, [4, 8, 12]), second];
-    list.swap(0, d.next(2));
-    (list[0].object, list[1].object) = d.pick(&[(0, 0), (0, 1), (1, 0)]);
+    let first = laid(&mut case, &first, [4, 8, 12]);
+    (case, [first, second])
+}
+
+/// Objects of two hints.
+pub const OBJECTS: [(u32, u32); 3] = [(0, 0), (0, 1), (1, 0)];
+
+/// Sets a list of two hints, in either order.
+pub fn in_order(case: &mut Case, mut list: [HintRecord; 2], order: usize, objects: (u32, u32)) {
+    list.swap(0, order);
+    (list[0].object, list[1].object) = objects;
     case.set_list(&list);
-    check(&case, world, table).map(|_| ())
 }
 
 /// A hint whose words share bytes: each is laid over those before it, where its bytes can be theirs.
@@ -517,8 +532,8 @@ fn some_shape(rng: &mut Rng, address: u64) -> Shape {
         _ => rng.word() & 0x30,
     };
     shape.immediates = [immediate(rng), immediate(rng)];
-    let made = rng.pick(&[1, 1, 2, 31]);
-    let link = rng.pick(&[1, 1, 31, 0]);
+    let made = rng.pick(&[1, 1, 1, 1, 1, 2, 2, 31]);
+    let link = rng.pick(&[1, 1, 1, 1, 1, 0, 0, 31]);
     (shape.adrp, shape.second, shape.third) = (link, [link, made], [made, rng.word() & 31]);
     if [4, 6, 8].contains(&shape.kind) && rng.one_in(3) {
         shape.entries = [entry(8), entry(9), None];

@@ -4,10 +4,10 @@ use hauklivo::{HintRecord, Record};
 
 use crate::class::is_unallocated;
 use crate::differences::{Met, Of};
-use crate::hint_shape::{LDRSW, NOP};
+use crate::hint_shape::{LDR_X, LDRSW, NOP};
 use crate::hint_ways::{
-    Named, Way, access, as_taken, base, destination, has_literal_form, immediate, is_add, is_adrp, is_near, page_of,
-    rust_way, unpaired,
+    Named, Way, access, as_taken, base, destination, goes_by_31, has_literal_form, immediate, is_add, is_add_to_31,
+    is_adrp, is_near, page_of, rust_way, unpaired, words_of,
 };
 use crate::hints::{Answer, Case, DECLINED, REWRITTEN, SKIPPED, is_skipped, looked_at, named};
 use crate::lent::hex;
@@ -34,8 +34,12 @@ impl Step {
     }
 }
 
-/// By name, of a hint's kind and its words as they stand at its turn.
+/// By name, of a hint's kind and its words as they stand at its turn. The rows of number 31 stand before those of folds and
+/// of unallocated words, which hold of some of the same hints.
 const PREDICATES: &[(&str, fn(u8, &[Named]) -> bool)] = &[
+    ("adrp_to_31", adrp_to_31),
+    ("add_to_31", add_to_31),
+    ("got_load_into_31", got_load_into_31),
     ("add_ldr_folds_near_adrp", |kind, n| kind == 3 && folds_near_adrp(n) && !is_literal(n)),
     ("add_str_folds_near_adrp", |kind, n| kind == 5 && folds_near_adrp(n) && is_store(n)),
     ("unallocated_in_hint", unallocated_in_hint),
@@ -45,9 +49,32 @@ const PREDICATES: &[(&str, fn(u8, &[Named]) -> bool)] = &[
 const EXPECTED: &[(&str, fn(&[Named]) -> Step)] =
     &[("as_fold", |n| Step::rewritten(as_fold(n))), ("as_declined", |_| Step::left(DECLINED))];
 
+/// Whether an ADRP makes number 31, the next word goes by it, and the Rust does not decline. So of no ADRP_ADRP, which
+/// declines unless that word is an ADRP.
+fn adrp_to_31(kind: u8, n: &[Named]) -> bool {
+    let is_made = is_adrp(n[0].word) && destination(n[0].word) == 31;
+    is_made && goes_by_31(n[1].word) && is_worked(kind, n)
+}
+
+/// Whether the second word is an ADD to number 31, and the Rust does not decline.
+fn add_to_31(kind: u8, n: &[Named]) -> bool {
+    is_add_to_31(n[1].word) && is_worked(kind, n)
+}
+
+/// Whether the second word loads a GOT slot into number 31, the third goes by it, and the Rust does not decline.
+fn got_load_into_31(kind: u8, n: &[Named]) -> bool {
+    let is_made = n[1].word >> 22 == LDR_X && destination(n[1].word) == 31;
+    is_made && n.get(2).is_some_and(|n| goes_by_31(n.word)) && is_worked(kind, n)
+}
+
 /// Whether a word is unallocated and the Rust does not decline.
 fn unallocated_in_hint(kind: u8, n: &[Named]) -> bool {
-    n.iter().any(|n| is_unallocated(n.word)) && rust_way(kind, n).outcome() != DECLINED
+    n.iter().any(|n| is_unallocated(n.word)) && is_worked(kind, n)
+}
+
+/// Whether the Rust does not decline.
+fn is_worked(kind: u8, n: &[Named]) -> bool {
+    rust_way(kind, n).outcome() != DECLINED
 }
 
 /// What the Rust's rule makes of a hint.
@@ -202,7 +229,7 @@ fn walk(rows: &[Row], case: &Case, list: &[HintRecord], world: &World) -> Result
         if let Some(row) = row_of(rows, hint, &words) {
             due = end((row.expected)(&words));
             row.met.add(due != rust);
-            by_row[i] = Some(words.iter().map(|n| n.word).collect());
+            by_row[i] = Some(words_of(&words));
         }
         (outcomes[i], image) = due;
         tally[outcomes[i]] += 1;

@@ -4,35 +4,13 @@ use hauklivo::HintRecord;
 
 use crate::World;
 use crate::class::{NEIGHBOURS, UNALLOCATED, with_neighbours};
-use crate::hint_groups::place_at;
+use crate::hint_groups::{OBJECTS, in_order, place_at};
 use crate::hint_shape::{BASE, LOADS, NOP, Shape, bytes, laid};
-use crate::hint_ways::{Way, access, base, has_literal_form};
-use crate::hints::{Case, DECLINED, REWRITTEN, check};
+use crate::hint_ways::{RUST_ENDS, RustEnd, Way, access, base, has_literal_form};
+use crate::hints::{Case, REWRITTEN, check};
 use crate::rng::Digits;
 use crate::run::{Group, Verdict};
 use crate::table::Table;
-
-/// How the Rust ends a hint with an unallocated word.
-#[derive(Clone, Copy, PartialEq)]
-enum RustEnd {
-    Literal,
-    Adr,
-    Fold,
-    SlotLiteral,
-    FirstSum,
-    SecondSum,
-    Declined,
-}
-
-const RUST_ENDS: [(RustEnd, &str); 7] = [
-    (RustEnd::Literal, "literal load"),
-    (RustEnd::Adr, "ADR"),
-    (RustEnd::Fold, "ADD folded"),
-    (RustEnd::SlotLiteral, "literal load of the slot"),
-    (RustEnd::FirstSum, "9: page and offset"),
-    (RustEnd::SecondSum, "9: address and the access's offset"),
-    (RustEnd::Declined, "declined"),
-];
 
 /// The rows of the table of such hints: the word's bits 31..22, and the end.
 pub fn unallocated_ends() -> Vec<String> {
@@ -71,16 +49,7 @@ pub fn can_hold(row: usize, column: usize) -> bool {
 pub fn unallocated(kind: u8, place: usize, word: u32, rust: Way) -> Option<(usize, usize)> {
     let class = UNALLOCATED.iter().position(|&class| class == word >> 22)?;
     let column = HOLDERS.iter().position(|&held| held == (kind, place))?;
-    let end = match rust {
-        _ if rust.outcome() == DECLINED => RustEnd::Declined,
-        Way::Literal => RustEnd::Literal,
-        Way::Fold => RustEnd::Fold,
-        Way::SlotLiteral => RustEnd::SlotLiteral,
-        Way::FirstSum => RustEnd::FirstSum,
-        Way::SecondSum => RustEnd::SecondSum,
-        _ => RustEnd::Adr,
-    };
-    let row = RUST_ENDS.iter().position(|row| row.0 == end)?;
+    let row = RUST_ENDS.iter().position(|row| row.0 == RustEnd::of(rust))?;
     Some((class * RUST_ENDS.len() + row, column))
 }
 
@@ -114,7 +83,7 @@ const ACCESSED: [(u8, bool); 7] = [(2, false), (3, false), (4, false), (4, true)
 
 /// A hint's target in reach of the load, of the ADRP alone, or of neither; or in the last page of all, where an offset
 /// passes the end.
-fn place(shape: &mut Shape, offsets: [u32; 3], away: usize) {
+pub fn place(shape: &mut Shape, offsets: [u32; 3], away: usize) {
     let base = if away == 3 { LAST } else { BASE };
     (shape.page, shape.addresses) = (base + 0x4000, offsets.map(|offset| base + u64::from(offset)));
     place_at(shape, away % 3);
@@ -137,7 +106,7 @@ fn last_words(index: u64, world: &World, table: &mut Table) -> Verdict {
 
 /// What a first hint makes of the word at 0.
 #[derive(Clone, Copy, PartialEq)]
-enum Made {
+pub enum Made {
     Adr,
     Literal,
     Nop,
@@ -158,7 +127,7 @@ fn turns(index: u64, world: &World, table: &mut Table) -> Verdict {
     };
     let distance = d.pick(&distances);
     let (kind, is_relaxed) = d.pick(&ACCESSED);
-    let (order, objects, away) = (d.next(2), d.pick(&[(0, 0), (0, 1), (1, 0)]), d.next(4));
+    let (order, objects, away) = (d.next(2), d.pick(&OBJECTS), d.next(4));
     // The base of the last word: bits 14..10 of the distance, or 25.
     let link = if made == Made::Nop { base(NOP >> 8) } else { distance >> 10 & 31 };
     let mut second = Shape { is_relaxed, ..Shape::new(kind) };
@@ -167,17 +136,15 @@ fn turns(index: u64, world: &World, table: &mut Table) -> Verdict {
     place(&mut second, offsets, away);
     let mut case = Case::new(bytes(&[NOP; 6]), &[], &[]);
     let second = laid(&mut case, &second, offsets);
-    let mut list = [first(&mut case, made, distance, away == 3), second];
+    let first = first(&mut case, made, distance, away == 3);
     case.image[4] = last_byte;
-    list.swap(0, order);
-    (list[0].object, list[1].object) = objects;
-    case.set_list(&list);
+    in_order(&mut case, [first, second], order, objects);
     check(&case, world, table).map(|_| ())
 }
 
 /// A hint whose target is that far away: ADRP_ADD with its ADRP at 0, or ADRP_LDR with its load, of 16 bytes, or its ADRP
 /// there.
-fn first(case: &mut Case, made: Made, distance: u32, is_last: bool) -> HintRecord {
+pub fn first(case: &mut Case, made: Made, distance: u32, is_last: bool) -> HintRecord {
     let base = if is_last { LAST } else { BASE };
     let target = base + u64::from(distance);
     let (kind, unit, offsets) = match made {

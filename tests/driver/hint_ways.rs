@@ -13,12 +13,13 @@ pub enum Way {
     SecondAdrp, Literal, Adr, AdrSmall, AdrStore, AdrUnaligned, AdrLoadFar, Fold, FoldStore, FoldNear, FoldNearStore,
     SlotLiteral,
     FirstSum, SecondSum,
+    Number31,
     FirstEntry, SecondEntry, Targets, Addends, ThirdEntry,
     NoAdrp, NoSecond, NoAccess, NoStore, NoGotLoad, FirstLink, SecondLink, Pages,
     NoLiteralForm, Unaligned, Far, FarSlot, FarEnd, FoldUnaligned, FoldOffset,
 }
 
-pub const HINT_WAYS: [&str; 34] = [
+pub const HINT_WAYS: [&str; 35] = [
     "rewritten: the second ADRP is NOP",
     "rewritten: a literal load",
     "rewritten: ADR",
@@ -33,6 +34,7 @@ pub const HINT_WAYS: [&str; 34] = [
     "rewritten: a literal load of the slot",
     "9: page and offset",
     "9: address and the access's offset",
+    "declined: number 31 links two words, or ADD makes it",
     "declined: first entry no page",
     "declined: second entry no page offset",
     "declined: entries of other targets",
@@ -70,6 +72,43 @@ impl Way {
     }
 }
 
+/// How the Rust ends a hint of another kind than ADRP_ADRP.
+#[derive(Clone, Copy, PartialEq)]
+pub enum RustEnd {
+    Literal,
+    Adr,
+    Fold,
+    SlotLiteral,
+    FirstSum,
+    SecondSum,
+    Declined,
+}
+
+pub const RUST_ENDS: [(RustEnd, &str); 7] = [
+    (RustEnd::Literal, "literal load"),
+    (RustEnd::Adr, "ADR"),
+    (RustEnd::Fold, "ADD folded"),
+    (RustEnd::SlotLiteral, "literal load of the slot"),
+    (RustEnd::FirstSum, "9: page and offset"),
+    (RustEnd::SecondSum, "9: address and the access's offset"),
+    (RustEnd::Declined, "declined"),
+];
+
+impl RustEnd {
+    /// Of the way that `rust_way` tells.
+    pub fn of(way: Way) -> Self {
+        match way {
+            _ if way.outcome() == DECLINED => Self::Declined,
+            Way::Literal => Self::Literal,
+            Way::Fold | Way::FoldStore => Self::Fold,
+            Way::SlotLiteral => Self::SlotLiteral,
+            Way::FirstSum => Self::FirstSum,
+            Way::SecondSum => Self::SecondSum,
+            _ => Self::Adr,
+        }
+    }
+}
+
 /// Whether a hint of a kind can end in a way.
 #[rustfmt::skip]
 pub fn can_end(way: usize, kind: usize) -> bool {
@@ -93,10 +132,10 @@ pub fn can_end(way: usize, kind: usize) -> bool {
         _ => &[SlotLiteral, Adr, FirstSum, NoGotLoad, Far, FarSlot],
     };
     let all = [FirstEntry, SecondEntry, NoAdrp, NoSecond, FirstLink];
-    let pairs = [Targets, Addends];
+    let but_adrp_adrp = [Number31, Targets, Addends];
     let threes = [ThirdEntry, NoAccess, SecondLink, SecondSum];
     let holds = |list: &[Way]| list.iter().any(|&w| w as usize == way);
-    holds(ways) || holds(&all) || kind != 1 && holds(&pairs) || (3..=6).contains(&kind) && holds(&threes)
+    holds(ways) || holds(&all) || kind != 1 && holds(&but_adrp_adrp) || (3..=6).contains(&kind) && holds(&threes)
 }
 
 /// A word that a hint names, with its address and its entry.
@@ -159,6 +198,36 @@ pub fn has_literal_form(word: u32) -> bool {
     access(word).is_some_and(|(size, is_store)| size >= 4 && !is_store)
 }
 
+/// Whether a word makes general register 31: ADR, ADRP, ADD, or a load, by base or literal.
+fn makes_31(word: u32) -> bool {
+    let is_address = word >> 24 & 31 == 16;
+    let is_load = access(word).is_some_and(|(_, is_store)| !is_store);
+    // Where opc is 11, a literal one is a prefetch.
+    let is_literal = word >> 27 & 7 == 3 && word >> 24 & 3 == 0 && word >> 30 != 3;
+    let is_general = word >> 26 & 1 == 0;
+    destination(word) == 31 && (is_address || is_add(word) || is_general && (is_load || is_literal))
+}
+
+/// Whether a word is a load or store with base 31, or an ADD with source 31.
+pub fn goes_by_31(word: u32) -> bool {
+    base(word) == 31 && (access(word).is_some() || is_add(word))
+}
+
+/// Whether number 31 links a word to the next.
+pub fn is_linked_by_31(word: u32, next: u32) -> bool {
+    makes_31(word) && goes_by_31(next)
+}
+
+pub fn is_add_to_31(word: u32) -> bool {
+    is_add(word) && destination(word) == 31
+}
+
+/// Whether a hint of a kind declines for number 31: it links two words, or an ADD makes it.
+pub fn has_number_31(kind: u8, words: &[u32]) -> bool {
+    let is_linked = words.windows(2).any(|w| is_linked_by_31(w[0], w[1]));
+    kind != 1 && (is_linked || words.iter().any(|&word| is_add_to_31(word)))
+}
+
 /// Whether a type is a page's, of a GOT slot's alone if `got`.
 fn is_page(entry: Option<Reloc>, got: bool) -> bool {
     entry.is_some_and(|e| [5, 8].contains(&e.ty) || e.ty == 3 && !got)
@@ -194,8 +263,18 @@ fn when<T>(holds: bool, value: T) -> Result<(), T> {
     if holds { Err(value) } else { Ok(()) }
 }
 
+/// The words alone.
+pub fn words_of(n: &[Named]) -> Vec<u32> {
+    n.iter().map(|n| n.word).collect()
+}
+
 /// How the hint of a kind with its own count of words ends.
 pub fn way(kind: u8, n: &[Named]) -> Way {
+    if has_number_31(kind, &words_of(n)) { Way::Number31 } else { way_by_numbers(kind, n) }
+}
+
+/// How it ends where 31 is a number like any other.
+fn way_by_numbers(kind: u8, n: &[Named]) -> Way {
     let ended = match kind {
         1 => adrp_adrp(n),
         2 => adrp_ldr(n),
@@ -209,7 +288,7 @@ pub fn way(kind: u8, n: &[Named]) -> Way {
 /// How it ends in the Rust, but that a fold in ADR's reach is an ADR there.
 pub fn rust_way(kind: u8, n: &[Named]) -> Way {
     let taken: Vec<_> = n.iter().map(|n| Named { word: as_taken(n.word), ..*n }).collect();
-    way(kind, &taken)
+    way_by_numbers(kind, &taken)
 }
 
 type Ended = Result<Way, Way>;

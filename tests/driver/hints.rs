@@ -6,8 +6,9 @@ use hauklivo::{HintInsn, HintRecord, Record, Reloc, raw};
 
 use crate::answers::{HINTS, record};
 use crate::class::is_unallocated;
+use crate::hint_register31::{declined, record_number_31, stayed};
 use crate::hint_unallocated::{neighbour, unallocated};
-use crate::hint_ways::{Named, in_reach, rust_way, way};
+use crate::hint_ways::{Named, has_number_31, in_reach, rust_way, way, words_of};
 use crate::lent::{Lent, hex};
 use crate::rows::{HINT_NUMBERS, HintList, Rows};
 use crate::table::Table;
@@ -67,7 +68,7 @@ impl Answer {
     }
 
     /// The words, at its turn, of a hint of the list that ends so because a row of docs/DIFFERENCES.md says it.
-    fn ended_by_row(&self, i: usize, outcome: usize) -> Option<&[u32]> {
+    pub fn ended_by_row(&self, i: usize, outcome: usize) -> Option<&[u32]> {
         self.by_row.get(i)?.as_deref().filter(|_| self.outcomes[i] == outcome)
     }
 }
@@ -225,6 +226,7 @@ fn record_answer(case: &Case, answer: &Answer, table: &mut Table) {
     record_sharing(&list, &mut hit);
     record_folds(&list, answer, &mut hit);
     record_unallocated(case, &list, answer, &mut hit);
+    record_number_31(case, &list, answer, &mut hit);
     if let [hint] = list[..]
         && !is_skipped(&hint)
     {
@@ -250,6 +252,13 @@ fn record_single(case: &Case, hint: &HintRecord, answer: &Answer, table: &mut Ta
         if let Some((row, column)) = neighbour(hint.kind, place, n.word, way) {
             table.hit_cell(Rows::HintNeighbour as usize, row, column);
         }
+    }
+    let words = words_of(&words);
+    if let Some((row, column)) = declined(hint.kind, &words, rust) {
+        table.hit_cell(Rows::HintBy31 as usize, row, column);
+    }
+    for (row, column) in stayed(hint.kind, &words, way.outcome()) {
+        table.hit_cell(Rows::HintNotBy31 as usize, row, column);
     }
 }
 
@@ -308,7 +317,7 @@ fn record_sharing(list: &[HintRecord], hit: &mut impl FnMut(HintList)) {
 }
 
 /// Where the words that a hint looks at stand in the image.
-fn starts(hint: &HintRecord) -> Vec<u64> {
+pub fn starts(hint: &HintRecord) -> Vec<u64> {
     looked_at(hint).iter().map(|p| u64::from(hint.start) + u64::from(p.offset)).collect()
 }
 
@@ -348,15 +357,16 @@ fn record_folds(list: &[HintRecord], answer: &Answer, hit: &mut impl FnMut(HintL
     }
 }
 
-/// Hints that decline by a row of docs/DIFFERENCES.md, since a word is unallocated at their turn, and what other hints
-/// make of the words.
+/// Hints that decline by a row of docs/DIFFERENCES.md, since a word is unallocated at their turn, and not for number 31;
+/// and what other hints make of the words.
 fn record_unallocated(case: &Case, list: &[HintRecord], answer: &Answer, hit: &mut impl FnMut(HintList)) {
     for (i, hint) in list.iter().enumerate() {
         let lent = named(&case.image, &case.entries, hint);
         if answer.outcomes[i] == REWRITTEN && lent.iter().any(|n| is_unallocated(n.word)) {
             hit(HintList::UnallocatedNoMore);
         }
-        let Some(words) = answer.ended_by_row(i, DECLINED) else { continue };
+        let words = answer.ended_by_row(i, DECLINED);
+        let Some(words) = words.filter(|words| !has_number_31(hint.kind, words)) else { continue };
         for (lent, word) in lent.iter().zip(words) {
             match word >> 22 {
                 class if class == lent.word >> 22 => {}

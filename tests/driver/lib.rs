@@ -10,6 +10,7 @@ mod differences;
 mod fixup;
 mod fixup_groups;
 mod hint_groups;
+mod hint_register31;
 mod hint_shape;
 mod hint_steps;
 mod hint_unallocated;

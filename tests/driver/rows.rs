@@ -2,6 +2,7 @@
 
 use crate::class::{NEIGHBOURS, UNALLOCATED};
 use crate::hint_groups::{CLASSED, LIMITED};
+use crate::hint_register31::{can_decline, can_stay, reasons, stays};
 use crate::hint_unallocated::{can_be_neighbour, can_hold, holders, unallocated_ends};
 use crate::hint_ways::{FOLD_OR_ADR, HINT_WAYS, IN_REACH, can_end};
 use crate::table::Block;
@@ -36,6 +37,8 @@ pub enum Rows {
     HintInReach,
     HintUnallocated,
     HintNeighbour,
+    HintBy31,
+    HintNotBy31,
     HintBound,
     HintList,
     HintClass,
@@ -298,9 +301,11 @@ pub enum HintList {
     FoldOverlap, FoldSharedWord, FoldSharedBytes, FoldsOfOneAdrp, FoldThenDropped, FoldThenDeclined,
     FoldAndNine,
     UnallocatedNoMore, Made1f6, Made1f7, Made2f6, UnallocatedAndNine, UnallocatedSharedAdrp,
+    Made31Adrp, Made31Add, Made31GotLoad, No31Rewritten, No31Nine, By31AndNine, By31SharedAdrp, By31Dropped,
+    By31Skipped,
 }
 
-const HINT_LISTS: [&str; 23] = [
+const HINT_LISTS: [&str; 32] = [
     "empty list",
     "walked by the Rust's own apply_hints",
     "several objects",
@@ -324,6 +329,15 @@ const HINT_LISTS: [&str; 23] = [
     "a word of which an earlier hint made 2f6, unallocated: declined",
     "an unallocated word, and a hint turned down by 9",
     "an unallocated word, and another hint of its ADRP: rewritten",
+    "ADRP to 31, then by it, once an earlier hint has made a word: declined",
+    "ADD to 31, which an earlier hint has made: declined",
+    "GOT load into 31, then by it, once an earlier hint has made a word: declined",
+    "number 31 linked words, or ADD made it, before an earlier hint: rewritten",
+    "number 31 linked words, or ADD made it, before an earlier hint: by 9",
+    "declined for number 31, and a hint turned down by 9",
+    "declined for number 31, and another hint of its ADRP: rewritten",
+    "declined for number 31, and ADRP_ADRP of its ADRP: rewritten",
+    "skipped, with words that else decline for number 31",
 ];
 
 pub const HINT_BOUNDS: [&str; 10] = [
@@ -451,7 +465,7 @@ fn fixup_blocks() -> Vec<Block> {
     ]
 }
 
-fn hint_blocks() -> Vec<Block> {
+fn single_hint_blocks() -> Vec<Block> {
     let outcomes = ["rewritten", "skipped", "declined", "by 9"];
     vec![
         Block::list("Hints, calls by number", HINT_NUMBERS),
@@ -475,6 +489,18 @@ fn hint_blocks() -> Vec<Block> {
             2..7,
             can_be_neighbour,
         ),
+        Block::grid(
+            "Hints, single hints declined for number 31: what makes it, and the Rust's end, by kind",
+            reasons(),
+            2..9,
+            can_decline,
+        ),
+        Block::grid("Hints, single hints with number 31, not declined for it, by kind", stays(), 1..9, can_stay),
+    ]
+}
+
+fn hint_blocks() -> Vec<Block> {
+    vec![
         Block::list("Hints, bounds", HINT_BOUNDS),
         Block::list("Hints, lists", HINT_LISTS),
         Block::condensed("Hints, classes of bits 31..22 as each word of each kind", CLASSED.len() * 1024),
@@ -504,7 +530,7 @@ fn class_and_payload_blocks() -> Vec<Block> {
 }
 
 pub fn blocks() -> Vec<Block> {
-    let calls = [reader_blocks(), fixup_blocks(), hint_blocks(), class_and_payload_blocks()];
+    let calls = [reader_blocks(), fixup_blocks(), single_hint_blocks(), hint_blocks(), class_and_payload_blocks()];
     let blocks: Vec<_> = calls.into_iter().flatten().collect();
     assert!(blocks.len() == Rows::Count as usize);
     blocks

@@ -15,8 +15,8 @@ use crate::differences::Differences;
 use crate::rows::blocks;
 use crate::table::Table;
 use crate::{
-    Difference, Oracle, World, answers, class, fixup_groups, hint_groups, hint_unallocated, payload_groups,
-    reader_groups, stub,
+    Difference, Oracle, World, answers, class, fixup_groups, hint_groups, hint_register31, hint_unallocated,
+    payload_groups, reader_groups, stub,
 };
 
 pub type Verdict = Result<(), Difference>;
@@ -247,6 +247,7 @@ pub fn main(oracle: &Oracle) -> ExitCode {
         stub::groups,
         hint_groups::groups,
         hint_unallocated::groups,
+        hint_register31::groups,
         class::groups,
         payload_groups::groups,
     ];

@@ -12,6 +12,7 @@ use lib.Dec.{eqb, ltb, lit≤}
 use lib.ListN.{length, set, length-set}
 use Rattle.util.specs.Choice.{choose}
 use Rattle.util.specs.Word.{le}
+use Rattle.util.proofs.Choice.{and-false}
 use Rattle.util.proofs.Word.{le-set}
 use Rattle.macho.specs.Refusal.{first}
 use Rattle.macho.specs.Types.{ARM64-RELOC-SUBTRACTOR}
@@ -30,7 +31,7 @@ use Rattle.macho.specs.declared.refusal.Check.the-variants.{Fit, Refused}
 use Rattle.arm64_fixup_entry.specs.declared.change.Change.{Change}
 use Rattle.arm64_fixup_entry.proofs.Sound.{followed}
 use Rattle.arm64_fixup_entry.proofs.Seen.{check-seen, ofAddend, ofAddress, change-seen, check-same, change-same}
-use Rattle.arm64_fixup.proofs.Turns.{and-false, pair, check-taken, check-worked, passes, work-worked, work-taken}
+use Rattle.arm64_fixup.proofs.Turns.{pair, check-taken, check-worked, passes, work-worked, work-taken}
 
 -- only a SUBTRACTOR takes anything of them
 indifferent : (b : Bases) (i : ℕ) (e : Reloc) (t : Resolved) (n₁ n₂ : Reloc) (t₁ t₂ : Resolved) (word : ℕ) → subtracts (e .ty) ≡ false

@@ -1,6 +1,6 @@
 -- One turn of each walk: the entry at an index that no SUBTRACTOR takes, and with it the one that it takes.
 use mathlib.Core.Path.{_≡_, refl, sym, ap, _∙_, subst}
-use mathlib.Core.Bool.{Bool, true, false, _&&_}
+use mathlib.Core.Bool.{Bool, true, false}
 use mathlib.Core.List.{List}
 use mathlib.Core.Logic.{_⊎_, ⊎-elim}
 use Prim.Native.Nat.{ℕ, zero, suc, _+_, _-_, _≤_, _<_}
@@ -9,7 +9,7 @@ use native.Mathlib.Nat.{not-suc-le-zero, eq-or-lt-of-le, le-of-suc-le-suc}
 use lib.Dec.{eqb, lit<, lit≤}
 use lib.ListN.{length}
 use Rattle.util.specs.Choice.{choose}
-use Rattle.util.proofs.Choice.{chosen}
+use Rattle.util.proofs.Choice.{chosen, and-false}
 use Rattle.util.proofs.Word.{length-put}
 use Rattle.macho.specs.Refusal.{first}
 use Rattle.macho.specs.declared.reloc.Reloc.{Reloc}
@@ -26,10 +26,6 @@ use Rattle.arm64_fixup_entry.specs.declared.change.Write.the-variants.{Nothing,
 use Rattle.arm64_fixup_entry.proofs.Sound.{followed}
 
 -- ---- which entries are worked
-
-pub and-false : (b : Bool) → (b && false) ≡ false
-and-false true = refl
-and-false false = refl
 
 module _ (entries : List ℕ) (i : ℕ) (free : consumed entries i ≡ false) where
   -- an entry that takes no other is followed by one that is worked

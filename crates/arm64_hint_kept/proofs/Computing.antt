@@ -14,6 +14,7 @@ use Rattle.arm64_insn.specs.Adrp.{adrpOf, adrWord}
 use Rattle.arm64_insn.specs.Add.{addOf}
 use Rattle.arm64_insn.specs.LoadStore.{loadStoreOf}
 use Rattle.arm64_insn.specs.LoadStoreTable.{rowOf, literalRowOf}
+use Rattle.arm64_insn.specs.Links.{makes, takes, links31, adds31}
 use Rattle.arm64_insn.specs.Literal.{hasLiteralForm, literalOpc, literalV, literalWord, baseWord}
 use Rattle.arm64_hint_terms.specs.Rels.{relAt, isPageRel, isPageoffRel, sameReference, isAbsent, hasPagePair, bothPages}
 use Rattle.arm64_hint_terms.specs.Answer.{sumOf, fitsLiteral}
@@ -21,9 +22,9 @@ use Rattle.arm64_hint_adrp.specs.Two.{samePage, adrpAdrp, ldrSecond, ldrAtPage,
 use Rattle.arm64_hint_adrp.specs.Three.{addAccess, through, folds, foldThird, foldOrAdr, loadThrough, adrpAddLdr, adrpAddStr}
 use Rattle.arm64_hint_got.specs.Got.{loadsSlot, slotLoad, relaxedLoad, gotLoad, adrpLdrGot, slotTo, gotLiteral, foldLoad, adrOrFoldLoad, relaxedTo}
 use Rattle.arm64_hint_got.specs.Got.{relaxedLdr, adrpLdrGotLdr, relaxedStr, adrpLdrGotStr}
-use Rattle.arm64_hint_laws.specs.Decide.{decide}
+use Rattle.arm64_hint_laws.specs.Decide.{byRule, bars31, decide}
 use Rattle.arm64_machine.specs.Machine.{action, read, write, setX, setSP, setV, setMemory, listed, base, moved}
-use Rattle.arm64_machine.specs.Premises.{links31, adds31, storesMade}
+use Rattle.arm64_machine.specs.Premises.{storesMade}
 use Rattle.arm64_hint_places.specs.Hint.{isSkipped, insnsIn, insnsOf, relsOf}
 use Rattle.arm64_hint_check.specs.Check.{isList, checkLists, checkHint, checkTo, checkAll}
 use Rattle.arm64_hint_rules.specs.Rule.{hintOutcome}
@@ -44,7 +45,8 @@ unfoldable pub rules : Unit {0}
 unfolding
     isPageRel isPageoffRel sameReference isAbsent hasPagePair bothPages sumOf fitsLiteral samePage adrpAdrp ldrSecond ldrAtPage adrpLdr
     adrTo addAtPage adrpAdd addAccess through folds foldThird foldOrAdr loadThrough adrpAddLdr adrpAddStr loadsSlot slotLoad relaxedLoad gotLoad
-    adrpLdrGot slotTo gotLiteral foldLoad adrOrFoldLoad relaxedTo relaxedLdr adrpLdrGotLdr relaxedStr adrpLdrGotStr decide
+    adrpLdrGot slotTo gotLiteral foldLoad adrOrFoldLoad relaxedTo relaxedLdr adrpLdrGotLdr relaxedStr adrpLdrGotStr byRule
+    makes takes links31 adds31 bars31 decide
 rules = tt
 
 -- the run
@@ -56,5 +58,5 @@ runs = tt
 unfoldable pub machine : Unit {0}
 unfolding
     decode allocated literalRowOf adrTarget literalTarget accessAddress addValue action read write setX setSP setV setMemory listed base moved
-    links31 adds31 storesMade
+    storesMade
 machine = tt

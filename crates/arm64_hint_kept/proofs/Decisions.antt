@@ -1,13 +1,17 @@
--- Every decision of the hint rules keeps what a program does: each rewrite under the tests that its rule passed, by one law of the machine's words.
--- Declined and nine leave the words.
+-- Every decision of a hint keeps what a program does: each rewrite under the tests that its rule passed and where number 31 does not bar the hint, by one law
+-- of the machine's words. Declined and nine leave the words.
 use mathlib.Core.Path.{_≡_, sym, ap, _∙_}
+use mathlib.Core.Bool.{false}
+use mathlib.Core.List.{[], _∷_}
 use Prim.Native.Nat.{ℕ, _+_, _%_, _^_, _<_}
 use Rattle.util.specs.Choice.{choose}
+use Rattle.util.proofs.Choice.{split}
 use Rattle.macho.specs.Hint.{wordCount}
 use Rattle.arm64_insn.specs.Page.{adrpPage}
+use Rattle.arm64_insn.specs.Links.{meets31}
 use Rattle.arm64_insn.specs.declared.add.Add.{Add}
 use Rattle.arm64_insn.specs.declared.ldst.LoadStore.{LoadStore}
-use Rattle.arm64_hint_laws.specs.Decide.{decide}
+use Rattle.arm64_hint_laws.specs.Decide.{bars31, decide}
 use Rattle.arm64_hint_terms.specs.declared.answer.Insns.{Insns}
 use Rattle.arm64_hint_terms.specs.declared.answer.Rewrite.{Rewrite}
 use Rattle.arm64_hint_terms.specs.declared.answer.Rewrite.the-variants as R
@@ -37,61 +41,62 @@ reached : {s : Insns} {addr to : ℕ} {d : Add} {ls : LoadStore} (t : Adds s add
     → to ≡ adrpPage (t .adrp .imm) (s .p0) + d .imm + ls .offset
 reached {ls = ls} t a = a .made ∙ ap (λ (n : ℕ). n + ls .offset) (t .made)
 
--- two words
-module _ (s : Insns) (at : Addressed s) (fair : FairWords (placedOf 2 s)) where
-  drop : Cases.Drops s (Keeps 2 s)
-  drop p = Words.second-dropped (p .first) (p .second) (p .register) (p .page)
+-- two ADRPs
+drop : (s : Insns) → Cases.Drops s (Keeps 2 s)
+drop s p = Words.second-dropped (p .first) (p .second) (p .register) (p .page)
 
+-- two words that number 31 does not link
+module _ (s : Insns) (at : Addressed s) (apart : meets31 (s .w0 ∷ s .w1 ∷ []) ≡ false) (fair : FairWords (placedOf 2 s)) where
   literal-second : (r : Rewrite) → Cases.SecondLiteral s (Keeps 2 s) r
   literal-second r ld to l =
-      Words.literal-second fair (at .first) (at .second) (l .first) to (l .second) (l .base) (l .form) (l .made) (l .below) (l .aligned) (l .near)
+      Words.literal-second apart fair (at .first) (at .second) (l .first) to (l .second) (l .base) (l .form) (l .made) (l .below) (l .aligned) (l .near)
 
   adr-first : Cases.Makes-Adr s (Keeps 2 s)
-  adr-first d to m near = Words.adr-first fair (at .first) (at .second) (m .first) to (m .second) (m .source) (m .made) (m .below) near
+  adr-first d to m near = Words.adr-first apart fair (at .first) (at .second) (m .first) to (m .second) (m .source) (m .made) (m .below) near
 
--- three words
-module _ (s : Insns) (at : Addressed s) (fair : FairWords (placedOf 3 s)) where
+-- three such words
+module _ (s : Insns) (at : Addressed s) (apart : meets31 (s .w0 ∷ s .w1 ∷ s .w2 ∷ []) ≡ false) (fair : FairWords (placedOf 3 s)) where
   slot-second : Cases.Slots s (Keeps 3 s)
   slot-second ld slot a =
       let l = a .load in
-      Words.slot-second slot fair (l .first) (l .second) (a .third) (l .base) (a .base) (a .loading) (a .general) (l .form) (l .made) (l .below)
+      Words.slot-second slot apart fair (l .first) (l .second) (a .third) (l .base) (a .base) (a .loading) (a .general) (l .form) (l .made) (l .below)
       (l .aligned) (at .second) (l .near)
 
   literal-third : Cases.ThirdLiteral s (Keeps 3 s)
   literal-third d ls addr to t a form aligned near =
-      Words.literal-third fair (t .first) (t .second) (t .third) (t .source) (t .base) to form (reached t a) (a .below) aligned (at .third) near
+      Words.literal-third apart fair (t .first) (t .second) (t .third) (t .source) (t .base) to form (reached t a) (a .below) aligned (at .third) near
 
   adr-third : Cases.ThirdAdr s (Keeps 3 s)
   adr-third d ls addr to t a near =
-      Words.adr-third fair (t .first) (t .second) (t .third) (t .source) (t .base) to (reached t a) (a .below) (at .first) near
+      Words.adr-third apart fair (t .first) (t .second) (t .third) (t .source) (t .base) to (reached t a) (a .below) (at .first) near
 
   adr-kept : Cases.KeptAdr s (Keeps 3 s)
-  adr-kept d ls addr t near = Words.adr-kept fair (t .first) (t .second) (t .third) (t .source) (t .base) addr (t .made) (t .below) (at .first) near
+  adr-kept d ls addr t near = Words.adr-kept apart fair (t .first) (t .second) (t .third) (t .source) (t .base) addr (t .made) (t .below) (at .first) near
 
   fold : Cases.Folds s (Keeps 3 s)
   fold d ls addr offset t e lt h =
-      Words.folded fair (t .first) (t .second) (t .third) (t .source) (t .base) offset e lt (ap (λ (n : ℕ). n % ls .size) (sym (t .made)) ∙ h)
+      Words.folded apart fair (t .first) (t .second) (t .third) (t .source) (t .base) offset e lt (ap (λ (n : ℕ). n % ls .size) (sym (t .made)) ∙ h)
 
--- of a hint of a kind
+-- of a hint of a kind that number 31 does not bar
 abbrev Law : Insns → ℕ → Decision → Type 0
-Law s kind d = FairWords (placedOf (wordCount kind) s) → Keeps (wordCount kind) s d
+Law s kind d = bars31 kind s ≡ false → FairWords (placedOf (wordCount kind) s) → Keeps (wordCount kind) s d
 
 each-rule : (s : Insns) (r : Rels) → Addressed s → EachRule s r (Law s)
-unfolding wordCount choose
+unfolding bars31 wordCount choose
 each-rule s r at =
     record {
-      declined = λ kind fair. unchanged (placedOf (wordCount kind) s);
-      adrp-adrp = λ pages _ fair. Cases.adrp-adrp s (Keeps 2 s) same2 (drop s at fair) pages;
-      adrp-ldr = λ pair _ fair. Cases.adrp-ldr s (Keeps 2 s) same2 same2 (literal-second s at fair R.Literal) pair;
-      adrp-add-ldr = λ pair _ fair.
-          Cases.adrp-add-ldr s (Keeps 3 s) same3 same3 (fold s at fair) (adr-third s at fair) (literal-third s at fair) pair;
-      adrp-ldr-got-ldr = λ pair _ fair.
-          Cases.adrp-ldr-got-ldr s (Keeps 3 s) same3 same3 (fold s at fair) (adr-kept s at fair) (slot-second s at fair) (literal-third s at fair) pair;
-      adrp-add-str = λ pair _ fair. Cases.adrp-add-str s (Keeps 3 s) same3 same3 (fold s at fair) (adr-third s at fair) pair;
-      adrp-ldr-got-str = λ pair _ fair.
-          Cases.adrp-ldr-got-str s (Keeps 3 s) same3 same3 (fold s at fair) (adr-kept s at fair) (slot-second s at fair) pair;
-      adrp-add = λ pair _ fair. Cases.adrp-add s (Keeps 2 s) same2 (adr-first s at fair) pair;
-      adrp-ldr-got = λ pair _ fair. Cases.adrp-ldr-got s (Keeps 2 s) same2 (adr-first s at fair) same2 (literal-second s at fair R.Slot) pair;
+      declined = λ kind _ fair. unchanged (placedOf (wordCount kind) s);
+      adrp-adrp = λ pages _ _ fair. Cases.adrp-adrp s (Keeps 2 s) same2 (drop s) pages;
+      adrp-ldr = λ pair _ n fair. Cases.adrp-ldr s (Keeps 2 s) same2 same2 (literal-second s at n fair R.Literal) pair;
+      adrp-add-ldr = λ pair _ n fair.
+          Cases.adrp-add-ldr s (Keeps 3 s) same3 same3 (fold s at n fair) (adr-third s at n fair) (literal-third s at n fair) pair;
+      adrp-ldr-got-ldr = λ pair _ n fair.
+          Cases.adrp-ldr-got-ldr s (Keeps 3 s) same3 same3 (fold s at n fair) (adr-kept s at n fair) (slot-second s at n fair) (literal-third s at n fair) pair;
+      adrp-add-str = λ pair _ n fair. Cases.adrp-add-str s (Keeps 3 s) same3 same3 (fold s at n fair) (adr-third s at n fair) pair;
+      adrp-ldr-got-str = λ pair _ n fair.
+          Cases.adrp-ldr-got-str s (Keeps 3 s) same3 same3 (fold s at n fair) (adr-kept s at n fair) (slot-second s at n fair) pair;
+      adrp-add = λ pair _ n fair. Cases.adrp-add s (Keeps 2 s) same2 (adr-first s at n fair) pair;
+      adrp-ldr-got = λ pair _ n fair. Cases.adrp-ldr-got s (Keeps 2 s) same2 (adr-first s at n fair) same2 (literal-second s at n fair R.Slot) pair;
     }
   where
     same2 : CloseRun (placedOf 2 s) (placedOf 2 s)
@@ -102,4 +107,8 @@ each-rule s r at =
 
 -- THE LAW of the decisions: fair words run as what is decided of them, for every kind and whatever the entries say
 pub decided : (kind : ℕ) (s : Insns) (r : Rels) → Addressed s → FairWords (placedOf (wordCount kind) s) → Keeps (wordCount kind) s (decide kind s r)
-decided kind s r at = Cases.by-kind s r (Law s) (each-rule s r at) kind
+unfolding decide
+decided kind s r at fair =
+    split (Keeps (wordCount kind) s) (bars31 kind s) _ _
+    (λ _. unchanged (placedOf (wordCount kind) s))
+    (λ n. Cases.by-rule s r (Law s) (each-rule s r at) kind n fair)

@@ -14,3 +14,4 @@ pub mod ExampleRuns
 pub mod ExampleCalls
 pub mod Needed
 pub mod Unallocated
+pub mod Number31

@@ -26,7 +26,7 @@ value (a ∷ log) = a .value
 
 -- disjoint: ADRP_ADRP that names one word twice blanks it
 pub one-word-twice : Fails pair (hintIn 1 0 0 4 (place 0 0 0x1000) (place 0 0 0x1000) none-at) (0x90000000 ∷ [])
-    (false ∷ true ∷ true ∷ true ∷ true ∷ []) (0xd503201f ∷ [])
+    (false ∷ true ∷ true ∷ []) (0xd503201f ∷ [])
 unfolding runs machine
 one-word-twice = record {
   premises = refl;
@@ -42,7 +42,7 @@ one-word-shared d = d .0 0 refl refl
 
 -- aligned: from 0x1006 no literal load reaches a multiple of 4
 pub unaligned : Fails pair (hintIn 2 0 0 8 (place 0 0 0x1002) (place 4 1 0x1006) none-at) (0x90000000 ∷ 0x3ded9c01 ∷ [])
-    (true ∷ false ∷ true ∷ true ∷ true ∷ []) (0xd503201f ∷ 0x9c05b341 ∷ [])
+    (true ∷ false ∷ true ∷ []) (0xd503201f ∷ 0x9c05b341 ∷ [])
 unfolding runs machine
 unaligned = record {
   premises = refl;
@@ -51,31 +51,9 @@ unaligned = record {
   differ = λ same. let z : _≡_ {A = ℕ} 0xc671 0xc66f = ap address (same .agree idle start .log) in omega arith;
 }
 
--- no link by 31: adrp xzr; ldr s1, [sp]
-pub linked-by-31 : Fails pair (hintIn 2 0 0 8 (place 0 0 0x1000) (place 4 1 0x1004) none-at) (0x9000001f ∷ 0xbd4003e1 ∷ [])
-    (true ∷ true ∷ false ∷ true ∷ true ∷ []) (0xd503201f ∷ 0x1cffffe1 ∷ [])
-unfolding runs machine
-linked-by-31 = record {
-  premises = refl;
-  done = refl;
-  leaves = refl;
-  differ = λ same. let z : _≡_ {A = ℕ} 0x2001 0x1001 = ap address (same .agree idle start .log) in omega arith;
-}
-
--- no ADD to 31: add sp, x0, #16 becomes an ADR to xzr
-pub added-to-31 : Fails pair (hintIn 7 0 0 8 (place 0 0 0x1000) (place 4 1 0x1004) none-at) (0xd0000340 ∷ 0x9100401f ∷ [])
-    (true ∷ true ∷ true ∷ false ∷ true ∷ []) (0x1035009f ∷ 0xd503201f ∷ [])
-unfolding runs machine
-added-to-31 = record {
-  premises = refl;
-  done = refl;
-  leaves = refl;
-  differ = λ same. let z : _≡_ {A = ℕ} 0x6b010 0x2000 = same .agree idle start .sp in omega arith;
-}
-
 -- no store of what was made: str x0, [x2] stores what ADRP made
 pub made-and-stored : Fails gotPair (hintIn 6 0 0 12 (place 0 0 0x1000) (place 4 1 0x1004) (place 8 noEntry 0x1008)) (0x90000000 ∷ 0x91004002 ∷ 0xf9000040 ∷ [])
-    (true ∷ true ∷ true ∷ true ∷ false ∷ []) (0x10000082 ∷ 0xd503201f ∷ 0xf9000040 ∷ [])
+    (true ∷ true ∷ false ∷ []) (0x10000082 ∷ 0xd503201f ∷ 0xf9000040 ∷ [])
 unfolding runs machine
 made-and-stored = record {
   premises = refl;

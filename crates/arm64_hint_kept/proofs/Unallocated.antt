@@ -21,7 +21,7 @@ use Rattle.arm64_hint_places.specs.Hint.{insnsIn}
 use Rattle.arm64_hint_rules.specs.Rule.{hintOutcome}
 use Rattle.arm64_hint_rules.specs.declared.outcome.HintOutcome.the-variants.{Worked}
 use Rattle.arm64_hint_work.specs.Step.{placesOf}
-use Rattle.arm64_hint_run.proofs.Unallocated.{declined}
+use Rattle.arm64_hint_run.proofs.Declines.{unallocated-declined}
 use Rattle.arm64_hint_kept.specs.HintsKept.{codes}
 use Rattle.arm64_hint_kept.specs.Unallocated.{UnallocatedDecline}
 use Rattle.arm64_hint_kept.proofs.Computing.{runs}
@@ -42,7 +42,7 @@ module _ (h : HintRecord) (x : List ℕ) where
     where
       go : (t : Bool) → anyUnallocated (wordsAt (placesOf h) x) ≡ t → t ≡ false
       go false f = refl
-      go true f = let d = declined h x entries f in never (cc)
+      go true f = let d = unallocated-declined h x entries f in never (cc)
 
 pub unallocated-decline : UnallocatedDecline
 unfolding runs

@@ -70,6 +70,15 @@ pages = half ARM64-RELOC-PAGE21 ++ half ARM64-RELOC-PAGE21
 abbrev pub counts : (rewritten skipped declined down : ℕ) → Tally
 counts rewritten skipped declined down = record { rewritten = rewritten; skipped = skipped; declined = declined; «turned_down» = down }
 
+-- a run of one hint of a kind with the words ws, the first at address p, is counted as t and leaves the words new
+pub record Ends (entries : List ℕ) (kind p : ℕ) (ws : List ℕ) (t : Tally) (new : List ℕ) : Type 0 where
+  pub done : runOf (words ws) (lent (single kind p (length ws))) entries ≡ Done t
+  pub leaves : imageOf (words ws) (lent (single kind p (length ws))) entries ≡ words new
+
+-- it declines
+abbrev pub Declines : List ℕ → ℕ → ℕ → List ℕ → Type 0
+Declines entries kind p ws = Ends entries kind p ws (counts 0 0 1 0) ws
+
 -- which rewrite an outcome is
 abbrev pub rewriteIn : HintOutcome → Option Rewrite
 rewriteIn Skipped = none

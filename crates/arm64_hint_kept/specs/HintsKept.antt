@@ -56,8 +56,7 @@ Alone hints = Runs.Alone (hintCount hints) (λ k. wordBytes (hintOf hints k))
 
 -- ---- the statement
 
--- what is supposed of a hint's words in an image: they share no byte, and are fair (arm64_machine, FairWords: aligned, no-31-link, no-31-added,
--- no-store)
+-- what is supposed of a hint's words in an image: they share no byte, and are fair (arm64_machine, FairWords: aligned, no-store)
 pub record Fair (h : HintRecord) (image : List ℕ) : Type 0 where
   pub disjoint : Disjoint (placesOf h)
   pub words : FairWords (codes h image)
@@ -84,8 +83,8 @@ pub record HintsKept (image hints entries l : List ℕ) (t : Tally) : Type 0 whe
 
 -- ---- the claim with every premise (RULES 1.9 to 1.13)
 
--- every premise (RULES 9.12 to 9.20) on a sequence and its run from state s, also those that Fair leaves out (arm64_machine, WordPremises: the
--- four of FairWords, empty-at-first, allocated, none-data, no-sum-passes and no-vector-link)
+-- every premise (RULES 9.12 to 9.14, 9.17 to 9.20) on a sequence and its run from state s, also those that Fair leaves out (arm64_machine, WordPremises:
+-- the two of FairWords, empty-at-first, allocated, none-data, no-sum-passes and no-vector-link)
 pub record Premises (h : HintRecord) (image : List ℕ) (o : Other) (s : State) : Type 0 where
   pub disjoint : Disjoint (placesOf h)
   pub words : WordPremises (codes h image) o s

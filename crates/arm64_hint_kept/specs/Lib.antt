@@ -8,3 +8,4 @@ pub mod Examples
 pub mod ExampleRuns
 pub mod Needed
 pub mod Unallocated
+pub mod Number31

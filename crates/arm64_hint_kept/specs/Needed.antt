@@ -1,4 +1,4 @@
--- That a premise is needed (RULES 9.21): what an example shows that meets all the others of 9.12 and 9.14 to 9.17, and is rewritten.
+-- That a premise is needed (RULES 9.21): what an example shows that meets all the others of 9.12, 9.14 and 9.17, and is rewritten.
 use mathlib.Core.Path.{_≡_}
 use mathlib.Core.Bool.{Bool}
 use mathlib.Core.List.{List, [], _∷_}
@@ -13,8 +13,8 @@ use Rattle.arm64_hint_kept.specs.HintsKept.{Alone, KeepsOrder, PartsApar
 use Rattle.arm64_hint_kept.specs.Tests.{tests, all-true}
 use Rattle.arm64_hint_kept.specs.Examples.{words, place, none-at, hintIn, lent, pair, counts}
 
--- a run of one hint h with the words ws: the tests of the premises come out as `holds` says (disjoint, aligned, no link by 31, no ADD to 31, no store
--- of what was made), the hint is rewritten, and the new words do not run as the old ones
+-- a run of one hint h with the words ws: the tests of the premises come out as `holds` says (disjoint, aligned, no store of what was made), the hint is
+-- rewritten, and the new words do not run as the old ones
 pub record Fails (entries : List ℕ) (h : HintRecord) (ws : List ℕ) (holds : List Bool) (new : List ℕ) : Type 0 where
   pub premises : tests (hintOf (lent (h ∷ [])) 0) (words ws) ≡ holds
   pub done : runOf (words ws) (lent (h ∷ [])) entries ≡ Done (counts 1 0 0 0)
@@ -31,7 +31,7 @@ shared = words (0x90000000 ∷ 0xf9400401 ∷ 0x91000c02 ∷ [])
 abbrev pub sharing : ℕ → ℕ → List HintRecord
 sharing i j = hintIn 2 i 0 12 (place 0 0 0x1000) (place 4 1 0x1004) none-at ∷ hintIn 7 j 0 12 (place 0 0 0x1000) (place 8 1 0x1008) none-at ∷ []
 
--- Alone: the first hint blanks the ADRP, the second declines, and its words, which meet the premises of RULES 9.12 and 9.14 to 9.17, no longer make x2
+-- Alone: the first hint blanks the ADRP, the second declines, and its words, which meet the premises of RULES 9.12, 9.14 and 9.17, no longer make x2
 pub record Shared : Type 0 where
   pub premises : tests (hintOf (lent (sharing 0 0)) 1) shared ≡ all-true
   pub done : runOf shared (lent (sharing 0 0)) pair ≡ Done (counts 1 0 1 0)

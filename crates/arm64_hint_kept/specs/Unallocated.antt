@@ -1,21 +1,6 @@
 -- Hints with a word that the manual leaves unallocated (RULES 7.19, 8.34): they decline, where the load beside it in the manual's table is rewritten or nine.
-use mathlib.Core.Path.{_≡_}
-use mathlib.Core.List.{List, [], _∷_}
-use Prim.Native.Nat.{ℕ}
-use lib.ListN.{length}
-use Rattle.arm64_hint_work.specs.declared.tally.Tally.{Tally}
-use Rattle.arm64_hint_run.specs.Run.{runOf, imageOf}
-use Rattle.arm64_hint_run.specs.declared.run.RunAnswer.the-variants.{Done}
-use Rattle.arm64_hint_kept.specs.Examples.{words, lent, single, pair, gotPair, counts}
-
--- a run of one hint of a kind with the words ws, the first at address p, is counted as t and leaves the words new
-pub record Ends (entries : List ℕ) (kind p : ℕ) (ws : List ℕ) (t : Tally) (new : List ℕ) : Type 0 where
-  pub done : runOf (words ws) (lent (single kind p (length ws))) entries ≡ Done t
-  pub leaves : imageOf (words ws) (lent (single kind p (length ws))) entries ≡ words new
-
--- it declines
-abbrev pub Declines : List ℕ → ℕ → ℕ → List ℕ → Type 0
-Declines entries kind p ws = Ends entries kind p ws (counts 0 0 1 0) ws
+use mathlib.Core.List.{[], _∷_}
+use Rattle.arm64_hint_kept.specs.Examples.{pair, gotPair, counts, Ends, Declines}
 
 -- hints with each of the three words that the Rust takes as loads (arm64_ldst_class/specs/Rust), each beside the same hint with a load of the manual
 pub record UnallocatedDecline : Type 0 where

@@ -7,6 +7,7 @@ use native.Mathlib.Omega.{arith}
 use borrow.Author.Tests.{eq-eqb, lt-ltb}
 use lib.Dec.{eqb}
 use Rattle.util.specs.Choice.{choose}
+use Rattle.macho.specs.Hint.{wordCount}
 use Rattle.macho.specs.Types.{MCLOH-AdrpLdrGotLdr, MCLOH-AdrpLdrGotStr}
 use Rattle.arm64_insn.specs.Reach.{within1mb}
 use Rattle.arm64_insn.specs.Add.{addOf}
@@ -27,7 +28,7 @@ use Rattle.arm64_hint_terms.specs.declared.rels.Rels.{Rels}
 use Rattle.arm64_hint_terms.proofs.Ways.{never}
 use Rattle.arm64_hint_got.specs.Got.{relaxedLoad, gotLoad, adrOrFoldLoad, relaxedTo, relaxedLdr, adrpLdrGotLdr, relaxedStr, adrpLdrGotStr}
 use Rattle.arm64_hint_got.specs.declared.GotLoad.the-variants as G
-use Rattle.arm64_hint_laws.specs.Decide.{decide}
+use Rattle.arm64_hint_laws.specs.Decide.{byRule, bars31, decide}
 use Rattle.arm64_hint_laws.specs.RustOrder.{AdrFits}
 
 -- an ADD is no load or store
@@ -57,24 +58,25 @@ module _ (s : Insns) (r : Rels) (d : Add) (addr : ℕ) (ls : LoadStore) (f : Adr
 
   -- kind 6: a store
   pub got-str-adr : ls .«is_store» ≡ true → decide MCLOH-AdrpLdrGotStr s r ≡ adrFirst s (ls .base) addr
-  unfolding decide adrpLdrGotStr relaxedStr choose
-  got-str-adr st = rw (f .pair, f .words .third, st, relaxed, eq-eqb (d .rd) (ls .base) (sym (f .words .base)), f .reach)
+  unfolding decide bars31 byRule wordCount adrpLdrGotStr relaxedStr choose
+  got-str-adr st = rw (f .no-31, f .pair, f .words .third, st, relaxed, eq-eqb (d .rd) (ls .base) (sym (f .words .base)), f .reach)
 
   -- kind 4: what has no literal form, and an address that is no multiple of 4
   pub got-ldr-adr : (hasLiteralForm ls && eqb (addr % 4) 0) ≡ false → decide MCLOH-AdrpLdrGotLdr s r ≡ adrFirst s (ls .base) addr
-  unfolding decide adrpLdrGotLdr relaxedLdr adrOrFoldLoad choose
-  got-ldr-adr e = rw (f .pair, f .words .third, relaxed, eq-eqb (d .rd) (ls .base) (sym (f .words .base)), e, f .reach)
+  unfolding decide bars31 byRule wordCount adrpLdrGotLdr relaxedLdr adrOrFoldLoad choose
+  got-ldr-adr e = rw (f .no-31, f .pair, f .words .third, relaxed, eq-eqb (d .rd) (ls .base) (sym (f .words .base)), e, f .reach)
 
   -- and what a literal load does not reach
   pub got-ldr-adr-far : addr + ls .offset < 2 ^ 64 → within1mb (s .p2) (addr + ls .offset) ≡ false
       → decide MCLOH-AdrpLdrGotLdr s r ≡ adrFirst s (ls .base) addr
-  unfolding decide adrpLdrGotLdr relaxedLdr relaxedTo adrOrFoldLoad sumOf choose
+  unfolding decide bars31 byRule wordCount adrpLdrGotLdr relaxedLdr relaxedTo adrOrFoldLoad sumOf choose
   got-ldr-adr-far below far = far-by (hasLiteralForm ls && eqb (addr % 4) 0) refl
     where
       far-by : (b : Bool) → (hasLiteralForm ls && eqb (addr % 4) 0) ≡ b → decide MCLOH-AdrpLdrGotLdr s r ≡ adrFirst s (ls .base) addr
       far-by false e = got-ldr-adr e
       far-by true e =
           rw (
+            f .no-31,
             f .pair,
             f .words .third,
             relaxed,

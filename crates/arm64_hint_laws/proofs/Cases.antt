@@ -34,7 +34,7 @@ use Rattle.arm64_hint_adrp.specs.Two.{samePage, adrpAdrpWith, adrpAdrp, ldrSeco
 use Rattle.arm64_hint_adrp.specs.Three.{through, folds, foldThird, foldOrAdr, loadThrough, adrpAddLdrWith, adrpAddLdr, adrpAddStrWith, adrpAddStr}
 use Rattle.arm64_hint_got.specs.Got.{gotLoad, adrpLdrGotWith, adrpLdrGot, slotTo, gotLiteral, foldLoad, adrOrFoldLoad, relaxedTo, relaxedLdr}
 use Rattle.arm64_hint_got.specs.Got.{gotLdrBy, gotLdrWith, adrpLdrGotLdr, relaxedStr, gotStrBy, gotStrWith, adrpLdrGotStr}
-use Rattle.arm64_hint_laws.specs.Decide.{decide}
+use Rattle.arm64_hint_laws.specs.Decide.{byRule, bars31, decide}
 use Rattle.arm64_hint_terms.specs.declared.answer.Insns.{Insns}
 use Rattle.arm64_hint_terms.specs.declared.answer.Rewrite.{Rewrite}
 use Rattle.arm64_hint_terms.specs.declared.answer.Rewrite.the-variants as R
@@ -421,10 +421,10 @@ pub record EachRule (s : Insns) (r : Rels) (P : ℕ → Decision → Type 0) : T
   pub adrp-add : (pair : Bool) → hasPagePair r 2 false ≡ pair → P MCLOH-AdrpAdd (adrpAdd s pair)
   pub adrp-ldr-got : (pair : Bool) → hasPagePair r 2 true ≡ pair → P MCLOH-AdrpLdrGot (adrpLdrGot s pair)
 
--- every decision, by its kind
-pub by-kind : (s : Insns) (r : Rels) (P : ℕ → Decision → Type 0) → EachRule s r P → (kind : ℕ) → P kind (decide kind s r)
-unfolding decide
-by-kind s r P e kind =
+-- what a rule decides, by its kind
+pub by-rule : (s : Insns) (r : Rels) (P : ℕ → Decision → Type 0) → EachRule s r P → (kind : ℕ) → P kind (byRule kind s r)
+unfolding byRule
+by-rule s r P e kind =
     split (P kind) (eqb kind MCLOH-AdrpAdrp) _ _ (at MCLOH-AdrpAdrp (e .adrp-adrp (bothPages r) refl)) (λ _.
     split (P kind) (eqb kind MCLOH-AdrpLdr) _ _ (at MCLOH-AdrpLdr (e .adrp-ldr (hasPagePair r 2 false) refl)) (λ _.
     split (P kind) (eqb kind MCLOH-AdrpAddLdr) _ _ (at MCLOH-AdrpAddLdr (e .adrp-add-ldr (hasPagePair r 3 false) refl)) (λ _.
@@ -437,3 +437,8 @@ by-kind s r P e kind =
   where
     at : (k : ℕ) {d : Decision} → P k d → eqb kind k ≡ true → P kind d
     at k {d} p h = subst (λ (k : ℕ). P k d) (sym (eqb-true kind k h)) p
+
+-- every decision, by its kind: where number 31 does not bar the hint, what the rule decides
+pub by-kind : (s : Insns) (r : Rels) (P : ℕ → Decision → Type 0) → EachRule s r P → (kind : ℕ) → P kind (decide kind s r)
+unfolding decide
+by-kind s r P e kind = split (P kind) (bars31 kind s) Declined (byRule kind s r) (λ _. e .declined kind) (λ _. by-rule s r P e kind)

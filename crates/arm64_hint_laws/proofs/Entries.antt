@@ -8,7 +8,7 @@ use Rattle.arm64_hint_terms.specs.declared.answer.Insns.{Insns}
 use Rattle.arm64_hint_terms.specs.declared.rels.Rel.{Rel}
 use Rattle.arm64_hint_terms.specs.declared.rels.Rel.the-variants.{Entry, Absent}
 use Rattle.arm64_hint_terms.specs.declared.rels.Rels.{Rels}
-use Rattle.arm64_hint_laws.specs.Decide.{decide}
+use Rattle.arm64_hint_laws.specs.Decide.{byRule, decide}
 
 -- entries that agree in type, target and addend
 pub record AlikeEntry (a b : Reloc) : Type 0 where
@@ -55,5 +55,5 @@ module _ (r q : Rels) (first : SameRel (r .r0) (q .r0)) (second : SameRel (r .r1
   same-pages = rw (same-page first false, same-page second false)
 
   pub same-decision : (kind : ℕ) (s : Insns) → decide kind s r ≡ decide kind s q
-  unfolding decide
+  unfolding decide byRule
   same-decision kind s = rw (same-pages, same-pair 2 false, same-pair 3 false, same-pair 3 true, same-pair 2 true)

@@ -9,7 +9,9 @@ use Rattle.macho.specs.Types.{MCLOH-AdrpAdrp, MCLOH-AdrpLdr, MCLOH-AdrpAddLdr, 
 use Rattle.macho.specs.Types.{MCLOH-AdrpAddStr, MCLOH-AdrpLdrGotStr, MCLOH-AdrpAdd, MCLOH-AdrpLdrGot}
 use Rattle.macho.specs.Types.{ARM64-RELOC-PAGE21, ARM64-RELOC-PAGEOFF12, ARM64-RELOC-GOT-LOAD-PAGE21, ARM64-RELOC-GOT-LOAD-PAGEOFF12}
 use Rattle.macho.specs.Types.{ARM64-RELOC-TLVP-LOAD-PAGE21, ARM64-RELOC-TLVP-LOAD-PAGEOFF12}
+use Rattle.macho.specs.Hint.{wordCount}
 use Rattle.arm64_insn.specs.LoadStoreTable.{rowOf}
+use Rattle.arm64_insn.specs.Links.{makes, takes, links31, adds31}
 use Rattle.arm64_insn.specs.Page.{pageOf, adrpPage}
 use Rattle.arm64_insn.specs.Reach.{within1mb}
 use Rattle.arm64_insn.specs.Adrp.{adrpOf, adrWord}
@@ -24,7 +26,7 @@ use Rattle.arm64_hint_adrp.specs.Two.{samePage, adrpAdrp, ldrSecond, ldrAtPage,
 use Rattle.arm64_hint_adrp.specs.Three.{addAccess, through, folds, foldThird, foldOrAdr, loadThrough, adrpAddLdr, adrpAddStr}
 use Rattle.arm64_hint_got.specs.Got.{loadsSlot, slotLoad, relaxedLoad, gotLoad, adrpLdrGot, slotTo, gotLiteral}
 use Rattle.arm64_hint_got.specs.Got.{foldLoad, adrOrFoldLoad, relaxedTo, relaxedLdr, adrpLdrGotLdr, relaxedStr, adrpLdrGotStr}
-use Rattle.arm64_hint_laws.specs.Decide.{decide}
+use Rattle.arm64_hint_laws.specs.Decide.{byRule, bars31, decide}
 use Rattle.arm64_hint_laws.specs.RustOrder.{halves}
 use Rattle.arm64_hint_terms.specs.declared.answer.Insns.{Insns}
 use Rattle.arm64_hint_terms.specs.declared.answer.Rewrite.the-variants.{Drop, Literal, Adr, Fold, Slot}
@@ -200,5 +202,6 @@ pub examples : (decidedOf rewrites ≡ givenOf rewrites) × (decidedOf orders �
 unfolding choose inRange pageOf adrpPage within1mb adrpOf adrWord addOf rowOf loadStoreOf hasLiteralForm literalOpc literalV literalWord
     baseWord sumOf fitsLiteral isPageRel isPageoffRel sameReference isAbsent hasPagePair bothPages samePage adrpAdrp ldrSecond ldrAtPage adrpLdr adrTo
     addAtPage adrpAdd addAccess through folds foldThird foldOrAdr loadThrough adrpAddLdr adrpAddStr loadsSlot slotLoad relaxedLoad gotLoad adrpLdrGot slotTo
-    gotLiteral foldLoad adrOrFoldLoad relaxedTo relaxedLdr adrpLdrGotLdr relaxedStr adrpLdrGotStr decide
+    gotLiteral foldLoad adrOrFoldLoad relaxedTo relaxedLdr adrpLdrGotLdr relaxedStr adrpLdrGotStr byRule wordCount
+    makes takes links31 adds31 bars31 decide
 examples = (refl, refl)

@@ -1,4 +1,5 @@
 -- What is proved of every decision.
+pub mod Number31
 pub mod Cases
 pub mod Written
 pub mod Hinted

@@ -9,7 +9,9 @@ use Rattle.util.specs.Wrap.{inRange}
 use Rattle.util.proofs.Cases.{same-or}
 use Rattle.macho.specs.Types.{MCLOH-AdrpAdrp, MCLOH-AdrpLdr, MCLOH-AdrpAddLdr, MCLOH-AdrpLdrGotLdr}
 use Rattle.macho.specs.Types.{MCLOH-AdrpAddStr, MCLOH-AdrpLdrGotStr, MCLOH-AdrpAdd, MCLOH-AdrpLdrGot}
+use Rattle.macho.specs.Hint.{wordCount}
 use Rattle.arm64_insn.specs.LoadStoreTable.{rowOf}
+use Rattle.arm64_insn.specs.Links.{makes, takes, links31, adds31}
 use Rattle.arm64_insn.specs.Page.{pageOf, adrpPage}
 use Rattle.arm64_insn.specs.Reach.{within1mb}
 use Rattle.arm64_insn.specs.Adrp.{adrpOf, adrWord}
@@ -31,7 +33,7 @@ use Rattle.arm64_hint_terms.proofs.References.{passes-adrp-ldr-got-str, passes-
 use Rattle.arm64_hint_adrp.specs.Two.{samePage, adrpAdrp, ldrSecond, ldrAtPage, adrpLdr, adrTo, addAtPage, adrpAdd}
 use Rattle.arm64_hint_adrp.specs.Three.{addAccess, through, folds, foldOrAdr, loadThrough, adrpAddLdr, adrpAddStr}
 use Rattle.arm64_hint_got.specs.Got.{loadsSlot, slotLoad, gotLoad, adrpLdrGot, slotTo, gotLiteral, adrpLdrGotLdr, adrpLdrGotStr}
-use Rattle.arm64_hint_laws.specs.Decide.{decide, Occurs}
+use Rattle.arm64_hint_laws.specs.Decide.{byRule, bars31, decide, Occurs}
 
 -- three words in a row from 0x1000 on
 abbrev at : ℕ → ℕ → ℕ → Insns
@@ -42,7 +44,7 @@ writes r a b c = record { rewrite = r; w0 = a; w1 = b; w2 = c }
 
 module _ (r : Rels) where
   adrp-adrp : Refers MCLOH-AdrpAdrp r → Occurs MCLOH-AdrpAdrp r
-  unfolding decide choose adrpAdrp adrpOf samePage adrpPage pageOf
+  unfolding decide bars31 byRule choose adrpAdrp adrpOf samePage adrpPage pageOf
   adrp-adrp f = record {
     words = at 0x90000000 0x90000000 0;
     plan = writes Drop Keep (Set nopWord) Keep;
@@ -50,7 +52,7 @@ module _ (r : Rels) where
   }
 
   adrp-ldr : Refers MCLOH-AdrpLdr r → Occurs MCLOH-AdrpLdr r
-  unfolding decide choose adrpLdr adrpOf loadStoreOf rowOf ldrAtPage adrpPage pageOf sumOf ldrSecond fitsLiteral hasLiteralForm within1mb inRange
+  unfolding decide bars31 byRule wordCount links31 makes takes adds31 choose adrpLdr adrpOf loadStoreOf rowOf ldrAtPage adrpPage pageOf sumOf ldrSecond fitsLiteral hasLiteralForm within1mb inRange
       literalWord literalOpc literalV
   adrp-ldr f = record {
     words = at 0x90000000 0xf9400401 0;
@@ -59,7 +61,7 @@ module _ (r : Rels) where
   }
 
   adrp-add-ldr : Refers MCLOH-AdrpAddLdr r → Occurs MCLOH-AdrpAddLdr r
-  unfolding decide choose adrpAddLdr through adrpOf addOf loadStoreOf rowOf addAccess adrpPage pageOf sumOf loadThrough fitsLiteral hasLiteralForm
+  unfolding decide bars31 byRule wordCount links31 makes takes adds31 choose adrpAddLdr through adrpOf addOf loadStoreOf rowOf addAccess adrpPage pageOf sumOf loadThrough fitsLiteral hasLiteralForm
       within1mb inRange folds foldOrAdr baseWord
   adrp-add-ldr f = record {
     words = at 0x905bed00 0x912f2001 0x3d000025;
@@ -68,7 +70,7 @@ module _ (r : Rels) where
   }
 
   adrp-ldr-got-ldr : Refers MCLOH-AdrpLdrGotLdr r → Occurs MCLOH-AdrpLdrGotLdr r
-  unfolding decide choose adrpLdrGotLdr adrpOf loadStoreOf rowOf addOf gotLoad slotLoad loadsSlot adrpPage pageOf sumOf gotLiteral slotTo within1mb
+  unfolding decide bars31 byRule wordCount links31 makes takes adds31 choose adrpLdrGotLdr adrpOf loadStoreOf rowOf addOf gotLoad slotLoad loadsSlot adrpPage pageOf sumOf gotLiteral slotTo within1mb
       inRange literalWord literalOpc literalV
   adrp-ldr-got-ldr f = record {
     words = at 0xb0000000 0xf9400402 0x39c00042;
@@ -77,7 +79,7 @@ module _ (r : Rels) where
   }
 
   adrp-add-str : Refers MCLOH-AdrpAddStr r → Occurs MCLOH-AdrpAddStr r
-  unfolding decide choose adrpAddStr through adrpOf addOf loadStoreOf rowOf addAccess adrpPage pageOf sumOf within1mb inRange folds foldOrAdr
+  unfolding decide bars31 byRule wordCount links31 makes takes adds31 choose adrpAddStr through adrpOf addOf loadStoreOf rowOf addAccess adrpPage pageOf sumOf within1mb inRange folds foldOrAdr
       baseWord
   adrp-add-str f = record {
     words = at 0x90001000 0x91004000 0xf9000001;
@@ -86,7 +88,7 @@ module _ (r : Rels) where
   }
 
   adrp-ldr-got-str : Refers MCLOH-AdrpLdrGotStr r → Occurs MCLOH-AdrpLdrGotStr r
-  unfolding decide choose adrpLdrGotStr adrpOf loadStoreOf rowOf addOf gotLoad slotLoad loadsSlot adrpPage pageOf sumOf gotLiteral slotTo within1mb
+  unfolding decide bars31 byRule wordCount links31 makes takes adds31 choose adrpLdrGotStr adrpOf loadStoreOf rowOf addOf gotLoad slotLoad loadsSlot adrpPage pageOf sumOf gotLiteral slotTo within1mb
       inRange literalWord literalOpc literalV
   adrp-ldr-got-str f = record {
     words = at 0xb0000000 0xf9400402 0x39000042;
@@ -95,7 +97,7 @@ module _ (r : Rels) where
   }
 
   adrp-add : Refers MCLOH-AdrpAdd r → Occurs MCLOH-AdrpAdd r
-  unfolding decide choose adrpAdd adrpOf addOf addAtPage adrpPage pageOf sumOf adrTo within1mb inRange adrWord
+  unfolding decide bars31 byRule wordCount links31 makes takes adds31 choose adrpAdd adrpOf addOf addAtPage adrpPage pageOf sumOf adrTo within1mb inRange adrWord
   adrp-add f = record {
     words = at 0x90000000 0x91000c00 0;
     plan = writes Adr (Set 0x70000000) (Set nopWord) Keep;
@@ -103,7 +105,7 @@ module _ (r : Rels) where
   }
 
   adrp-ldr-got : Refers MCLOH-AdrpLdrGot r → Occurs MCLOH-AdrpLdrGot r
-  unfolding decide choose adrpLdrGot adrpOf loadStoreOf rowOf addOf gotLoad slotLoad loadsSlot adrpPage pageOf sumOf within1mb inRange
+  unfolding decide bars31 byRule wordCount links31 makes takes adds31 choose adrpLdrGot adrpOf loadStoreOf rowOf addOf gotLoad slotLoad loadsSlot adrpPage pageOf sumOf within1mb inRange
       literalWord literalOpc literalV
   adrp-ldr-got f = record {
     words = at 0xb0000000 0xf9400402 0;

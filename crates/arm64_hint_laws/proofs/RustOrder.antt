@@ -10,8 +10,10 @@ use lib.Dec.{eqb}
 use Rattle.util.specs.Choice.{choose}
 use Rattle.util.specs.Wrap.{inRange}
 use Rattle.util.proofs.Choice.{split, choose-true, choose-false, both}
+use Rattle.macho.specs.Hint.{wordCount}
 use Rattle.macho.specs.Types.{MCLOH-AdrpAddLdr, MCLOH-AdrpAddStr}
 use Rattle.arm64_insn.specs.LoadStoreTable.{rowOf}
+use Rattle.arm64_insn.specs.Links.{makes, takes, links31, adds31}
 use Rattle.arm64_insn.specs.Page.{pageOf, adrpPage}
 use Rattle.arm64_insn.specs.Reach.{within1mb}
 use Rattle.arm64_insn.specs.Adrp.{adrpOf, adrWord}
@@ -41,22 +43,23 @@ use Rattle.arm64_hint_adrp.specs.Three.{adrpAddLdrWith, adrpAddLdr, adrpAddStrW
 use Rattle.arm64_hint_adrp.specs.declared.three.Through.{Through}
 use Rattle.arm64_hint_adrp.specs.declared.three.Through.the-variants as T
 use Rattle.arm64_hint_adrp.proofs.Adds.{Adds, adds}
-use Rattle.arm64_hint_laws.specs.Decide.{decide}
+use Rattle.arm64_hint_laws.specs.Decide.{byRule, bars31, decide}
 use Rattle.arm64_hint_laws.specs.RustOrder.{adrOrFold, ldrInRustOrder, strInRustOrder, inRustOrder, BothFit}
 use Rattle.arm64_hint_laws.specs.RustOrder.{halves, through8, MovedExamples}
 use Rattle.arm64_hint_laws.specs.Written.{ThirdAccess}
+use Rattle.arm64_hint_laws.proofs.Number31.{else-same}
 
 -- ---- a hint that both fit
 
 -- the rules of the two kinds, in either order
-ldr-rules : (s : Insns) (r : Rels) → (decide MCLOH-AdrpAddLdr s r ≡ adrpAddLdrWith s (through s (hasPagePair r 3 false)))
+ldr-rules : (s : Insns) (r : Rels) → (byRule MCLOH-AdrpAddLdr s r ≡ adrpAddLdrWith s (through s (hasPagePair r 3 false)))
     × (inRustOrder MCLOH-AdrpAddLdr s r ≡ ldrInRustOrder s (through s (hasPagePair r 3 false)))
-unfolding decide inRustOrder adrpAddLdr choose
+unfolding byRule inRustOrder adrpAddLdr choose
 ldr-rules s r = (refl, refl)
 
-str-rules : (s : Insns) (r : Rels) → (decide MCLOH-AdrpAddStr s r ≡ adrpAddStrWith s (through s (hasPagePair r 3 false)))
+str-rules : (s : Insns) (r : Rels) → (byRule MCLOH-AdrpAddStr s r ≡ adrpAddStrWith s (through s (hasPagePair r 3 false)))
     × (inRustOrder MCLOH-AdrpAddStr s r ≡ strInRustOrder s (through s (hasPagePair r 3 false)))
-unfolding decide inRustOrder adrpAddStr choose
+unfolding byRule inRustOrder adrpAddStr choose
 str-rules s r = (refl, refl)
 
 module _ (s : Insns) (r : Rels) (d : Add) (addr : ℕ) (ls : LoadStore) (w : ThirdAccess s d addr ls addr) where
@@ -66,9 +69,9 @@ module _ (s : Insns) (r : Rels) (d : Add) (addr : ℕ) (ls : LoadStore) (w : Thi
       omega (arith, t .made, page-sum (t .adrp .imm) (s .p0) (d .imm) (decoded-add (s .w1) d (t .second) .immediate))
 
   -- what the words make
-  makes : through s true ≡ T.At addr d ls
+  makes-at : through s true ≡ T.At addr d ls
   unfolding through addAccess sumOf choose
-  makes =
+  makes-at =
       let t = w .through in
       rw (
         t .first,
@@ -95,27 +98,29 @@ module _ (s : Insns) (r : Rels) (d : Add) (addr : ℕ) (ls : LoadStore) (w : Thi
     adr-first = rw near
 
     ldr-moved : fitsLiteral ls addr (s .p2) ≡ false
-        → (decide MCLOH-AdrpAddLdr s r ≡ folded ls (d .rn) (d .imm)) × (inRustOrder MCLOH-AdrpAddLdr s r ≡ adrThird s ls addr)
+        → (byRule MCLOH-AdrpAddLdr s r ≡ folded ls (d .rn) (d .imm)) × (inRustOrder MCLOH-AdrpAddLdr s r ≡ adrThird s ls addr)
     unfolding loadThrough
     ldr-moved l = (
-      ldr-rules s r .0 ∙ rw (pair, makes, reaches, folds-first) (choose-false (fitsLiteral ls addr (s .p2)) _ _ l),
-      ldr-rules s r .1 ∙ rw (pair, makes, reaches, adr-first) (choose-false (fitsLiteral ls addr (s .p2)) _ _ l),
+      ldr-rules s r .0 ∙ rw (pair, makes-at, reaches, folds-first) (choose-false (fitsLiteral ls addr (s .p2)) _ _ l),
+      ldr-rules s r .1 ∙ rw (pair, makes-at, reaches, adr-first) (choose-false (fitsLiteral ls addr (s .p2)) _ _ l),
     )
 
     str-moved : ls .«is_store» ≡ true
-        → (decide MCLOH-AdrpAddStr s r ≡ folded ls (d .rn) (d .imm)) × (inRustOrder MCLOH-AdrpAddStr s r ≡ adrThird s ls addr)
+        → (byRule MCLOH-AdrpAddStr s r ≡ folded ls (d .rn) (d .imm)) × (inRustOrder MCLOH-AdrpAddStr s r ≡ adrThird s ls addr)
     str-moved l = (
-      str-rules s r .0 ∙ rw (pair, makes, reaches, folds-first) (choose-true (ls .«is_store») _ _ l),
-      str-rules s r .1 ∙ rw (pair, makes, reaches, adr-first) (choose-true (ls .«is_store») _ _ l),
+      str-rules s r .0 ∙ rw (pair, makes-at, reaches, folds-first) (choose-true (ls .«is_store») _ _ l),
+      str-rules s r .1 ∙ rw (pair, makes-at, reaches, adr-first) (choose-true (ls .«is_store») _ _ l),
     )
 
--- it is folded, and the Rust's order has the ADR
-pub moved : (kind : ℕ) (s : Insns) (r : Rels) (f : BothFit kind s r)
+-- it is folded where number 31 does not bar it, and the Rust's order has the ADR
+pub moved : (kind : ℕ) (s : Insns) (r : Rels) → bars31 kind s ≡ false → (f : BothFit kind s r)
     → (decide kind s r ≡ folded (f .ls) (f .d .rn) (f .d .imm)) × (inRustOrder kind s r ≡ adrThird s (f .ls) (f .addr))
-moved kind s r f = ⊎-elim (λ c. at MCLOH-AdrpAddLdr (c .0) (ldr (c .1))) (λ c. at MCLOH-AdrpAddStr (c .0) (str (c .1))) (f .comes)
+moved kind s r n f =
+    let m = ⊎-elim (λ c. at MCLOH-AdrpAddLdr (c .0) (ldr (c .1))) (λ c. at MCLOH-AdrpAddStr (c .0) (str (c .1))) (f .comes) in
+    (else-same kind s r n ∙ m .0, m .1)
   where
     Moves : ℕ → Type 0
-    Moves k = (decide k s r ≡ folded (f .ls) (f .d .rn) (f .d .imm)) × (inRustOrder k s r ≡ adrThird s (f .ls) (f .addr))
+    Moves k = (byRule k s r ≡ folded (f .ls) (f .d .rn) (f .d .imm)) × (inRustOrder k s r ≡ adrThird s (f .ls) (f .addr))
 
     at : (k : ℕ) → kind ≡ k → Moves k → Moves kind
     at k e m = subst Moves (sym e) m
@@ -231,40 +236,44 @@ module _ (s : Insns) (r : Rels) where
   str-by false e = inl refl
   str-by true e = str-with e (through s true) (adds s true)
 
--- what is not as in the Rust's order is a hint that both fit
-pub moved-only : (kind : ℕ) (s : Insns) (r : Rels) → (decide kind s r ≡ inRustOrder kind s r) ⊎ BothFit kind s r
+-- what a rule decides otherwise than in the Rust's order is a hint that both fit
+by-order : (kind : ℕ) (s : Insns) (r : Rels) → (byRule kind s r ≡ inRustOrder kind s r) ⊎ BothFit kind s r
 unfolding inRustOrder
-moved-only kind s r =
+by-order kind s r =
     split Alike (eqb kind MCLOH-AdrpAddLdr) _ _ (λ e. at MCLOH-AdrpAddLdr e (ldr-rules s r) (ldr-by s r _ refl)) (λ _.
     split Alike (eqb kind MCLOH-AdrpAddStr) _ _ (λ e. at MCLOH-AdrpAddStr e (str-rules s r) (str-by s r _ refl)) (λ _.
     inl refl))
   where
     Alike : Decision → Type 0
-    Alike x = (decide kind s r ≡ x) ⊎ BothFit kind s r
+    Alike x = (byRule kind s r ≡ x) ⊎ BothFit kind s r
 
-    at : (k : ℕ) {x y : Decision} → eqb kind k ≡ true → (decide k s r ≡ x) × (inRustOrder k s r ≡ y) → (x ≡ y) ⊎ BothFit k s r → Alike y
+    at : (k : ℕ) {x y : Decision} → eqb kind k ≡ true → (byRule k s r ≡ x) × (inRustOrder k s r ≡ y) → (x ≡ y) ⊎ BothFit k s r → Alike y
     at k {x} {y} e q a =
-        subst (λ (n : ℕ). (decide n s r ≡ y) ⊎ BothFit n s r) (sym (eqb-true kind k e)) (⊎-elim (λ p. inl (q .0 ∙ p)) inr a)
+        subst (λ (n : ℕ). (byRule n s r ≡ y) ⊎ BothFit n s r) (sym (eqb-true kind k e)) (⊎-elim (λ p. inl (q .0 ∙ p)) inr a)
+
+-- so is what is decided otherwise, where number 31 does not bar it
+pub moved-only : (kind : ℕ) (s : Insns) (r : Rels) → bars31 kind s ≡ false → (decide kind s r ≡ inRustOrder kind s r) ⊎ BothFit kind s r
+moved-only kind s r n = ⊎-elim (λ e. inl (else-same kind s r n ∙ e)) inr (by-order kind s r)
 
 -- ---- examples
 
 -- a hint that is folded, and has the ADR in the Rust's order, is one that both fit
-differs : (kind : ℕ) (s : Insns) (r : Rels) (p q : Plan) → decide kind s r ≡ Rewritten p → inRustOrder kind s r ≡ Rewritten q
+differs : (kind : ℕ) (s : Insns) (r : Rels) (p q : Plan) → bars31 kind s ≡ false → decide kind s r ≡ Rewritten p → inRustOrder kind s r ≡ Rewritten q
     → p .rewrite ≡ Fold → q .rewrite ≡ Adr → BothFit kind s r
-differs kind s r p q ep eq f a =
+differs kind s r p q n ep eq f a =
     ⊎-elim
     (λ e.
     let same : p ≡ q = cc in
     let z : Fold ≡ Adr = sym f ∙ ap (λ (p : Plan). p .rewrite) same ∙ a in
     never (cc))
     (λ f. f)
-    (moved-only kind s r)
+    (moved-only kind s r n)
 
 pub moved-examples : MovedExamples
 unfolding choose inRange pageOf adrpPage within1mb adrpOf adrWord addOf rowOf loadStoreOf hasLiteralForm baseWord sumOf fitsLiteral isPageRel
-    isPageoffRel sameReference isAbsent hasPagePair addAccess through folds foldOrAdr loadThrough adrpAddLdr adrpAddStr decide adrOrFold inRustOrder
+    isPageoffRel sameReference isAbsent hasPagePair addAccess through folds foldOrAdr loadThrough adrpAddLdr adrpAddStr byRule wordCount links31 makes takes adds31 bars31 decide adrOrFold inRustOrder
 moved-examples = (
-  (differs MCLOH-AdrpAddLdr (through8 0x39400045) halves _ _ refl refl refl refl, refl, refl),
-  (differs MCLOH-AdrpAddLdr (through8 0xf9000045) halves _ _ refl refl refl refl, refl, refl),
-  (differs MCLOH-AdrpAddStr (through8 0xf9000045) halves _ _ refl refl refl refl, refl, refl),
+  (differs MCLOH-AdrpAddLdr (through8 0x39400045) halves _ _ refl refl refl refl refl, refl, refl),
+  (differs MCLOH-AdrpAddLdr (through8 0xf9000045) halves _ _ refl refl refl refl refl, refl, refl),
+  (differs MCLOH-AdrpAddStr (through8 0xf9000045) halves _ _ refl refl refl refl refl, refl, refl),
 )

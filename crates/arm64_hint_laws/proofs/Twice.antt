@@ -13,11 +13,11 @@ use Rattle.arm64_hint_terms.specs.Plans.{dropped}
 use Rattle.arm64_hint_terms.specs.declared.answer.Insns.{Insns}
 use Rattle.arm64_hint_terms.specs.declared.rels.Rels.{Rels}
 use Rattle.arm64_hint_adrp.specs.Two.{samePage, adrpAdrp}
-use Rattle.arm64_hint_laws.specs.Decide.{decide}
+use Rattle.arm64_hint_laws.specs.Decide.{byRule, bars31, decide}
 
 -- two ADRPs of one page into one register
 pub drops : (s : Insns) (r : Rels) (a : Adrp) → bothPages r ≡ true → adrpOf (s .w0) ≡ W.Adrp a → adrpOf (s .w1) ≡ W.Adrp a → s .p1 ≡ s .p0
     → decide MCLOH-AdrpAdrp s r ≡ dropped
-unfolding decide adrpAdrp samePage choose
+unfolding decide bars31 byRule adrpAdrp samePage choose
 drops s r a pages first second p =
     rw (pages, first, second, p, eq-eqb (a .rd) (a .rd) refl, eq-eqb (adrpPage (a .imm) (s .p0)) (adrpPage (a .imm) (s .p0)) refl)

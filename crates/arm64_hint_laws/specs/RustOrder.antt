@@ -1,15 +1,17 @@
 -- The two rules that the Rust has in another order (RULES 8.18, 8.20): in ADRP_ADD_LDR and ADRP_ADD_STR its ADR comes before the fold. What that
--- order decides, by the decoders of arm64_insn, the hints that the two orders decide otherwise, which docs/DIFFERENCES lists, and where an ADR fits in
--- the kinds of a GOT load, which keep it first.
+-- order decides, by the decoders of arm64_insn and whatever number 31 links, the hints that the two orders decide otherwise, which docs/DIFFERENCES lists,
+-- and where an ADR fits in the kinds of a GOT load, which keep it first.
 use mathlib.Core.Path.{_≡_}
 use mathlib.Core.Logic.{_⊎_}
 use mathlib.Core.Bool.{true, false}
+use mathlib.Core.List.{[], _∷_}
 use Prim.Native.Nat.{ℕ, _+_, _%_}
 use lib.Dec.{eqb}
 use Rattle.util.specs.Choice.{choose}
 use Rattle.macho.specs.Types.{MCLOH-AdrpAddLdr, MCLOH-AdrpAddStr, ARM64-RELOC-PAGE21, ARM64-RELOC-PAGEOFF12}
 use Rattle.arm64_insn.specs.Reach.{within1mb}
 use Rattle.arm64_insn.specs.Fix.{nopWord}
+use Rattle.arm64_insn.specs.Links.{meets31}
 use Rattle.arm64_insn.specs.declared.add.Add.{Add}
 use Rattle.arm64_insn.specs.declared.ldst.LoadStore.{LoadStore}
 use Rattle.arm64_hint_terms.specs.Answer.{sumOf, summed, fitsLiteral}
@@ -26,7 +28,7 @@ use Rattle.arm64_hint_terms.specs.declared.rels.Rel.the-variants.{Entry, Absent
 use Rattle.arm64_hint_terms.specs.declared.rels.Rels.{Rels}
 use Rattle.arm64_hint_adrp.specs.declared.three.Through.{Through}
 use Rattle.arm64_hint_adrp.specs.declared.three.Through.the-variants as T
-use Rattle.arm64_hint_laws.specs.Decide.{decide}
+use Rattle.arm64_hint_laws.specs.Decide.{byRule, decide}
 use Rattle.arm64_hint_laws.specs.Written.{ThirdAccess}
 
 -- the accessed address by an ADR, in reach of the ADRP; else the fold
@@ -51,7 +53,7 @@ unfoldable pub inRustOrder : ℕ → Insns → Rels → Decision
 inRustOrder kind s r =
     choose (eqb kind MCLOH-AdrpAddLdr) (ldrInRustOrder s (through s (hasPagePair r 3 false)))
     (choose (eqb kind MCLOH-AdrpAddStr) (strInRustOrder s (through s (hasPagePair r 3 false)))
-    (decide kind s r))
+    (byRule kind s r))
 
 -- a hint that both the fold and the ADR fit, of a kind whose rule comes to them: the words are ADRP, ADD to its register that makes addr, and an
 -- access of addr through the ADD's, with no offset of its own; the bytes moved divide addr, which is within 1 MiB of the ADRP; a load of kind 3 has
@@ -68,11 +70,12 @@ pub record BothFit (kind : ℕ) (s : Insns) (r : Rels) : Type 0 where
   pub comes : ((kind ≡ MCLOH-AdrpAddLdr) × (fitsLiteral ls addr (s .p2) ≡ false)) ⊎ ((kind ≡ MCLOH-AdrpAddStr) × (ls .«is_store» ≡ true))
 
 -- ADRP, the ADD to its register that a load of a GOT slot was relaxed to and that makes addr, and the access ls through the ADD's; and an ADR of addr
--- fits: addr is within 1 MiB of the ADRP
+-- fits: addr is within 1 MiB of the ADRP. Number 31 links none of them, and the ADD is not to it
 pub record AdrFits (s : Insns) (r : Rels) (d : Add) (addr : ℕ) (ls : LoadStore) : Type 0 where
   pub pair : hasPagePair r 3 true ≡ true
   pub words : ThirdAccess s d addr ls (addr + ls .offset)
   pub reach : within1mb (s .p0) addr ≡ true
+  pub no-31 : meets31 (s .w0 ∷ s .w1 ∷ s .w2 ∷ []) ≡ false
 
 -- an entry of a type, of one target
 abbrev half : ℕ → Rel

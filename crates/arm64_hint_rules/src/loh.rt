@@ -1,20 +1,19 @@
 // The eight hint rules at work: each gets its section as the part of what is lent, reads its words there, and stores what is decided through it.
 // The run lends the hint's part itself, so that the part taken here starts at 0 and is all of it.
+use crate::decide::decide_adrp_add;
+use crate::decide::decide_adrp_add_ldr;
+use crate::decide::decide_adrp_add_str;
+use crate::decide::decide_adrp_ldr;
+use crate::decide::decide_adrp_ldr_got;
+use crate::decide::decide_adrp_ldr_got_ldr;
+use crate::decide::decide_adrp_ldr_got_str;
 use crate::outcome::HintOutcome;
 use crate::part::part;
 use crate::store::store;
-use arm64_hint_adrp::three::adrp_add_ldr;
-use arm64_hint_adrp::three::adrp_add_str;
-use arm64_hint_adrp::two::adrp_add;
 use arm64_hint_adrp::two::adrp_adrp;
-use arm64_hint_adrp::two::adrp_ldr;
-use arm64_hint_got::adrp_ldr_got;
-use arm64_hint_got::adrp_ldr_got_ldr;
-use arm64_hint_got::adrp_ldr_got_str;
 use arm64_hint_places::insns_of;
 use arm64_hint_terms::rels::Rels;
 use arm64_hint_terms::rels::both_pages;
-use arm64_hint_terms::rels::has_page_pair;
 use macho::hint::HintRecord;
 ghost use mathlib.Core.Path.{_≡_};
 ghost use lib.ListN.{length};
@@ -46,7 +45,7 @@ pub fn loh_adrp_ldr(section: &mut [u8], h: HintRecord, r: Rels) -> HintOutcome
     let len = section.len();
     let buf = part(section, 0, len);
     let s = insns_of(buf, h);
-    let d = adrp_ldr(s, has_page_pair(r, 2, false));
+    let d = decide_adrp_ldr(s, r);
     store(buf, h, d);
     HintOutcome::Worked(d, s)
 }
@@ -60,7 +59,7 @@ pub fn loh_adrp_add(section: &mut [u8], h: HintRecord, r: Rels) -> HintOutcome
     let len = section.len();
     let buf = part(section, 0, len);
     let s = insns_of(buf, h);
-    let d = adrp_add(s, has_page_pair(r, 2, false));
+    let d = decide_adrp_add(s, r);
     store(buf, h, d);
     HintOutcome::Worked(d, s)
 }
@@ -74,7 +73,7 @@ pub fn loh_adrp_add_ldr(section: &mut [u8], h: HintRecord, r: Rels) -> HintOutco
     let len = section.len();
     let buf = part(section, 0, len);
     let s = insns_of(buf, h);
-    let d = adrp_add_ldr(s, has_page_pair(r, 3, false));
+    let d = decide_adrp_add_ldr(s, r);
     store(buf, h, d);
     HintOutcome::Worked(d, s)
 }
@@ -88,7 +87,7 @@ pub fn loh_adrp_add_str(section: &mut [u8], h: HintRecord, r: Rels) -> HintOutco
     let len = section.len();
     let buf = part(section, 0, len);
     let s = insns_of(buf, h);
-    let d = adrp_add_str(s, has_page_pair(r, 3, false));
+    let d = decide_adrp_add_str(s, r);
     store(buf, h, d);
     HintOutcome::Worked(d, s)
 }
@@ -102,7 +101,7 @@ pub fn loh_adrp_ldr_got(section: &mut [u8], h: HintRecord, r: Rels) -> HintOutco
     let len = section.len();
     let buf = part(section, 0, len);
     let s = insns_of(buf, h);
-    let d = adrp_ldr_got(s, has_page_pair(r, 2, true));
+    let d = decide_adrp_ldr_got(s, r);
     store(buf, h, d);
     HintOutcome::Worked(d, s)
 }
@@ -116,7 +115,7 @@ pub fn loh_adrp_ldr_got_ldr(section: &mut [u8], h: HintRecord, r: Rels) -> HintO
     let len = section.len();
     let buf = part(section, 0, len);
     let s = insns_of(buf, h);
-    let d = adrp_ldr_got_ldr(s, has_page_pair(r, 3, true));
+    let d = decide_adrp_ldr_got_ldr(s, r);
     store(buf, h, d);
     HintOutcome::Worked(d, s)
 }
@@ -130,7 +129,7 @@ pub fn loh_adrp_ldr_got_str(section: &mut [u8], h: HintRecord, r: Rels) -> HintO
     let len = section.len();
     let buf = part(section, 0, len);
     let s = insns_of(buf, h);
-    let d = adrp_ldr_got_str(s, has_page_pair(r, 3, true));
+    let d = decide_adrp_ldr_got_str(s, r);
     store(buf, h, d);
     HintOutcome::Worked(d, s)
 }

@@ -13,6 +13,7 @@ use Rattle.macho.specs.Reloc.{relocAt, relocBytes}
 use Rattle.macho.specs.Hint.{insnAt, noEntry, hintAt, hintBytes, wordCount}
 use Rattle.macho.specs.declared.hint.HintInsn.{HintInsn}
 use Rattle.arm64_insn.specs.LoadStoreTable.{rowOf}
+use Rattle.arm64_insn.specs.Links.{makes, takes, links31, adds31}
 use Rattle.arm64_insn.specs.Page.{pageOf, adrpPage}
 use Rattle.arm64_insn.specs.Reach.{within1mb}
 use Rattle.arm64_insn.specs.Adrp.{adrpOf, adrWord}
@@ -23,7 +24,7 @@ use Rattle.arm64_hint_terms.specs.Answer.{sumOf, fitsLiteral}
 use Rattle.arm64_hint_terms.specs.Rels.{relAt, isPageRel, isPageoffRel, sameReference, isAbsent, hasPagePair}
 use Rattle.arm64_hint_adrp.specs.Two.{ldrSecond, ldrAtPage, adrpLdr, adrTo, addAtPage, adrpAdd}
 use Rattle.arm64_hint_adrp.specs.Three.{addAccess, through, folds, foldThird, foldOrAdr, adrpAddStr}
-use Rattle.arm64_hint_laws.specs.Decide.{decide}
+use Rattle.arm64_hint_laws.specs.Decide.{byRule, bars31, decide}
 use Rattle.arm64_hint_places.specs.Hint.{isSkipped, insnsIn, insnsOf, relsOf}
 use Rattle.arm64_hint_check.specs.Check.{isList, checkLists, checkHint, checkTo, checkAll}
 use Rattle.arm64_hint_rules.specs.Rule.{hintOutcome}
@@ -75,7 +76,8 @@ pub pieces : Rewrites MCLOH-AdrpLdr (0x90000000 ∷ 0xf9400401 ∷ []) (0xd50320
     × Rewrites MCLOH-AdrpAddStr (0x90001000 ∷ 0x91004000 ∷ 0xf9000001 ∷ []) (0x90001000 ∷ 0xd503201f ∷ 0xf9000801 ∷ [])
 unfolding choose le put bytes inRange bytesOf relocAt relocBytes insnAt hintAt hintBytes wordCount rowOf pageOf adrpPage within1mb adrpOf adrWord addOf
     loadStoreOf hasLiteralForm literalOpc literalV literalWord baseWord sumOf fitsLiteral relAt isPageRel isPageoffRel sameReference isAbsent
-    hasPagePair ldrSecond ldrAtPage adrpLdr adrTo addAtPage adrpAdd addAccess through folds foldThird foldOrAdr adrpAddStr decide isSkipped insnsIn
+    hasPagePair ldrSecond ldrAtPage adrpLdr adrTo addAtPage adrpAdd addAccess through folds foldThird foldOrAdr adrpAddStr byRule makes takes links31 adds31
+    bars31 decide isSkipped insnsIn
     insnsOf relsOf hintOutcome isList checkLists checkHint checkTo checkAll worked runOf imageOf
 pieces = ((refl, refl), (refl, refl), (refl, refl))
 

@@ -2,7 +2,7 @@
 pub mod Loop
 pub mod Parts
 pub mod Answers
-pub mod Unallocated
+pub mod Declines
 pub mod Empty
 pub mod Ignored
 pub mod IgnoredEntries

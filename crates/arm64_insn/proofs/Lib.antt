@@ -14,6 +14,7 @@ pub mod Scale
 pub mod Three
 pub mod Pieces
 pub mod Decodes
+pub mod Linked
 pub mod Encodes
 pub mod Meaning
 pub mod Offsets

@@ -9,6 +9,7 @@ pub mod Adrp
 pub mod Add
 pub mod LoadStore
 pub mod LoadStoreSplit
+pub mod Links
 pub mod Literal
 pub mod Branch
 pub mod Stub

@@ -4,5 +4,6 @@ pub mod adrp;
 pub mod branch;
 pub mod fix;
 pub mod ldst;
+pub mod links;
 pub mod page;
 pub mod stub;

@@ -7,8 +7,9 @@ use Rattle.arm64_insn.specs.LoadStoreTable.{rowOf, literalRowOf}
 use Rattle.arm64_insn.specs.Manual.{decode}
 use Rattle.arm64_insn.specs.ManualTargets.{adrTarget, literalTarget, accessAddress, addValue}
 use Rattle.arm64_insn.specs.Page.{pageOf, adrpPage}
+use Rattle.arm64_insn.specs.Links.{makes, takes, links31, adds31}
 use Rattle.arm64_machine.specs.Examples.{start, logged, idle}
-use Rattle.arm64_machine.specs.Premises.{Each, links31, adds31, storesMade, FairWords}
+use Rattle.arm64_machine.specs.Premises.{Each, storesMade, FairWords}
 use Rattle.arm64_machine.specs.SameRun.{SameRun, CloseRun}
 use Rattle.arm64_machine.proofs.FairLaws.{load-literal, add-adr, chain}
 use Rattle.arm64_machine.proofs.FairTest.{fair-by}
@@ -90,29 +91,29 @@ examples = record {
 
 -- examples 6 to 8 (RULES 11.6 to 11.8): their words are fair, and run as what becomes of them
 pub fair-6 : FairWords (placed 0x90000000 0x1000 ∷ placed 0xf9400401 0x1004 ∷ [])
-unfolding links31 adds31 storesMade action decode choose rowOf
-fair-6 = fair-by refl refl refl refl
+unfolding storesMade action decode choose rowOf
+fair-6 = fair-by refl refl
 
 pub piece-6 : CloseRun (placed 0x90000000 0x1000 ∷ placed 0xf9400401 0x1004 ∷ []) (placed 0xd503201f 0x1000 ∷ placed 0x58000021 0x1004 ∷ [])
-unfolding action decode choose rowOf literalRowOf pageOf adrpPage literalTarget accessAddress
-piece-6 = load-literal fair-6 refl refl refl refl refl
+unfolding links31 makes takes action decode choose rowOf literalRowOf pageOf adrpPage literalTarget accessAddress
+piece-6 = load-literal refl fair-6 refl refl refl refl refl
 
 pub fair-7 : FairWords (placed 0x90000000 0x1000 ∷ placed 0x91000c00 0x1004 ∷ [])
-unfolding links31 adds31 storesMade action decode choose
-fair-7 = fair-by refl refl refl refl
+unfolding storesMade action decode choose
+fair-7 = fair-by refl refl
 
 pub piece-7 : CloseRun (placed 0x90000000 0x1000 ∷ placed 0x91000c00 0x1004 ∷ []) (placed 0x70000000 0x1000 ∷ placed 0xd503201f 0x1004 ∷ [])
-unfolding action decode choose pageOf adrpPage adrTarget addValue
-piece-7 = add-adr fair-7 refl refl refl refl refl
+unfolding links31 makes takes adds31 action decode choose pageOf adrpPage adrTarget addValue
+piece-7 = add-adr refl refl refl refl refl refl refl
 
 pub fair-8 : FairWords (placed 0x90001000 0x1000 ∷ placed 0x91004000 0x1004 ∷ placed 0xf9000001 0x1008 ∷ [])
-unfolding links31 adds31 storesMade action decode choose rowOf
-fair-8 = fair-by refl refl refl refl
+unfolding storesMade action decode choose rowOf
+fair-8 = fair-by refl refl
 
 pub piece-8 : CloseRun (placed 0x90001000 0x1000 ∷ placed 0x91004000 0x1004 ∷ placed 0xf9000001 0x1008 ∷ [])
     (placed 0x90001000 0x1000 ∷ placed 0xd503201f 0x1004 ∷ placed 0xf9000801 0x1008 ∷ [])
-unfolding action decode choose rowOf pageOf adrpPage accessAddress addValue
-piece-8 = folded (chain fair-8 refl refl refl) refl refl refl
+unfolding links31 makes takes adds31 action decode choose rowOf pageOf adrpPage accessAddress addValue
+piece-8 = folded (chain refl refl fair-8 refl refl refl) refl refl refl
 
 -- example 6 with the literal load 4 bytes off
 pub off-by-4 : SameRun (placed 0x90000000 0x1000 ∷ placed 0xf9400401 0x1004 ∷ []) (placed 0xd503201f 0x1000 ∷ placed 0x58000041 0x1004 ∷ []) → ⊥

@@ -9,7 +9,7 @@ use Rattle.util.specs.Wrap.{sum}
 use Rattle.util.proofs.Choice.{both}
 use Rattle.arm64_insn.specs.Manual as Manual
 use Rattle.arm64_machine.specs.Machine.{Access, Action, adr, adrp, add, access, literal, nop, other, action, Placed, State, Other, step, run}
-use Rattle.arm64_machine.specs.Premises.{Each, Next, Later, links31, adds31, storesMade, FairWords}
+use Rattle.arm64_machine.specs.Premises.{Each, Next, Later, storesMade, FairWords}
 use Rattle.arm64_machine.specs.Premises.{touches, sumPasses, NoSumPasses, linksVector, WordPremises}
 use Rattle.arm64_machine.specs.Tests.{each, next, later}
 
@@ -31,13 +31,11 @@ module _ (t : ℕ → ℕ → Bool) (P : ℕ → ℕ → Type 0) (h : (w u : ℕ
 
 -- each premise of FairWords as a test of the list
 pub fair-by : {ws : List Placed} → each (λ w. eqb (w .address % 4) 0) ws ≡ true
-    → next (λ w u. not (links31 w u)) ws ≡ true → each (λ w. not (adds31 (w .word))) ws ≡ true → later (λ w u. not (storesMade w u)) ws ≡ true → FairWords ws
-fair-by {ws} a b c d =
+    → later (λ w u. not (storesMade w u)) ws ≡ true → FairWords ws
+fair-by {ws} a b =
     record {
       aligned = each-by _ _ (λ w h. eqb-true (w .address % 4) 0 h) ws a;
-      no-31-link = next-by _ _ (λ w u h. not-true (links31 w u) h) ws b;
-      no-31-added = each-by _ _ (λ w h. not-true (adds31 (w .word)) h) ws c;
-      no-store = later-by _ _ (λ w u h. not-true (storesMade w u) h) ws d;
+      no-store = later-by _ _ (λ w u h. not-true (storesMade w u) h) ws b;
     }
 
 -- ---- the premises that FairWords leaves out
@@ -95,8 +93,6 @@ premises-by ws o s fair empty e =
       none-data = misses-by (λ (w : Placed). w .address) ws ((run o ws s) .log) (b .0);
       aligned = fair .aligned;
       no-sum-passes = sums-by o ws s (c .0);
-      no-31-link = fair .no-31-link;
-      no-31-added = fair .no-31-added;
       no-vector-link = each-by _ _ (λ a. vector-by ws (action (a .word))) ws (c .1);
       no-store = fair .no-store;
     }

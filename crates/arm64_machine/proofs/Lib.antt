@@ -3,6 +3,7 @@ pub mod Agree
 pub mod Close
 pub mod Rewrites
 pub mod Actions
+pub mod Links
 pub mod FairLaws
 pub mod FairTest
 pub mod Different

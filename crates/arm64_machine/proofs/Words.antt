@@ -1,18 +1,20 @@
 -- The words that the hint rules make run as the words that they replace: each rewrite on words as the decoders of arm64_insn tell them,
--- under that rewrite's own tests. Carried by the laws of fair words, and by what arm64_insn proves of decoded and made words.
+-- under that rewrite's own tests and where number 31 does not link them. Carried by the laws of fair words, and by what arm64_insn proves of decoded and made words.
 use mathlib.Core.Path.{_≡_, refl, sym, ap, _∙_}
-use mathlib.Core.Bool.{true, false, not, _&&_}
-use mathlib.Core.List.{[], _∷_}
+use mathlib.Core.Bool.{true, false, not, _&&_, _||_}
+use mathlib.Core.List.{List, [], _∷_}
 use Prim.Native.Nat.{ℕ, _+_, _/_, _%_, _^_, _<_}
 use native.Mathlib.Nat.{zero-mod}
 use native.Mathlib.Omega.{arith}
 use lib.Dec.{eqb, lit<}
 use Rattle.util.specs.Bits.{field}
 use Rattle.util.specs.Wrap.{sum, diff}
+use Rattle.util.proofs.Choice.{neither}
 use Rattle.arm64_insn.specs.Add.{addOf}
 use Rattle.arm64_insn.specs.Adrp.{adrpOf, adrWord}
 use Rattle.arm64_insn.specs.Fix.{nopWord}
 use Rattle.arm64_insn.specs.Literal.{hasLiteralForm, literalWord, baseWord}
+use Rattle.arm64_insn.specs.Links.{links31, adds31, meets31}
 use Rattle.arm64_insn.specs.LoadStore.{loadStoreOf}
 use Rattle.arm64_insn.specs.LoadStoreTable.{Row}
 use Rattle.arm64_insn.specs.Manual.{imm12In, rowIn}
@@ -66,8 +68,18 @@ pub second-dropped : {a b p q : ℕ} {x y : A.Adrp} → adrpOf a ≡ AdrpWord.Ad
 second-dropped {a} {b} {y = y} ea eb r h =
     Rewrites.second-dropped (adrp-does a ea) (adrp-does b eb ∙ ap (λ (n : ℕ). adrp n (y .imm)) (sym r)) nop-does h
 
+-- words that number 31 does not link, and none of which is an ADD to it
+apart-31 : (a b : ℕ) (ws : List ℕ) → meets31 (a ∷ b ∷ ws) ≡ false → (links31 a b ≡ false) × (adds31 b ≡ false)
+apart-31 a b ws e =
+    let n = neither (links31 a b) (adds31 a || meets31 (b ∷ ws)) e in
+    (n .0, first ws (neither (adds31 a) (meets31 (b ∷ ws)) (n .1) .1))
+  where
+    first : (ws : List ℕ) → meets31 (b ∷ ws) ≡ false → adds31 b ≡ false
+    first [] e = e
+    first (c ∷ ws) e = neither (adds31 b) (meets31 (c ∷ ws)) (neither (links31 b c) (adds31 b || meets31 (c ∷ ws)) e .1) .0
+
 -- two words
-module _ {a b p q : ℕ} {x : A.Adrp} (fair : FairWords (placed a p ∷ placed b q ∷ []))
+module _ {a b p q : ℕ} {x : A.Adrp} (apart : meets31 (a ∷ b ∷ []) ≡ false) (fair : FairWords (placed a p ∷ placed b q ∷ []))
     (hp : p < 2 ^ 64) (hq : q < 2 ^ 64) (ea : adrpOf a ≡ AdrpWord.Adrp x) where
   -- the load becomes a literal load
   pub literal-second : {l : L.LoadStore} (to : ℕ) → loadStoreOf b ≡ LoadStoreWord.LoadStore l → l .base ≡ x .rd → hasLiteralForm l ≡ true
@@ -76,7 +88,7 @@ module _ {a b p q : ℕ} {x : A.Adrp} (fair : FairWords (placed a p ∷ placed b
   literal-second {l = l} to eb r f e lt four near =
       let y = accessed b eb in
       let z : sum (adrpPage (x .imm) p) (l .offset) ≡ to = omega arith in
-      FairLaws.load-literal fair (adrp-does a ea) (based-on b r (y .does)) nop-does (y .literals f to q)
+      FairLaws.load-literal (apart-31 a b [] apart .0) fair (adrp-does a ea) (based-on b r (y .does)) nop-does (y .literals f to q)
       (y .address _ ∙ z ∙ sym (literal-means to q lt hq near four (fair .aligned .1 .0)))
 
   -- the two make an address, and ADR makes it at once
@@ -85,12 +97,13 @@ module _ {a b p q : ℕ} {x : A.Adrp} (fair : FairWords (placed a p ∷ placed b
   adr-first {d = d} to eb r e lt near =
       let w = add-does b eb in
       let z : addValue 1 0 (adrpPage (x .imm) p) (d .imm) ≡ to = add-value (adrpPage (x .imm) p) (d .imm) ∙ omega arith in
-      FairLaws.add-adr fair (adrp-does a ea) (w ∙ ap (λ (n : ℕ). add (d .rd) n (d .imm)) r)
+      FairLaws.add-adr (apart-31 a b [] apart .0) (apart-31 a b [] apart .1) (adrp-does a ea) (w ∙ ap (λ (n : ℕ). add (d .rd) n (d .imm)) r)
       (adr-does (d .rd) to p (ranged b w .0) refl) nop-does
       (z ∙ sym (adr-means to p lt hp near))
 
 -- three words: ADRP, ADD on what it made, and an access through what ADD made
-module _ {a b c p q r : ℕ} {x : A.Adrp} {d : D.Add} {l : L.LoadStore} (fair : FairWords (placed a p ∷ placed b q ∷ placed c r ∷ []))
+module _ {a b c p q r : ℕ} {x : A.Adrp} {d : D.Add} {l : L.LoadStore} (apart : meets31 (a ∷ b ∷ c ∷ []) ≡ false)
+    (fair : FairWords (placed a p ∷ placed b q ∷ placed c r ∷ []))
     (ea : adrpOf a ≡ AdrpWord.Adrp x) (eb : addOf b ≡ AddWord.Add d) (ec : loadStoreOf c ≡ LoadStoreWord.LoadStore l)
     (first : d .rn ≡ x .rd) (second : l .base ≡ d .rd) where
   third : Accessed c l
@@ -98,7 +111,7 @@ module _ {a b c p q r : ℕ} {x : A.Adrp} {d : D.Add} {l : L.LoadStore} (fair : 
 
   chain : Chain a b c (x .rd) (x .imm) (d .rd) (d .imm) (l .reg) (imm12In c) (rowIn c)
   chain =
-      FairLaws.chain fair (adrp-does a ea) (add-does b eb ∙ ap (λ (n : ℕ). add (d .rd) n (d .imm)) first) (based-on c second (third .does))
+      FairLaws.chain (apart-31 a b (c ∷ []) apart .0) (apart-31 a b (c ∷ []) apart .1) fair (adrp-does a ea) (add-does b eb ∙ ap (λ (n : ℕ). add (d .rd) n (d .imm)) first) (based-on c second (third .does))
 
   -- the access becomes a literal load
   pub literal-third : (to : ℕ) → hasLiteralForm l ≡ true → to ≡ adrpPage (x .imm) p + d .imm + l .offset → to < 2 ^ 64 → to % 4 ≡ 0 → r < 2 ^ 64
@@ -158,12 +171,12 @@ module _ {a b c p q r : ℕ} {x : A.Adrp} {d : D.Add} {l : L.LoadStore} (fair : 
   folded-page off lt w = Rewrites.folded-page chain nopWord (baseWord l (d .rn) off) p q r nop-does (fold-does off lt) w
 
 -- three words: ADRP, a load of a GOT slot, and an access through what it loaded
-pub slot-second : {a b c p q r : ℕ} {x : A.Adrp} {g l : L.LoadStore} (slot : ℕ) → FairWords (placed a p ∷ placed b q ∷ placed c r ∷ [])
+pub slot-second : {a b c p q r : ℕ} {x : A.Adrp} {g l : L.LoadStore} (slot : ℕ) → meets31 (a ∷ b ∷ c ∷ []) ≡ false → FairWords (placed a p ∷ placed b q ∷ placed c r ∷ [])
     → adrpOf a ≡ AdrpWord.Adrp x → loadStoreOf b ≡ LoadStoreWord.LoadStore g → loadStoreOf c ≡ LoadStoreWord.LoadStore l
     → g .base ≡ x .rd → l .base ≡ g .reg → g .«is_store» ≡ false → g .«is_float» ≡ false → hasLiteralForm g ≡ true
     → slot ≡ adrpPage (x .imm) p + g .offset → slot < 2 ^ 64 → slot % 4 ≡ 0 → q < 2 ^ 64 → within1mb q slot ≡ true
     → CloseRun (placed a p ∷ placed b q ∷ placed c r ∷ []) (placed nopWord p ∷ placed (literalWord g slot q) q ∷ placed c r ∷ [])
-slot-second {a} {b} {c} {p} {q} {r} {x = x} {g = g} slot fair ea eb ec first second st fl f e lt four hq near =
+slot-second {a} {b} {c} {p} {q} {r} {x = x} {g = g} slot apart fair ea eb ec first second st fl f e lt four hq near =
     let y = accessed b eb in
     let w = accessed c ec in
     let z : sum (adrpPage (x .imm) p) (g .offset) ≡ slot = omega arith in
@@ -171,5 +184,5 @@ slot-second {a} {b} {c} {p} {q} {r} {x = x} {g = g} slot fair ea eb ec first sec
     (λ row. action b ≡ access row (g .reg) (x .rd) (imm12In b) → action (literalWord g slot q) ≡ literal row (g .reg) (field (diff slot q) 2 19)
     → accessAddress row (adrpPage (x .imm) p) (imm12In b) ≡ literalTarget (field (diff slot q) 2 19) q
     → CloseRun (placed a p ∷ placed b q ∷ placed c r ∷ []) (placed nopWord p ∷ placed (literalWord g slot q) q ∷ placed c r ∷ []))
-    (λ m n k u v h. FairLaws.slot-literal fair (adrp-does a ea) u (based-on c second (w .does)) nop-does v h)
+    (λ m n k u v h. FairLaws.slot-literal (apart-31 a b (c ∷ []) apart .0) fair (adrp-does a ea) u (based-on c second (w .does)) nop-does v h)
     (based-on b first (y .does)) (y .literals f slot q) (y .address _ ∙ z ∙ sym (literal-means slot q lt hq near four (fair .aligned .1 .0)))

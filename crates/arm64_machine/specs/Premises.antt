@@ -1,4 +1,5 @@
--- The premises of RULES 9.13 to 9.21: tests of words, the premises that the theorems need (FairWords), and all of them (WordPremises).
+-- The premises of RULES 9.13, 9.14 and 9.17 to 9.21: tests of words, the premises that the theorems need (FairWords), and all of them (WordPremises).
+-- None is about number 31.
 -- That the words share no image byte is said of a hint's places, above this crate.
 use Prim.Native.Nat.{ℕ, _+_, _*_, _%_, _^_}
 use mathlib.Core.Path.{_≡_}
@@ -40,24 +41,6 @@ reads (literal row rt k) r = false
 reads nop r = false
 reads other r = false
 
--- whether number 31 links word w to the next word u: destination of w, and base or ADD source of u
-unfoldable pub links31 : ℕ → ℕ → Bool
-links31 w u = writesOr false (action w) 31 && reads (action u) 31
-
--- whether an action is an ADD to number r
-abbrev pub addsTo : Action → ℕ → Bool
-addsTo (adr rd k) r = false
-addsTo (adrp rd k) r = false
-addsTo (add rd rn k) r = eqb r rd
-addsTo (access row rt rn k) r = false
-addsTo (literal row rt k) r = false
-addsTo nop r = false
-addsTo other r = false
-
--- whether a word is an ADD to number 31
-unfoldable pub adds31 : ℕ → Bool
-adds31 w = addsTo (action w) 31
-
 -- whether a load or store of register t stores a general register that `made` names; number 31 is a zero there, which nothing makes
 abbrev pub storesOf : Row → ℕ → (ℕ → Bool) → Bool
 storesOf (load m c n g) t made = false
@@ -83,8 +66,6 @@ storesMade w u = storesAny (action u) (writesOr false (action w))
 -- what the theorems suppose of the words of a hint
 pub record FairWords (ws : List Placed) : Type 0 where
   pub aligned : Each (λ w. w .address % 4 ≡ 0) ws
-  pub no-31-link : Next (λ w u. links31 w u ≡ false) ws
-  pub no-31-added : Each (λ w. adds31 (w .word) ≡ false) ws
   pub no-store : Later (λ w u. storesMade w u ≡ false) ws
 
 -- whether an access touches the byte at address b
@@ -132,14 +113,12 @@ makesVector other r = false
 unfoldable pub linksVector : ℕ → ℕ → ℕ → Bool
 linksVector d w u = makesVector (action w) d && reads (action u) d
 
--- every premise (RULES 9.2, 9.13 to 9.20) that speaks of the words, of one run of them from state s
+-- every premise (RULES 9.2, 9.13, 9.14, 9.17 to 9.20) that speaks of the words, of one run of them from state s
 pub record WordPremises (ws : List Placed) (o : Other) (s : State) : Type 0 where
   pub empty-at-first : s .log ≡ []
   pub allocated : Each (λ w. Manual.allocated (w .word) ≡ true) ws
   pub none-data : Each (λ a. Each (λ w. Each (λ k. touches a (sum (w .address) k) ≡ false) (0 ∷ 1 ∷ 2 ∷ 3 ∷ [])) ws) ((run o ws s) .log)
   pub aligned : Each (λ w. w .address % 4 ≡ 0) ws
   pub no-sum-passes : NoSumPasses o ws s
-  pub no-31-link : Next (λ w u. links31 w u ≡ false) ws
-  pub no-31-added : Each (λ w. adds31 (w .word) ≡ false) ws
   pub no-vector-link : Each (λ a. (d k : ℕ) → action (a .word) ≡ adrp d k → Next (λ w u. linksVector d w u ≡ false) ws) ws
   pub no-store : Later (λ w u. storesMade w u ≡ false) ws

@@ -43,7 +43,7 @@ use Rattle.hauklivo.proofs.payload.hauklivo_read_hints.Met as ReadHints
 use Rattle.hauklivo.proofs.payload.hauklivo_write_hints.Met as WriteHints
 use Rattle.hauklivo.proofs.ldst.hauklivo_load_store_class.Met as LoadStoreClass
 use Rattle.hauklivo.proofs.version.hauklivo_version.Met as Version
-use Rattle.hauklivo.proofs.version.hauklivo_version_3.Met as Version3
+use Rattle.hauklivo.proofs.version.hauklivo_version_4.Met as Version4
 use Rattle.claims.specs.Calls.{Calls}
 
 reader : (a : Reading) (slots : List ℕ) (count : ℕ) → (answerNumber (Walk.answerOf a) ≡ 0 → ⊥)
@@ -98,7 +98,7 @@ calls =
       write-hints = λ M. WriteHints.met;
       load-store-class = λ M. LoadStoreClass.met;
       version = λ M. Version.met;
-      version-3 = λ M. Version3.met;
+      version-4 = λ M. Version4.met;
       numbered = numbered;
       read-relocs-refused = λ contents records sections slots count. reader (readRelocs contents records sections slots) slots count;
       apply-reloc-alloc-refused = λ section base tls entries targets slots count.

@@ -9,6 +9,7 @@ use Rattle.arm64_hint_laws.proofs.Occurs as Occurs
 use Rattle.arm64_hint_laws.proofs.RustOrder as RustOrder
 use Rattle.arm64_hint_laws.proofs.AdrFirst as AdrFirst
 use Rattle.arm64_hint_laws.proofs.Unallocated as Unallocated
+use Rattle.arm64_hint_laws.proofs.Number31 as Number31
 use Rattle.arm64_hint_laws.proofs.Written as Written
 use Rattle.arm64_hint_laws.proofs.Written.{Fits, AllFit}
 use Rattle.arm64_hint_words.proofs.hint.Hint.get.Met as Get
@@ -17,8 +18,9 @@ use Rattle.arm64_hint_words.proofs.hint.Hint.addr.Met as Addr
 use Rattle.arm64_hint_words.proofs.hint.Hint.has_page_pair.Met as HasPagePair
 use Rattle.arm64_hint_run.proofs.Answers as Answers
 use Rattle.arm64_hint_run.proofs.Skipped as Skipped
-use Rattle.arm64_hint_run.proofs.Unallocated.{unallocated-leaves}
+use Rattle.arm64_hint_run.proofs.Declines.{unallocated-leaves, leaves-31}
 use Rattle.arm64_hint_kept.proofs.Unallocated.{unallocated-decline}
+use Rattle.arm64_hint_kept.proofs.Number31.{number-31-declines, number-31-stays}
 use Rattle.claims.specs.Hints.{Hints}
 
 -- a new word that fits is a word of 32 bits
@@ -41,6 +43,11 @@ hints =
       unallocated-leaves = unallocated-leaves;
       unallocated-examples = unallocated-decline;
       rewritten-allocated = Unallocated.rewritten-allocated;
+      declines-31 = Number31.meets-declines;
+      else-by-rule = Number31.as-before;
+      leaves-31 = leaves-31;
+      examples-31 = number-31-declines;
+      stays-31 = number-31-stays;
       words = λ n s r p e. subst (Worded s n) e (Hinted.worded n s r);
       written = Written.written;
       moved = RustOrder.moved;

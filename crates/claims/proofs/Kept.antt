@@ -11,6 +11,7 @@ use Rattle.arm64_insn.specs.Page.{pageOf, adrpPage}
 use Rattle.arm64_machine.specs.Machine.{action}
 use Rattle.arm64_machine.specs.SameRun.{SameRun}
 use Rattle.arm64_machine.proofs.Close.{close-same}
+use Rattle.arm64_machine.proofs.Links.{makes-is, takes-is, links-is, adds-is, adds-only}
 use Rattle.arm64_machine.proofs.Different as Different
 use Rattle.arm64_machine.proofs.Examples as Machine
 use Rattle.arm64_machine.proofs.Pinned as Pinned
@@ -27,6 +28,7 @@ use Rattle.arm64_hint_kept.proofs.Examples as Examples
 use Rattle.arm64_hint_kept.proofs.ExampleRuns as Runs
 use Rattle.arm64_hint_kept.proofs.Needed as Needed
 use Rattle.arm64_hint_kept.proofs.Unallocated.{rewritten-words-allocated}
+use Rattle.arm64_hint_kept.proofs.Number31.{rewritten-without-31}
 use Rattle.claims.specs.Kept.{one, two, Kept}
 
 refuted : (SameRun (one 0x1004 0xf9400401) (one 0x1004 0xd503201f) → ⊥)
@@ -54,6 +56,12 @@ kept =
       own-only = λ hints l. Own.own-only (objectAt hints) (lateAt hints) (hintCount hints) l;
       run-is = run-is;
       rewritten-words-allocated = λ entries h image. rewritten-words-allocated h image entries;
+      rewritten-without-31 = λ entries h image. rewritten-without-31 h image entries;
+      makes-written = makes-is;
+      takes-read = takes-is;
+      links-31 = links-is;
+      adds-31 = λ w e n i. adds-is w;
+      adds-31-only = adds-only;
       premises-fair = K.literal;
       literally = K.literally;
       of-the-run = K.of-the-run;
@@ -74,8 +82,6 @@ kept =
       kind-1-last = (Runs.late-order, Runs.late-run .0, Runs.late-run .1, Runs.by-position, Runs.not-kept);
       needs-disjoint = Needed.one-word-twice;
       needs-aligned = Needed.unaligned;
-      needs-no-31-link = Needed.linked-by-31;
-      needs-no-31-added = Needed.added-to-31;
       needs-no-store = Needed.made-and-stored;
       needs-alone = Needed.not-alone;
       needs-apart = Needed.parts-meet;

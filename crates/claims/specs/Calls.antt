@@ -25,7 +25,7 @@ use Rattle.hauklivo.proofs.payload.hauklivo_read_hints.Statement as ReadHints
 use Rattle.hauklivo.proofs.payload.hauklivo_write_hints.Statement as WriteHints
 use Rattle.hauklivo.proofs.ldst.hauklivo_load_store_class.Statement as LoadStoreClass
 use Rattle.hauklivo.proofs.version.hauklivo_version.Statement as Version
-use Rattle.hauklivo.proofs.version.hauklivo_version_3.Statement as Version3
+use Rattle.hauklivo.proofs.version.hauklivo_version_4.Statement as Version4
 
 -- `statement M` is made by the toolchain from the code and its contract. It says of the compiled function, in every memory that can be lent as its
 -- parameters say: it touches no other memory, it returns, and its answer and every lent byte are what its `ensures` say. No call here has a `requires`
@@ -49,7 +49,7 @@ pub record Calls : Type 2 where
   pub load-store-class : (M : Type 1) → LoadStoreClass.statement M
   -- the version of the calls, by either name (hauklivo/src/version.rt)
   pub version : (M : Type 1) → Version.statement M
-  pub version-3 : (M : Type 1) → Version3.statement M
+  pub version-4 : (M : Type 1) → Version4.statement M
   -- RULES 3.1: a refusal's number is one of 1 to 14
   pub numbered : (x : Refusal) → (1 ≤ Refusal.numberOf x) × (Refusal.numberOf x ≤ 14)
   -- RULES 1.3, 3.2: a refused reader leaves slots and count

@@ -15,6 +15,7 @@ use Rattle.macho.specs.declared.refusal.Refusal.the-variants.{Overflow}
 use Rattle.image.specs.Words.{wordsAt}
 use Rattle.image.specs.Steps.{Work, answered, stepOf}
 use Rattle.arm64_insn.specs.Manual.{anyUnallocated}
+use Rattle.arm64_insn.specs.Links.{meets31}
 use Rattle.arm64_insn.specs.Adrp.{adrWord}
 use Rattle.arm64_insn.specs.Literal.{hasLiteralForm}
 use Rattle.arm64_insn.specs.Reach.{within1mb}
@@ -28,7 +29,7 @@ use Rattle.arm64_hint_terms.specs.declared.answer.NewWord.the-variants.{Keep, S
 use Rattle.arm64_hint_terms.specs.declared.answer.Decision.the-variants.{Declined, Nine, Rewritten}
 use Rattle.arm64_hint_terms.specs.declared.rels.Rel.the-variants.{Entry}
 use Rattle.arm64_hint_terms.specs.declared.rels.Rels.{Rels}
-use Rattle.arm64_hint_laws.specs.Decide.{decide, Occurs}
+use Rattle.arm64_hint_laws.specs.Decide.{byRule, bars31, decide, Occurs}
 use Rattle.arm64_hint_laws.specs.RustOrder.{inRustOrder, BothFit, AdrFits, MovedExamples}
 use Rattle.arm64_hint_laws.specs.Written.{Written}
 use Rattle.arm64_hint_order.specs.Lists.{runList}
@@ -44,6 +45,7 @@ use Rattle.arm64_hint_work.specs.declared.tally.Tally.{Tally}
 use Rattle.arm64_hint_run.specs.Run.{runOf}
 use Rattle.arm64_hint_run.specs.declared.run.RunAnswer.the-variants.{Done}
 use Rattle.arm64_hint_kept.specs.Unallocated.{UnallocatedDecline}
+use Rattle.arm64_hint_kept.specs.Number31.{Number31Declines, Number31Stays}
 
 -- what is claimed of hints
 pub record Hints : Type 2 where
@@ -76,17 +78,32 @@ pub record Hints : Type 2 where
   pub unallocated-examples : UnallocatedDecline
   -- what is rewritten has allocated words
   pub rewritten-allocated : (n : ℕ) (s : Insns) (r : Rels) (p : Plan) → decide n s r ≡ Rewritten p → anyUnallocated (heldWords n s) ≡ false
-  -- RULES 8.4: it has the kind's words, by the manual's instructions, or what may stand there instead
+  -- RULES 8.35: a hint of another kind than ADRP_ADRP that number 31 links, or one of whose words is an ADD to it, declines, whatever its entries: it
+  -- reaches no sum
+  pub declines-31 : (n : ℕ) (s : Insns) (r : Rels) → (n ≡ MCLOH-AdrpAdrp → ⊥) → meets31 (heldWords n s) ≡ true → decide n s r ≡ Declined
+  -- every other hint is decided by its kind's rule
+  pub else-by-rule : (n : ℕ) (s : Insns) (r : Rels) → (n ≡ MCLOH-AdrpAdrp) ⊎ (meets31 (heldWords n s) ≡ false) → decide n s r ≡ byRule n s r
+  -- in a run it is told by the words that stand at the hint's places at its turn; it leaves the image, and is counted
+  pub leaves-31 : (hints entries : List ℕ) (k : ℕ) (w : Work Tally) → (hintOf hints k .kind ≡ MCLOH-AdrpAdrp → ⊥)
+      → meets31 (wordsAt (placesOf (hintOf hints k)) (w .image)) ≡ true
+      → stepOf (stepsOf hints entries) k w ≡ record { image = w .image; tally = addDecision Declined (w .tally) }
+  -- an ADRP to 31, an ADD to 31 and a GOT load into 31, by kind, with what the rule alone would have decided: of a sum above 2^64 - 1, too; for ADRP and
+  -- ADD, that its words would not have run as the old ones
+  pub examples-31 : Number31Declines
+  -- number 31 where it links nothing
+  pub stays-31 : Number31Stays
+  -- RULES 8.4: what is rewritten has the kind's words, by the manual's instructions, or what may stand there instead
   pub words : (n : ℕ) (s : Insns) (r : Rels) (p : Plan) → decide n s r ≡ Rewritten p → AreWords (wordsOf n) (s .w0 ∷ s .w1 ∷ s .w2 ∷ [])
   -- RULES 8.12, 8.14: what each rewrite writes at each place, and which kinds may answer nine: the table Written (arm64_hint_laws/specs/Written)
   pub written : (kind : ℕ) (s : Insns) (r : Rels) → Written s kind (decide kind s r)
-  -- RULES 8.18, 8.20: a hint of ADRP_ADD_LDR or ADRP_ADD_STR that both the fold and the ADR fit is folded; the Rust's order has the ADR
-  pub moved : (kind : ℕ) (s : Insns) (r : Rels) (f : BothFit kind s r)
+  -- RULES 8.18, 8.20: a hint of ADRP_ADD_LDR or ADRP_ADD_STR that both the fold and the ADR fit is folded, where number 31 does not bar it; the Rust's order
+  -- has the ADR
+  pub moved : (kind : ℕ) (s : Insns) (r : Rels) → bars31 kind s ≡ false → (f : BothFit kind s r)
       → (decide kind s r ≡ folded (f .ls) (f .d .rn) (f .d .imm)) × (inRustOrder kind s r ≡ adrThird s (f .ls) (f .addr))
   -- that ADR is never the ADRP that the fold keeps
   pub moved-word : (kind : ℕ) (s : Insns) (r : Rels) (f : BothFit kind s r) → adrWord (f .ls .base) (f .addr) (s .p0) ≡ s .w0 → ⊥
   -- no other hint of these two kinds moves by the order: it is decided as in the Rust's
-  pub moved-only : (kind : ℕ) (s : Insns) (r : Rels) → (decide kind s r ≡ inRustOrder kind s r) ⊎ BothFit kind s r
+  pub moved-only : (kind : ℕ) (s : Insns) (r : Rels) → bars31 kind s ≡ false → (decide kind s r ≡ inRustOrder kind s r) ⊎ BothFit kind s r
   -- a load and a store of ADRP_ADD_LDR and a store of ADRP_ADD_STR that both fit, with the words of both orders
   pub moved-examples : MovedExamples
   -- RULES 8.19, 8.21: the kinds of a GOT load keep the ADR before the fold. ADRP_LDR_GOT_STR has it for every store that it fits

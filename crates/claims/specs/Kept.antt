@@ -2,28 +2,31 @@
 -- The statement itself (Fair, Close, HintsKept, Premises, Literally) is arm64_hint_kept/specs/HintsKept, the machine arm64_machine/specs.
 use mathlib.Core.Path.{_≡_}
 use mathlib.Core.Logic.{_≢_}
-use mathlib.Core.Bool.{true, false}
+use mathlib.Core.Bool.{true, false, _&&_}
 use mathlib.Core.List.{List, [], _∷_}
 use Prim.Native.Nat.{ℕ, _+_, _^_, _≤_, _<_}
+use lib.Dec.{eqb}
 use lib.ListN.{length, getD}
 use Rattle.macho.specs.Hint.{noEntry, wordCount, hintCount, hintOf}
+use Rattle.macho.specs.Types.{MCLOH-AdrpAdrp}
 use Rattle.macho.specs.declared.hint.HintRecord.{HintRecord}
 use Rattle.image.specs.Words.{span, wordsAt}
 use Rattle.arm64_insn.specs.LoadStoreTable as Table
 use Rattle.arm64_insn.specs.LoadStoreTable.{Row, Mnemonic, general, zeros, sign64}
 use Rattle.arm64_insn.specs.Manual.{allocated}
+use Rattle.arm64_insn.specs.Links.{makes, takes, links31, adds31}
 use Rattle.arm64_insn.specs.ManualTargets.{literalTarget, accessAddress}
 use Rattle.arm64_insn.specs.Page.{adrpPage}
-use Rattle.arm64_machine.specs.Machine.{load, store, Placed, placed, State, Other, action, adrp, access, literal, nop, other, run}
+use Rattle.arm64_machine.specs.Machine.{load, store, Placed, placed, State, Other, action, adrp, add, access, literal, nop, other, run}
 use Rattle.arm64_machine.specs.Examples.{start, high, logged, idle, placing, copying, loading}
-use Rattle.arm64_machine.specs.SameRun.{spared, Agree, SameRun, CloseRun}
+use Rattle.arm64_machine.specs.SameRun.{writesOr, spared, Agree, SameRun, CloseRun}
 use Rattle.arm64_machine.specs.Premises as Machine
 use Rattle.arm64_hint_terms.specs.declared.answer.Insns.{Insns}
 use Rattle.arm64_hint_terms.specs.declared.answer.Plan.{Plan}
 use Rattle.arm64_hint_terms.specs.declared.answer.Rewrite.the-variants.{Fold}
 use Rattle.arm64_hint_terms.specs.declared.answer.Decision.the-variants.{Rewritten}
 use Rattle.arm64_hint_terms.specs.declared.rels.Rels.{Rels}
-use Rattle.arm64_hint_laws.specs.Decide.{decide}
+use Rattle.arm64_hint_laws.specs.Decide.{bars31, decide}
 use Rattle.arm64_hint_laws.specs.RustOrder.{inRustOrder, BothFit}
 use Rattle.arm64_hint_order.specs.Lists.{Once}
 use Rattle.arm64_hint_order.specs.Cursor.{objectAt, lateAt, orderOf}
@@ -39,6 +42,7 @@ use Rattle.arm64_hint_kept.specs.HintsKept.{Fair, Close, HintsKept, Premises, L
 use Rattle.arm64_hint_kept.specs.HintsKept as Order
 use Rattle.arm64_hint_kept.specs.Decided.{placedOf, after}
 use Rattle.arm64_hint_kept.specs.Folded.{FoldKeeps}
+use Rattle.arm64_hint_kept.specs.Number31.{Without31}
 use Rattle.arm64_hint_kept.specs.PartCalls.{Call, partOf, PartCall, PartCalls, added}
 use Rattle.arm64_hint_kept.specs.Examples.{words, place, none-at, hintIn, lent, pair, gotPair, counts, EachRewrite, Shown}
 use Rattle.arm64_hint_kept.specs.ExampleRuns.{four, fourWords, fourAfter, beside, besideCalls, besideCounts, besideWords, besideAfter}
@@ -75,6 +79,17 @@ pub record Kept : Type 0 where
   pub rewritten-words-allocated : (entries : List ℕ) (h : HintRecord) (image : List ℕ) (p : Plan) (s : Insns)
       → hintOutcome entries h (wordsAt (placesOf h) image) ≡ Worked (Rewritten p) s
       → Machine.Each (λ w. allocated (w .word) ≡ true) (Order.codes h image)
+  -- RULES 9.15, 9.16, 9.21: of another kind than ADRP_ADRP, number 31 does not link them and no ADD among them makes it, in the machine's own words
+  -- (Without31: arm64_hint_kept/specs/Number31), which no premise supposes
+  pub rewritten-without-31 : (entries : List ℕ) (h : HintRecord) (image : List ℕ) (p : Plan) (s : Insns) → (h .kind ≡ MCLOH-AdrpAdrp → ⊥)
+      → hintOutcome entries h (wordsAt (placesOf h) image) ≡ Worked (Rewritten p) s → Without31 (Order.codes h image)
+  -- RULES 7.35, 9.9: what a word makes is what the machine writes, what it takes as a base or ADD source is what the machine reads, and so a link by 31
+  pub makes-written : (w r : ℕ) → makes w r ≡ writesOr false (action w) r
+  pub takes-read : (w r : ℕ) → takes w r ≡ Machine.reads (action w) r
+  pub links-31 : (w u : ℕ) → links31 w u ≡ (writesOr false (action w) 31 && Machine.reads (action u) 31)
+  -- an ADD to 31 is the machine's
+  pub adds-31 : (w e n i : ℕ) → action w ≡ add e n i → adds31 w ≡ eqb 31 e
+  pub adds-31-only : (w : ℕ) → adds31 w ≡ true → (n : ℕ) × (i : ℕ) × (action w ≡ add 31 n i)
   -- RULES 9.21: every premise gives those that are needed, and so the claim with every premise follows
   pub premises-fair : (h : HintRecord) (image : List ℕ) (o : Other) (s : State) → Premises h image o s → Fair h image
   pub literally : (image hints entries l : List ℕ) (t : Tally) → HintsKept image hints entries l t → Literally image hints entries l t
@@ -112,8 +127,9 @@ pub record Kept : Type 0 where
   -- RULES 9.33: what a fold leaves (FoldKeeps: arm64_hint_kept/specs/Folded): ADRP, the old accesses, its page in ADRP's register; only the ADD's may differ
   pub fold-keeps : (kind : ℕ) (s : Insns) (r : Rels) (p : Plan) → Machine.FairWords (placedOf 3 s) → decide kind s r ≡ Rewritten p → p .rewrite ≡ Fold
       → FoldKeeps s (after (Rewritten p) s)
-  -- where fold and ADR both fit, the words of either order make the same accesses and end alike but for what is exempt
-  pub orders-alike : (kind : ℕ) (s : Insns) (r : Rels) → s .p0 < 2 ^ 64 → Machine.FairWords (placedOf 3 s) → BothFit kind s r → (o : Other) (z : State)
+  -- where fold and ADR both fit and number 31 does not bar the hint, the words of either order make the same accesses and end alike but for what is exempt
+  pub orders-alike : (kind : ℕ) (s : Insns) (r : Rels) → s .p0 < 2 ^ 64 → Machine.FairWords (placedOf 3 s) → bars31 kind s ≡ false → BothFit kind s r
+      → (o : Other) (z : State)
       → Agree (spared (placedOf 3 s)) (run o (placedOf 3 (after (inRustOrder kind s r) s)) z) (run o (placedOf 3 (after (decide kind s r) s)) z)
   -- adrp x1; add x2, x1, #8; ldrb w5, [x2]: the page is in x1 at the end, and so it is after the fold; the ADR leaves there what was there
   pub fold-shares : ((run idle (three 0x1000 0x90000241 0x91002022 0x39400045) start) .x 1 ≡ 0x49000)
@@ -146,23 +162,17 @@ pub record Kept : Type 0 where
       × (imageOf lateWords (lent late) pair ≡ lateAfter)
       × (worked lateWords (lent late) pair (0 ∷ 1 ∷ []) ≡ record { image = words (0x90000000 ∷ 0xd503201f ∷ 0xf9400401 ∷ []); tally = counts 1 0 1 0 })
       × (Order.KeepsOrder (lent late) (0 ∷ 1 ∷ []) → ⊥)
-  -- RULES 9.21: without one premise, and with all the others of 9.12 and 9.14 to 9.17, a rewrite need not run alike
+  -- RULES 9.21: without one premise, and with all the others of 9.12, 9.14 and 9.17, a rewrite need not run alike
   -- (Fails: arm64_hint_kept/specs/Needed)
   -- disjoint
   pub needs-disjoint : Fails pair (hintIn 1 0 0 4 (place 0 0 0x1000) (place 0 0 0x1000) none-at) (0x90000000 ∷ [])
-      (false ∷ true ∷ true ∷ true ∷ true ∷ []) (0xd503201f ∷ [])
+      (false ∷ true ∷ true ∷ []) (0xd503201f ∷ [])
   -- aligned
   pub needs-aligned : Fails pair (hintIn 2 0 0 8 (place 0 0 0x1002) (place 4 1 0x1006) none-at) (0x90000000 ∷ 0x3ded9c01 ∷ [])
-      (true ∷ false ∷ true ∷ true ∷ true ∷ []) (0xd503201f ∷ 0x9c05b341 ∷ [])
-  -- no link by 31
-  pub needs-no-31-link : Fails pair (hintIn 2 0 0 8 (place 0 0 0x1000) (place 4 1 0x1004) none-at) (0x9000001f ∷ 0xbd4003e1 ∷ [])
-      (true ∷ true ∷ false ∷ true ∷ true ∷ []) (0xd503201f ∷ 0x1cffffe1 ∷ [])
-  -- no ADD to 31
-  pub needs-no-31-added : Fails pair (hintIn 7 0 0 8 (place 0 0 0x1000) (place 4 1 0x1004) none-at) (0xd0000340 ∷ 0x9100401f ∷ [])
-      (true ∷ true ∷ true ∷ false ∷ true ∷ []) (0x1035009f ∷ 0xd503201f ∷ [])
+      (true ∷ false ∷ true ∷ []) (0xd503201f ∷ 0x9c05b341 ∷ [])
   -- no store of what was made
   pub needs-no-store : Fails gotPair (hintIn 6 0 0 12 (place 0 0 0x1000) (place 4 1 0x1004) (place 8 noEntry 0x1008))
-      (0x90000000 ∷ 0x91004002 ∷ 0xf9000040 ∷ []) (true ∷ true ∷ true ∷ true ∷ false ∷ []) (0x10000082 ∷ 0xd503201f ∷ 0xf9000040 ∷ [])
+      (0x90000000 ∷ 0x91004002 ∷ 0xf9000040 ∷ []) (true ∷ true ∷ false ∷ []) (0x10000082 ∷ 0xd503201f ∷ 0xf9000040 ∷ [])
   -- hints that share a byte, and parts of different objects that meet
   pub needs-alone : Shared
   pub needs-apart : Meeting

@@ -32,6 +32,16 @@ unfolding choose
 choose-ap f true a b = refl
 choose-ap f false a b = refl
 
+-- a test and one that holds
+pub and-true : (t : Bool) → (t && true) ≡ t
+and-true true = refl
+and-true false = refl
+
+-- a test and one that fails
+pub and-false : (t : Bool) → (t && false) ≡ false
+and-false true = refl
+and-false false = refl
+
 -- both of two tests hold
 pub both : (s t : Bool) → (s && t) ≡ true → (s ≡ true) × (t ≡ true)
 both true t h = (refl, h)

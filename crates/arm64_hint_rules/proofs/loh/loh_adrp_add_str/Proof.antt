@@ -3,10 +3,7 @@ use mathlib.Core.Path.{refl, sym, ap, _∙_}
 use mathlib.Core.List.{List}
 use Prim.Native.Nat.{ℕ}
 use denote.Ref.{RefT}
-use Rattle.util.specs.Choice.{choose}
 use Rattle.macho.specs.Types.{MCLOH-AdrpAddStr}
-use Rattle.arm64_hint_adrp.specs.Three.{adrpAddStr}
-use Rattle.arm64_hint_laws.specs.Decide.{decide}
 use Rattle.arm64_hint_rules.proofs.Rules.{still-inside, inside-same, loh-is}
 use borrow.Author.Needs.{needs}
 use Rattle.arm64_hint_rules.proofs.loh.loh_adrp_add_str.Statement.{statement}
@@ -20,15 +17,12 @@ insns-of-requires c κs =
     let p = c .before in
     inside-same _ (p .part .ensures .1 refl refl) (p .before .before .before .pre)
 
-has-page-pair-requires : tie.Need-has-page-pair-requires
-has-page-pair-requires c κs = search needs
-
-adrp-add-str-requires : tie.Need-adrp-add-str-requires
-adrp-add-str-requires c κs = search needs
+decide-adrp-add-str-requires : tie.Need-decide-adrp-add-str-requires
+decide-adrp-add-str-requires c κs = search needs
 
 store-requires : tie.Need-store-requires
 store-requires c κs =
-    let w = c .before .before .before .before in
+    let w = c .before .before .before in
     let p = w .before .before in
     still-inside _ (w .insns-of .ensures .1) (inside-same _ (p .part .ensures .1 refl refl) (p .before .before .before .pre))
 
@@ -36,15 +30,12 @@ same-length : tie.Need-same-length
 same-length c = search needs
 
 returns : tie.Need-returns
-unfolding decide choose
 returns c =
     let d = c .before .before .before in
-    let w = d .before .before .before .before in
+    let w = d .before .before .before in
     let same = w .before .before .part .ensures .1 refl refl in
-    loh-is _ _ MCLOH-AdrpAddStr same (w .insns-of .ensures .0) (w .insns-of .ensures .1)
-    (d .adrp-add-str .ensures ∙ ap (adrpAddStr (w .insns-of .result)) (d .before .has-page-pair .ensures))
+    loh-is _ _ MCLOH-AdrpAddStr same (w .insns-of .ensures .0) (w .insns-of .ensures .1) (d .decide-adrp-add-str .ensures)
     (c .before .section .given .1 .0 (sym (ap (λ (r : RefT (List ℕ)). r .name) same)) ∙ c .before .before .store .ensures)
 
 pub loh-adrp-add-str-spec : {M : Type 1} → statement M
-loh-adrp-add-str-spec =
-    tie.close (tie.spec part-requires insns-of-requires has-page-pair-requires adrp-add-str-requires store-requires same-length returns)
+loh-adrp-add-str-spec = tie.close (tie.spec part-requires insns-of-requires decide-adrp-add-str-requires store-requires same-length returns)

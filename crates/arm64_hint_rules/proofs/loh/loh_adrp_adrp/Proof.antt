@@ -6,7 +6,7 @@ use denote.Ref.{RefT}
 use Rattle.util.specs.Choice.{choose}
 use Rattle.macho.specs.Types.{MCLOH-AdrpAdrp}
 use Rattle.arm64_hint_adrp.specs.Two.{adrpAdrp}
-use Rattle.arm64_hint_laws.specs.Decide.{decide}
+use Rattle.arm64_hint_laws.specs.Decide.{byRule, bars31, decide}
 use Rattle.arm64_hint_rules.proofs.Rules.{still-inside, inside-same, loh-is}
 use borrow.Author.Needs.{needs}
 use Rattle.arm64_hint_rules.proofs.loh.loh_adrp_adrp.Statement.{statement}
@@ -36,7 +36,7 @@ same-length : tie.Need-same-length
 same-length c = search needs
 
 returns : tie.Need-returns
-unfolding decide choose
+unfolding decide bars31 byRule choose
 returns c =
     let d = c .before .before .before in
     let w = d .before .before .before .before in

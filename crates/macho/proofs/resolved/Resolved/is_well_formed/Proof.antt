@@ -6,17 +6,10 @@ use native.Mathlib.Omega.{arith}
 use borrow.Author.Tests.{lt-ltb, eq-eqb, ne-eqb, ltb-true, ltb-false}
 use lib.Dec.{eqb, ltb}
 use Rattle.util.specs.Bits.{field, hasBit}
+use Rattle.util.proofs.Choice.{and-true, and-false}
 use Rattle.macho.specs.Resolved.{wellFormed}
 use Rattle.macho.proofs.resolved.Resolved.is_well_formed.Statement.{statement}
 use Rattle.macho.proofs.resolved.Resolved.is_well_formed.Tie as tie
-
-and-false : (b : Bool) → (b && false) ≡ false
-and-false true = refl
-and-false false = refl
-
-and-true : (b : Bool) → b ≡ (b && true)
-and-true true = refl
-and-true false = refl
 
 -- not both of the bits
 apart : (f : ℕ) → f < 0x180 → (hasBit f 7 && hasBit f 8) ≡ false
@@ -27,7 +20,7 @@ apart f h = go (ltb f (2 ^ 8)) refl
     go false e = let l = ltb-false f (2 ^ 8) e in simp (ne-eqb (field f 7 1) 1 (λ q. omega arith))
 
 let-through : (f : ℕ) (z : Bool) → f < 0x180 → z ≡ (ltb f (2 ^ 9) && (z && not (hasBit f 7 && hasBit f 8)))
-let-through f z h = rw (lt-ltb f (2 ^ 9) (omega arith), apart f h) (and-true z)
+let-through f z h = rw (lt-ltb f (2 ^ 9) (omega arith), apart f h) (sym (and-true z))
 
 -- both of them, or a bit above
 turned-down : (f : ℕ) (z : Bool) → 0x180 ≤ f → (ltb f (2 ^ 9) && (z && not (hasBit f 7 && hasBit f 8))) ≡ false

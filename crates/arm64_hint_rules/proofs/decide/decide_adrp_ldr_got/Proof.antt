@@ -1,0 +1,41 @@
+-- `decide_adrp_ldr_got`: where number 31 does not bar the hint, its rule decides.
+use mathlib.Core.Path.{sym, ap, _∙_}
+use native.Mathlib.Omega.{arith}
+use Rattle.util.specs.Choice.{choose}
+use Rattle.macho.specs.Types.{MCLOH-AdrpLdrGot}
+use Rattle.macho.specs.Hint.{wordCount}
+use Rattle.arm64_hint_got.specs.Got.{adrpLdrGot}
+use Rattle.arm64_hint_laws.specs.Decide.{byRule}
+use Rattle.arm64_hint_laws.proofs.Number31.{barred, barred-declines, else-same}
+use borrow.Author.Needs.{needs}
+use Rattle.arm64_hint_rules.proofs.decide.decide_adrp_ldr_got.Statement.{statement}
+use Rattle.arm64_hint_rules.proofs.decide.decide_adrp_ldr_got.Tie as tie
+
+meets-31-requires : tie.Need-meets-31-requires
+meets-31-requires c κs = search needs
+
+returns : tie.Need-returns
+unfolding wordCount choose
+returns c =
+    let m = c .before in
+    let s = m .before .args .s in
+    sym (barred-declines MCLOH-AdrpLdrGot s (m .before .args .r) (barred MCLOH-AdrpLdrGot s (λ e. omega arith) ∙ sym (m .meets-31 .ensures) ∙ c .if1 .taken))
+
+has-page-pair-requires : tie.Need-has-page-pair-requires
+has-page-pair-requires c κs = search needs
+
+adrp-ldr-got-requires : tie.Need-adrp-ldr-got-requires
+adrp-ldr-got-requires c κs = search needs
+
+returns-2 : tie.Need-returns-2
+unfolding byRule wordCount choose
+returns-2 c =
+    let i = c .before .before in
+    let m = i .before in
+    let s = m .before .args .s in
+    c .adrp-ldr-got .ensures
+    ∙ ap (adrpLdrGot s) (c .before .has-page-pair .ensures)
+    ∙ sym (else-same MCLOH-AdrpLdrGot s (m .before .args .r) (barred MCLOH-AdrpLdrGot s (λ e. omega arith) ∙ sym (m .meets-31 .ensures) ∙ i .if1 .left))
+
+pub decide-adrp-ldr-got-spec : {M : Type 1} → statement M
+decide-adrp-ldr-got-spec = tie.close (tie.spec meets-31-requires returns has-page-pair-requires adrp-ldr-got-requires returns-2)
