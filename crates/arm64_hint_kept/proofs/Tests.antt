@@ -1,4 +1,4 @@
--- The premises (RULES 9.12 to 9.14, 9.17 to 9.20) and what is said of lists of hints as tests: on closed hints and images they are computed.
+-- The premises (RULES 9.12 to 9.20) and what is said of lists of hints as tests: on closed hints and images they are computed.
 use mathlib.Core.Path.{_≡_, refl, sym, ap, ap₂, _∙_}
 use mathlib.Core.Logic.{inl, inr}
 use mathlib.Core.Bool.{Bool, true, false, not, _&&_, _||_, true≢false}
@@ -72,7 +72,7 @@ fair-when h image e =
     let f = each-by (λ t. t) (λ t. t ≡ true) (λ t h. h) (tests h image) e in
     record { disjoint = disjoint-by (placesOf h) (f .0); words = fair-by (f .1 .0) (f .1 .1 .0) }
 
--- whether they meet every premise (RULES 9.12 to 9.14, 9.17 to 9.20) in a run from state s
+-- whether they meet every premise (RULES 9.12 to 9.20) in a run from state s
 abbrev pub meetsAll : HintRecord → List ℕ → Other → State → Bool
 meetsAll h image o s = each (λ t. t) (tests h image) && leftOut (codes h image) o s
 

@@ -83,7 +83,7 @@ pub record HintsKept (image hints entries l : List ℕ) (t : Tally) : Type 0 whe
 
 -- ---- the claim with every premise (RULES 1.9 to 1.13)
 
--- every premise (RULES 9.12 to 9.14, 9.17 to 9.20) on a sequence and its run from state s, also those that Fair leaves out (arm64_machine, WordPremises:
+-- every premise (RULES 9.12 to 9.20) on a sequence and its run from state s, also those that Fair leaves out (arm64_machine, WordPremises:
 -- the two of FairWords, empty-at-first, allocated, none-data, no-sum-passes and no-vector-link)
 pub record Premises (h : HintRecord) (image : List ℕ) (o : Other) (s : State) : Type 0 where
   pub disjoint : Disjoint (placesOf h)

@@ -35,6 +35,11 @@ use Rattle.arm64_hint_adrp.specs.Three.{addAccess, through, folds, foldOrAdr, l
 use Rattle.arm64_hint_got.specs.Got.{loadsSlot, slotLoad, gotLoad, adrpLdrGot, slotTo, gotLiteral, adrpLdrGotLdr, adrpLdrGotStr}
 use Rattle.arm64_hint_laws.specs.Decide.{byRule, bars31, decide, Occurs}
 
+-- the choice of the rule: to unfold this name is to unfold all that its line names
+unfoldable barring : Unit {0}
+unfolding wordCount makes takes links31 adds31 bars31 byRule decide
+barring = tt
+
 -- three words in a row from 0x1000 on
 abbrev at : ℕ → ℕ → ℕ → Insns
 at a b c = record { w0 = a; w1 = b; w2 = c; p0 = 0x1000; p1 = 0x1004; p2 = 0x1008 }
@@ -44,7 +49,7 @@ writes r a b c = record { rewrite = r; w0 = a; w1 = b; w2 = c }
 
 module _ (r : Rels) where
   adrp-adrp : Refers MCLOH-AdrpAdrp r → Occurs MCLOH-AdrpAdrp r
-  unfolding decide bars31 byRule choose adrpAdrp adrpOf samePage adrpPage pageOf
+  unfolding barring choose adrpAdrp adrpOf samePage adrpPage pageOf
   adrp-adrp f = record {
     words = at 0x90000000 0x90000000 0;
     plan = writes Drop Keep (Set nopWord) Keep;
@@ -52,7 +57,7 @@ module _ (r : Rels) where
   }
 
   adrp-ldr : Refers MCLOH-AdrpLdr r → Occurs MCLOH-AdrpLdr r
-  unfolding decide bars31 byRule wordCount links31 makes takes adds31 choose adrpLdr adrpOf loadStoreOf rowOf ldrAtPage adrpPage pageOf sumOf ldrSecond fitsLiteral hasLiteralForm within1mb inRange
+  unfolding barring choose adrpLdr adrpOf loadStoreOf rowOf ldrAtPage adrpPage pageOf sumOf ldrSecond fitsLiteral hasLiteralForm within1mb inRange
       literalWord literalOpc literalV
   adrp-ldr f = record {
     words = at 0x90000000 0xf9400401 0;
@@ -61,7 +66,7 @@ module _ (r : Rels) where
   }
 
   adrp-add-ldr : Refers MCLOH-AdrpAddLdr r → Occurs MCLOH-AdrpAddLdr r
-  unfolding decide bars31 byRule wordCount links31 makes takes adds31 choose adrpAddLdr through adrpOf addOf loadStoreOf rowOf addAccess adrpPage pageOf sumOf loadThrough fitsLiteral hasLiteralForm
+  unfolding barring choose adrpAddLdr through adrpOf addOf loadStoreOf rowOf addAccess adrpPage pageOf sumOf loadThrough fitsLiteral hasLiteralForm
       within1mb inRange folds foldOrAdr baseWord
   adrp-add-ldr f = record {
     words = at 0x905bed00 0x912f2001 0x3d000025;
@@ -70,7 +75,7 @@ module _ (r : Rels) where
   }
 
   adrp-ldr-got-ldr : Refers MCLOH-AdrpLdrGotLdr r → Occurs MCLOH-AdrpLdrGotLdr r
-  unfolding decide bars31 byRule wordCount links31 makes takes adds31 choose adrpLdrGotLdr adrpOf loadStoreOf rowOf addOf gotLoad slotLoad loadsSlot adrpPage pageOf sumOf gotLiteral slotTo within1mb
+  unfolding barring choose adrpLdrGotLdr adrpOf loadStoreOf rowOf addOf gotLoad slotLoad loadsSlot adrpPage pageOf sumOf gotLiteral slotTo within1mb
       inRange literalWord literalOpc literalV
   adrp-ldr-got-ldr f = record {
     words = at 0xb0000000 0xf9400402 0x39c00042;
@@ -79,7 +84,7 @@ module _ (r : Rels) where
   }
 
   adrp-add-str : Refers MCLOH-AdrpAddStr r → Occurs MCLOH-AdrpAddStr r
-  unfolding decide bars31 byRule wordCount links31 makes takes adds31 choose adrpAddStr through adrpOf addOf loadStoreOf rowOf addAccess adrpPage pageOf sumOf within1mb inRange folds foldOrAdr
+  unfolding barring choose adrpAddStr through adrpOf addOf loadStoreOf rowOf addAccess adrpPage pageOf sumOf within1mb inRange folds foldOrAdr
       baseWord
   adrp-add-str f = record {
     words = at 0x90001000 0x91004000 0xf9000001;
@@ -88,7 +93,7 @@ module _ (r : Rels) where
   }
 
   adrp-ldr-got-str : Refers MCLOH-AdrpLdrGotStr r → Occurs MCLOH-AdrpLdrGotStr r
-  unfolding decide bars31 byRule wordCount links31 makes takes adds31 choose adrpLdrGotStr adrpOf loadStoreOf rowOf addOf gotLoad slotLoad loadsSlot adrpPage pageOf sumOf gotLiteral slotTo within1mb
+  unfolding barring choose adrpLdrGotStr adrpOf loadStoreOf rowOf addOf gotLoad slotLoad loadsSlot adrpPage pageOf sumOf gotLiteral slotTo within1mb
       inRange literalWord literalOpc literalV
   adrp-ldr-got-str f = record {
     words = at 0xb0000000 0xf9400402 0x39000042;
@@ -97,7 +102,7 @@ module _ (r : Rels) where
   }
 
   adrp-add : Refers MCLOH-AdrpAdd r → Occurs MCLOH-AdrpAdd r
-  unfolding decide bars31 byRule wordCount links31 makes takes adds31 choose adrpAdd adrpOf addOf addAtPage adrpPage pageOf sumOf adrTo within1mb inRange adrWord
+  unfolding barring choose adrpAdd adrpOf addOf addAtPage adrpPage pageOf sumOf adrTo within1mb inRange adrWord
   adrp-add f = record {
     words = at 0x90000000 0x91000c00 0;
     plan = writes Adr (Set 0x70000000) (Set nopWord) Keep;
@@ -105,7 +110,7 @@ module _ (r : Rels) where
   }
 
   adrp-ldr-got : Refers MCLOH-AdrpLdrGot r → Occurs MCLOH-AdrpLdrGot r
-  unfolding decide bars31 byRule wordCount links31 makes takes adds31 choose adrpLdrGot adrpOf loadStoreOf rowOf addOf gotLoad slotLoad loadsSlot adrpPage pageOf sumOf within1mb inRange
+  unfolding barring choose adrpLdrGot adrpOf loadStoreOf rowOf addOf gotLoad slotLoad loadsSlot adrpPage pageOf sumOf within1mb inRange
       literalWord literalOpc literalV
   adrp-ldr-got f = record {
     words = at 0xb0000000 0xf9400402 0;

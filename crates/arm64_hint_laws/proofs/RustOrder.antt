@@ -271,7 +271,8 @@ differs kind s r p q n ep eq f a =
 
 pub moved-examples : MovedExamples
 unfolding choose inRange pageOf adrpPage within1mb adrpOf adrWord addOf rowOf loadStoreOf hasLiteralForm baseWord sumOf fitsLiteral isPageRel
-    isPageoffRel sameReference isAbsent hasPagePair addAccess through folds foldOrAdr loadThrough adrpAddLdr adrpAddStr byRule wordCount links31 makes takes adds31 bars31 decide adrOrFold inRustOrder
+    isPageoffRel sameReference isAbsent hasPagePair addAccess through folds foldOrAdr loadThrough adrpAddLdr adrpAddStr byRule wordCount links31 makes
+    takes adds31 bars31 decide adrOrFold inRustOrder
 moved-examples = (
   (differs MCLOH-AdrpAddLdr (through8 0x39400045) halves _ _ refl refl refl refl refl, refl, refl),
   (differs MCLOH-AdrpAddLdr (through8 0xf9000045) halves _ _ refl refl refl refl refl, refl, refl),

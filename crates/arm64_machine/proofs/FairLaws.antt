@@ -19,7 +19,7 @@ use Rattle.arm64_machine.proofs.Links.{links-is, adds-is}
 use Rattle.arm64_machine.proofs.Rewrites as Rewrites
 use Rattle.arm64_machine.proofs.Rewrites.{Chain, of-neither}
 
--- all premises (RULES 9.13, 9.14, 9.17 to 9.20) give those that are needed
+-- all premises (RULES 9.13 to 9.20) give those that are needed
 pub fair : {ws : List Placed} {o : Other} {s : State} → WordPremises ws o s → FairWords ws
 fair p = record { aligned = p .aligned; no-store = p .no-store }
 
@@ -45,7 +45,8 @@ unfolding storesMade
 unmade w u h ex ey = sym (ap₂ (λ (x y : Action). storesAny y (writesOr false x)) ex ey) ∙ h
 
 -- ADRP, load: NOP and a literal load
-pub load-literal : {a b n b′ p q d k t i j : ℕ} {row : Row} → links31 a b ≡ false → FairWords (placed a p ∷ placed b q ∷ []) → action a ≡ adrp d k → action b ≡ access row t d i
+pub load-literal : {a b n b′ p q d k t i j : ℕ} {row : Row} → links31 a b ≡ false → FairWords (placed a p ∷ placed b q ∷ [])
+    → action a ≡ adrp d k → action b ≡ access row t d i
     → action n ≡ nop → action b′ ≡ literal row t j → accessAddress row (adrpPage k p) i ≡ literalTarget j q
     → CloseRun (placed a p ∷ placed b q ∷ []) (placed n p ∷ placed b′ q ∷ [])
 load-literal {a} {b} {d = d} link h ea eb en el e =
@@ -59,7 +60,8 @@ add-adr {a} {b} {d = d} link made ea eb er en e =
     Rewrites.add-adr ea eb er en (linked-low a b d link ea (rw eb)) (added-low b made eb) e
 
 -- ADRP, ADD and an access: what the rewrites of all three want
-pub chain : {a b c p q r d k e i t j : ℕ} {row : Row} → links31 a b ≡ false → adds31 b ≡ false → FairWords (placed a p ∷ placed b q ∷ placed c r ∷ []) → action a ≡ adrp d k → action b ≡ add e d i
+pub chain : {a b c p q r d k e i t j : ℕ} {row : Row} → links31 a b ≡ false → adds31 b ≡ false
+    → FairWords (placed a p ∷ placed b q ∷ placed c r ∷ []) → action a ≡ adrp d k → action b ≡ add e d i
     → action c ≡ access row t e j → Chain a b c d k e i t j row
 chain {a} {b} {c} {d = d} {e = e} {t = t} {row = row} link made h ea eb ec =
     record {
@@ -74,7 +76,8 @@ chain {a} {b} {c} {d = d} {e = e} {t = t} {row = row} link made h ea eb ec =
     }
 
 -- ADRP, a load of a GOT slot, and an access through what it loaded: NOP, a literal load of the slot, and the access as it was
-pub slot-literal : {a b c n b′ p q r d k e i l t j z : ℕ} {m : Mnemonic} {g : Widening} {row : Row} → links31 a b ≡ false → FairWords (placed a p ∷ placed b q ∷ placed c r ∷ [])
+pub slot-literal : {a b c n b′ p q r d k e i l t j z : ℕ} {m : Mnemonic} {g : Widening} {row : Row} → links31 a b ≡ false
+    → FairWords (placed a p ∷ placed b q ∷ placed c r ∷ [])
     → action a ≡ adrp d k → action b ≡ access (load m general z g) e d i → action c ≡ access row t e j → action n ≡ nop
     → action b′ ≡ literal (load m general z g) e l → accessAddress (load m general z g) (adrpPage k p) i ≡ literalTarget l q
     → CloseRun (placed a p ∷ placed b q ∷ placed c r ∷ []) (placed n p ∷ placed b′ q ∷ placed c r ∷ [])

@@ -107,7 +107,8 @@ module _ (w : ℕ) where
         of-other-access = λ e t.
             rw (apart 3 0 refl e, apart 3 1 refl e, no-add w (apart 3 2 refl e), apart 3 4 refl e, e, loads-none (rowIn w) t) (and-false (eqb r (rdIn w)));
         of-literal = λ e t. rw (apart 4 0 refl e, apart 4 1 refl e, no-add w (apart 4 2 refl e), e) (loads-is (literalIn w) (rdIn w) r);
-        of-other-literal = λ e t. rw (apart 4 0 refl e, apart 4 1 refl e, no-add w (apart 4 2 refl e), e, loads-none (literalIn w) t) (and-false (eqb r (rdIn w)));
+        of-other-literal = λ e t.
+            rw (apart 4 0 refl e, apart 4 1 refl e, no-add w (apart 4 2 refl e), e, loads-none (literalIn w) t) (and-false (eqb r (rdIn w)));
         of-other = λ d l t a p. rw (a, p, no-add w d, t, l) (and-false (eqb r (rdIn w)));
         of-nop = λ d l t a p. rw (a, p, no-add w d, t, l) (and-false (eqb r (rdIn w)));
       })

@@ -1,5 +1,5 @@
--- The words that the hint rules make run as the words that they replace: each rewrite on words as the decoders of arm64_insn tell them,
--- under that rewrite's own tests and where number 31 does not link them. Carried by the laws of fair words, and by what arm64_insn proves of decoded and made words.
+-- The words that the hint rules make run as the words that they replace: each rewrite on words as the decoders of arm64_insn tell them, under that
+-- rewrite's own tests and where number 31 does not link them. Carried by the laws of fair words, and by what arm64_insn proves of decoded and made words.
 use mathlib.Core.Path.{_≡_, refl, sym, ap, _∙_}
 use mathlib.Core.Bool.{true, false, not, _&&_, _||_}
 use mathlib.Core.List.{List, [], _∷_}
@@ -111,7 +111,8 @@ module _ {a b c p q r : ℕ} {x : A.Adrp} {d : D.Add} {l : L.LoadStore} (apart :
 
   chain : Chain a b c (x .rd) (x .imm) (d .rd) (d .imm) (l .reg) (imm12In c) (rowIn c)
   chain =
-      FairLaws.chain (apart-31 a b (c ∷ []) apart .0) (apart-31 a b (c ∷ []) apart .1) fair (adrp-does a ea) (add-does b eb ∙ ap (λ (n : ℕ). add (d .rd) n (d .imm)) first) (based-on c second (third .does))
+      let n = apart-31 a b (c ∷ []) apart in
+      FairLaws.chain (n .0) (n .1) fair (adrp-does a ea) (add-does b eb ∙ ap (λ (n : ℕ). add (d .rd) n (d .imm)) first) (based-on c second (third .does))
 
   -- the access becomes a literal load
   pub literal-third : (to : ℕ) → hasLiteralForm l ≡ true → to ≡ adrpPage (x .imm) p + d .imm + l .offset → to < 2 ^ 64 → to % 4 ≡ 0 → r < 2 ^ 64
@@ -171,7 +172,8 @@ module _ {a b c p q r : ℕ} {x : A.Adrp} {d : D.Add} {l : L.LoadStore} (apart :
   folded-page off lt w = Rewrites.folded-page chain nopWord (baseWord l (d .rn) off) p q r nop-does (fold-does off lt) w
 
 -- three words: ADRP, a load of a GOT slot, and an access through what it loaded
-pub slot-second : {a b c p q r : ℕ} {x : A.Adrp} {g l : L.LoadStore} (slot : ℕ) → meets31 (a ∷ b ∷ c ∷ []) ≡ false → FairWords (placed a p ∷ placed b q ∷ placed c r ∷ [])
+pub slot-second : {a b c p q r : ℕ} {x : A.Adrp} {g l : L.LoadStore} (slot : ℕ) → meets31 (a ∷ b ∷ c ∷ []) ≡ false
+    → FairWords (placed a p ∷ placed b q ∷ placed c r ∷ [])
     → adrpOf a ≡ AdrpWord.Adrp x → loadStoreOf b ≡ LoadStoreWord.LoadStore g → loadStoreOf c ≡ LoadStoreWord.LoadStore l
     → g .base ≡ x .rd → l .base ≡ g .reg → g .«is_store» ≡ false → g .«is_float» ≡ false → hasLiteralForm g ≡ true
     → slot ≡ adrpPage (x .imm) p + g .offset → slot < 2 ^ 64 → slot % 4 ≡ 0 → q < 2 ^ 64 → within1mb q slot ≡ true

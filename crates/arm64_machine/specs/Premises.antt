@@ -1,4 +1,4 @@
--- The premises of RULES 9.13, 9.14 and 9.17 to 9.21: tests of words, the premises that the theorems need (FairWords), and all of them (WordPremises).
+-- The premises of RULES 9.13 to 9.21: tests of words, the premises that the theorems need (FairWords), and all of them (WordPremises).
 -- None is about number 31.
 -- That the words share no image byte is said of a hint's places, above this crate.
 use Prim.Native.Nat.{ℕ, _+_, _*_, _%_, _^_}
@@ -113,7 +113,7 @@ makesVector other r = false
 unfoldable pub linksVector : ℕ → ℕ → ℕ → Bool
 linksVector d w u = makesVector (action w) d && reads (action u) d
 
--- every premise (RULES 9.2, 9.13, 9.14, 9.17 to 9.20) that speaks of the words, of one run of them from state s
+-- every premise (RULES 9.2, 9.13 to 9.20) that speaks of the words, of one run of them from state s
 pub record WordPremises (ws : List Placed) (o : Other) (s : State) : Type 0 where
   pub empty-at-first : s .log ≡ []
   pub allocated : Each (λ w. Manual.allocated (w .word) ≡ true) ws

@@ -19,7 +19,8 @@ unfolding wordCount choose
 returns c =
     let m = c .before in
     let s = m .before .args .s in
-    sym (barred-declines MCLOH-AdrpAddStr s (m .before .args .r) (barred MCLOH-AdrpAddStr s (λ e. omega arith) ∙ sym (m .meets-31 .ensures) ∙ c .if1 .taken))
+    let b = barred MCLOH-AdrpAddStr s (λ e. omega arith) ∙ sym (m .meets-31 .ensures) ∙ c .if1 .taken in
+    sym (barred-declines MCLOH-AdrpAddStr s (m .before .args .r) b)
 
 has-page-pair-requires : tie.Need-has-page-pair-requires
 has-page-pair-requires c κs = search needs
@@ -33,9 +34,10 @@ returns-2 c =
     let i = c .before .before in
     let m = i .before in
     let s = m .before .args .s in
+    let n = barred MCLOH-AdrpAddStr s (λ e. omega arith) ∙ sym (m .meets-31 .ensures) ∙ i .if1 .left in
     c .adrp-add-str .ensures
     ∙ ap (adrpAddStr s) (c .before .has-page-pair .ensures)
-    ∙ sym (else-same MCLOH-AdrpAddStr s (m .before .args .r) (barred MCLOH-AdrpAddStr s (λ e. omega arith) ∙ sym (m .meets-31 .ensures) ∙ i .if1 .left))
+    ∙ sym (else-same MCLOH-AdrpAddStr s (m .before .args .r) n)
 
 pub decide-adrp-add-str-spec : {M : Type 1} → statement M
 decide-adrp-add-str-spec = tie.close (tie.spec meets-31-requires returns has-page-pair-requires adrp-add-str-requires returns-2)

@@ -19,7 +19,8 @@ unfolding wordCount choose
 returns c =
     let m = c .before in
     let s = m .before .args .s in
-    sym (barred-declines MCLOH-AdrpLdrGotLdr s (m .before .args .r) (barred MCLOH-AdrpLdrGotLdr s (λ e. omega arith) ∙ sym (m .meets-31 .ensures) ∙ c .if1 .taken))
+    let b = barred MCLOH-AdrpLdrGotLdr s (λ e. omega arith) ∙ sym (m .meets-31 .ensures) ∙ c .if1 .taken in
+    sym (barred-declines MCLOH-AdrpLdrGotLdr s (m .before .args .r) b)
 
 has-page-pair-requires : tie.Need-has-page-pair-requires
 has-page-pair-requires c κs = search needs
@@ -33,9 +34,10 @@ returns-2 c =
     let i = c .before .before in
     let m = i .before in
     let s = m .before .args .s in
+    let n = barred MCLOH-AdrpLdrGotLdr s (λ e. omega arith) ∙ sym (m .meets-31 .ensures) ∙ i .if1 .left in
     c .adrp-ldr-got-ldr .ensures
     ∙ ap (adrpLdrGotLdr s) (c .before .has-page-pair .ensures)
-    ∙ sym (else-same MCLOH-AdrpLdrGotLdr s (m .before .args .r) (barred MCLOH-AdrpLdrGotLdr s (λ e. omega arith) ∙ sym (m .meets-31 .ensures) ∙ i .if1 .left))
+    ∙ sym (else-same MCLOH-AdrpLdrGotLdr s (m .before .args .r) n)
 
 pub decide-adrp-ldr-got-ldr-spec : {M : Type 1} → statement M
 decide-adrp-ldr-got-ldr-spec = tie.close (tie.spec meets-31-requires returns has-page-pair-requires adrp-ldr-got-ldr-requires returns-2)
