@@ -396,7 +396,7 @@ pub struct Tally {
     pub rewritten: u32,
     /// Skipped: of another kind, or with another word count.
     pub skipped: u32,
-    /// Left as they were, for a rule did not fit.
+    /// Left as they were, for a rule did not fit, or for register 31 in their words.
     pub declined: u32,
     /// Left as they were, for an address sum passed 2^64 - 1 ([`Overflow`](crate::Refusal::Overflow),
     /// which no run returns).

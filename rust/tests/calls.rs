@@ -429,6 +429,23 @@ fn unallocated_words() {
     }
 }
 
+/// A hint in which number 31 is the zero register in one word and the stack pointer in the next declines before any sum,
+/// and so does one with an ADD to the stack pointer.
+#[test]
+fn register_31() {
+    let declined = Tally { declined: 1, ..Tally::default() };
+    for (kind, address, words) in [
+        // adrp xzr; add x0, sp, #16, and adrp x0; add sp, x0, #16
+        (kind::ADRP_ADD, 0x1000, vec![0x9000001f, 0x910043e0]),
+        (kind::ADRP_ADD, 0x1000, vec![0x90000000, 0x9100401f]),
+        // adrp xzr; ldr x1, [sp, #32760], in the last page
+        (kind::ADRP_LDR, 0xfffffffffffff000, vec![0x9000001f, 0xf97fffe1]),
+    ] {
+        let hint = hint(kind, words.len() as u8, 0, 0, address);
+        assert_eq!(work(&words, &[hint]), Ok((bytes(&words), declined)));
+    }
+}
+
 /// Bits 31 to 22 decide: 23 of their values are a load or store, one of them LDRSW.
 #[test]
 fn low_bits_do_not_matter() {

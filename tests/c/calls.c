@@ -461,12 +461,16 @@ static void classes(void)
     CHECK(count == 23);
 }
 
-/* adrp x1 of its own page, in a hint of three words add x2, x1, #16, and a word: the hint must decline and leave them. */
-static void declines(uint8_t kind, uint8_t words, uint64_t address, uint32_t word)
+#define LAST_PAGE UINT64_C(0xfffffffffffff000)
+
+/* A hint of the words, the first at an address, and of a reference to a GOT slot where its kind asks for one: it must
+ * decline and leave them. */
+static void declines(uint8_t kind, uint8_t words, uint64_t address, const uint32_t code[3])
 {
+    const int got = kind == HAUKLIVO_ADRP_LDR_GOT_LDR;
     const struct hauklivo_reloc entries[2] = {
-        {.type = HAUKLIVO_PAGE21, .size = 4, .is_pcrel = 1, .target = 5},
-        {.offset = 4, .type = HAUKLIVO_PAGEOFF12, .size = 4, .target = 5},
+        {.type = got ? HAUKLIVO_GOT_LOAD_PAGE21 : HAUKLIVO_PAGE21, .size = 4, .is_pcrel = 1, .target = 5},
+        {.offset = 4, .type = got ? HAUKLIVO_GOT_LOAD_PAGEOFF12 : HAUKLIVO_PAGEOFF12, .size = 4, .target = 5},
     };
     const struct hauklivo_hint_record hint = {
         .kind = kind,
@@ -476,9 +480,9 @@ static void declines(uint8_t kind, uint8_t words, uint64_t address, uint32_t wor
     };
     uint8_t image[12], before[12];
     struct hauklivo_tally tally;
-    put_word(image, 0, 0x90000001);
-    put_word(image, 4, 0x91004022);
-    put_word(image, 4 * (words - 1), word);
+    for (int i = 0; i < words; i++) {
+        put_word(image, 4 * i, code[i]);
+    }
     memcpy(before, image, hint.length);
     CHECK(hauklivo_apply_hints(image, hint.length, &hint, 64, entries, sizeof entries, &tally) == HAUKLIVO_DONE);
     CHECK(memcmp(image, before, hint.length) == 0);
@@ -504,10 +508,22 @@ static void unallocated(uint32_t word, uint8_t size)
     CHECK(count == strlen(text) && memcmp(out, text, count) == 0);
     refused_reading(HAUKLIVO_UNFIT, bytes, 4, record, 8, 24);
     /* From x2; then from x1, with the greatest offset, in the last page. */
-    declines(HAUKLIVO_ADRP_ADD_LDR, 3, 0x1000, word | 0x43);
-    declines(HAUKLIVO_ADRP_LDR, 2, UINT64_C(0xfffffffffffff000), word | 0x3ffc20);
+    declines(HAUKLIVO_ADRP_ADD_LDR, 3, 0x1000, (const uint32_t[3]){0x90000001, 0x91004022, word | 0x43});
+    declines(HAUKLIVO_ADRP_LDR, 2, LAST_PAGE, (const uint32_t[3]){0x90000001, word | 0x3ffc20});
     CHECK(hauklivo_apply_reloc_alloc(bytes, 4, 0x1000, 0, &entry, 24, &odd, 48, &report, 24, &count) == HAUKLIVO_DONE);
     CHECK(count == 1 && report.kind == HAUKLIVO_REPORT_ALIGNMENT && report.size == size && word_at(bytes, 0) == word);
+}
+
+/* A hint in which number 31 is the zero register in one word and the stack pointer in the next declines before any sum, and
+ * so does one with an ADD to the stack pointer. */
+static void register_31(void)
+{
+    /* adrp xzr; add x0, sp, #16, and adrp x0; add sp, x0, #16 */
+    declines(HAUKLIVO_ADRP_ADD, 2, 0x1000, (const uint32_t[3]){0x9000001f, 0x910043e0});
+    declines(HAUKLIVO_ADRP_ADD, 2, 0x1000, (const uint32_t[3]){0x90000000, 0x9100401f});
+    /* adrp xzr; ldr x1, [sp, #32760] in the last page, and adrp x0; ldr xzr, [x0, #32760]; ldr x1, [sp] */
+    declines(HAUKLIVO_ADRP_LDR, 2, LAST_PAGE, (const uint32_t[3]){0x9000001f, 0xf97fffe1});
+    declines(HAUKLIVO_ADRP_LDR_GOT_LDR, 3, LAST_PAGE, (const uint32_t[3]){0x90000000, 0xf97ffc1f, 0xf94003e1});
 }
 
 static void version(void)
@@ -531,6 +547,7 @@ int main(void)
     unallocated(0x7d800000, 2);
     unallocated(0x7dc00000, 2);
     unallocated(0xbd800000, 4);
+    register_31();
     if (failures == 0)
         puts("the C calls answer as they should");
     return failures != 0;

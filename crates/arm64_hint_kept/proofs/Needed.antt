@@ -16,7 +16,7 @@ use Rattle.arm64_hint_kept.proofs.Computing.{runs, machine}
 use Rattle.arm64_hint_kept.proofs.Tests.{once-by, kept-by}
 
 -- one more than the address of the first access, and its value; 0 where there is none
-abbrev address : List Access → ℕ
+abbrev pub address : List Access → ℕ
 address [] = 0
 address (a ∷ log) = suc (a .address)
 

@@ -3,12 +3,11 @@
 use mathlib.Core.Path.{_≡_, refl, sym, ap, _∙_}
 use mathlib.Core.Bool.{Bool, true, false, _||_, false≢true}
 use mathlib.Core.List.{List, [], _∷_, map}
-use Prim.Native.Nat.{ℕ, suc, _+_}
+use Prim.Native.Nat.{ℕ, _+_}
 use native.Mathlib.Omega.{arith}
 use lib.Dec.{lit<}
 use Rattle.util.specs.Word.{le}
 use Rattle.util.proofs.Choice.{neither}
-use Rattle.macho.specs.Types.{MCLOH-AdrpAdrp}
 use Rattle.macho.specs.declared.hint.HintInsn.{HintInsn}
 use Rattle.macho.specs.declared.hint.HintRecord.{HintRecord}
 use Rattle.image.specs.Words.{wordsAt}
@@ -17,7 +16,7 @@ use Rattle.arm64_hint_terms.specs.declared.answer.Insns.{Insns}
 use Rattle.arm64_hint_terms.specs.declared.answer.Plan.{Plan}
 use Rattle.arm64_hint_terms.specs.declared.answer.Decision.the-variants.{Rewritten}
 use Rattle.arm64_hint_terms.proofs.Ways.{never}
-use Rattle.arm64_machine.specs.Machine.{Access, Placed, placed, action, add}
+use Rattle.arm64_machine.specs.Machine.{Placed, placed, action, add}
 use Rattle.arm64_machine.specs.Examples.{start, idle}
 use Rattle.arm64_machine.proofs.Links.{links-is, adds-is}
 use Rattle.arm64_hint_places.specs.Hint.{insnsIn}
@@ -28,6 +27,7 @@ use Rattle.arm64_hint_run.proofs.Declines.{declined-31}
 use Rattle.arm64_hint_kept.specs.HintsKept.{codes}
 use Rattle.arm64_hint_kept.specs.Number31.{Without31, Number31Declines, Number31Stays}
 use Rattle.arm64_hint_kept.proofs.Computing.{runs, machine}
+use Rattle.arm64_hint_kept.proofs.Needed.{address}
 
 -- the word is no ADD to 31
 not-added : (w : ℕ) → adds31 w ≡ false → (n i : ℕ) → action w ≡ add 31 n i → ⊥
@@ -51,19 +51,14 @@ module _ (h : HintRecord) (x : List ℕ) where
   words-of [] = refl
   words-of (i ∷ l) = ap (λ (ws : List ℕ). le 4 x (h .start + i .off) ∷ ws) (words-of l)
 
-  pub rewritten-without-31 : (entries : List ℕ) (p : Plan) (s : Insns) → (h .kind ≡ MCLOH-AdrpAdrp → ⊥)
+  pub rewritten-without-31 : (entries : List ℕ) (p : Plan) (s : Insns)
       → hintOutcome entries h (wordsAt (placesOf h) x) ≡ Worked (Rewritten p) s → Without31 (codes h x)
-  rewritten-without-31 entries p s n e =
+  rewritten-without-31 entries p s e =
       without (codes h x) (ap meets31 (words-of (insnsIn h)) ∙ go (meets31 (wordsAt (placesOf h) x)) refl)
     where
       go : (t : Bool) → meets31 (wordsAt (placesOf h) x) ≡ t → t ≡ false
       go false f = refl
-      go true f = let d = declined-31 h x entries n f in never (cc)
-
--- one more than the address of the first access
-abbrev address : List Access → ℕ
-address [] = 0
-address (a ∷ log) = suc (a .address)
+      go true f = let d = declined-31 h x entries f in never (cc)
 
 pub number-31-declines : Number31Declines
 unfolding runs machine
@@ -101,8 +96,6 @@ number-31-declines = record {
 pub number-31-stays : Number31Stays
 unfolding runs
 number-31-stays = record {
-  adrp-adrp = record { done = refl; leaves = refl };
-  ldr = record { done = refl; leaves = refl };
   ldr-got = record { done = refl; leaves = refl };
   add-ldr = record { done = refl; leaves = refl };
   add-str = record { done = refl; leaves = refl };

@@ -7,7 +7,6 @@ use native.Mathlib.Omega.{arith}
 use borrow.Author.Tests.{eq-eqb, lt-ltb}
 use lib.Dec.{eqb}
 use Rattle.util.specs.Choice.{choose}
-use Rattle.macho.specs.Hint.{wordCount}
 use Rattle.macho.specs.Types.{MCLOH-AdrpLdrGotLdr, MCLOH-AdrpLdrGotStr}
 use Rattle.arm64_insn.specs.Reach.{within1mb}
 use Rattle.arm64_insn.specs.Add.{addOf}
@@ -57,26 +56,26 @@ module _ (s : Insns) (r : Rels) (d : Add) (addr : ℕ) (ls : LoadStore) (f : Adr
       )
 
   -- kind 6: a store
-  pub got-str-adr : ls .«is_store» ≡ true → decide MCLOH-AdrpLdrGotStr s r ≡ adrFirst s (ls .base) addr
-  unfolding decide bars31 byRule wordCount adrpLdrGotStr relaxedStr choose
-  got-str-adr st = rw (f .no-31, f .pair, f .words .third, st, relaxed, eq-eqb (d .rd) (ls .base) (sym (f .words .base)), f .reach)
+  pub got-str-adr : bars31 MCLOH-AdrpLdrGotStr s ≡ false → ls .«is_store» ≡ true → decide MCLOH-AdrpLdrGotStr s r ≡ adrFirst s (ls .base) addr
+  unfolding decide byRule adrpLdrGotStr relaxedStr choose
+  got-str-adr n st = rw (n, f .pair, f .words .third, st, relaxed, eq-eqb (d .rd) (ls .base) (sym (f .words .base)), f .reach)
 
   -- kind 4: what has no literal form, and an address that is no multiple of 4
-  pub got-ldr-adr : (hasLiteralForm ls && eqb (addr % 4) 0) ≡ false → decide MCLOH-AdrpLdrGotLdr s r ≡ adrFirst s (ls .base) addr
-  unfolding decide bars31 byRule wordCount adrpLdrGotLdr relaxedLdr adrOrFoldLoad choose
-  got-ldr-adr e = rw (f .no-31, f .pair, f .words .third, relaxed, eq-eqb (d .rd) (ls .base) (sym (f .words .base)), e, f .reach)
+  pub got-ldr-adr : bars31 MCLOH-AdrpLdrGotLdr s ≡ false → (hasLiteralForm ls && eqb (addr % 4) 0) ≡ false → decide MCLOH-AdrpLdrGotLdr s r ≡ adrFirst s (ls .base) addr
+  unfolding decide byRule adrpLdrGotLdr relaxedLdr adrOrFoldLoad choose
+  got-ldr-adr n e = rw (n, f .pair, f .words .third, relaxed, eq-eqb (d .rd) (ls .base) (sym (f .words .base)), e, f .reach)
 
   -- and what a literal load does not reach
-  pub got-ldr-adr-far : addr + ls .offset < 2 ^ 64 → within1mb (s .p2) (addr + ls .offset) ≡ false
+  pub got-ldr-adr-far : bars31 MCLOH-AdrpLdrGotLdr s ≡ false → addr + ls .offset < 2 ^ 64 → within1mb (s .p2) (addr + ls .offset) ≡ false
       → decide MCLOH-AdrpLdrGotLdr s r ≡ adrFirst s (ls .base) addr
-  unfolding decide bars31 byRule wordCount adrpLdrGotLdr relaxedLdr relaxedTo adrOrFoldLoad sumOf choose
-  got-ldr-adr-far below far = far-by (hasLiteralForm ls && eqb (addr % 4) 0) refl
+  unfolding decide byRule adrpLdrGotLdr relaxedLdr relaxedTo adrOrFoldLoad sumOf choose
+  got-ldr-adr-far n below far = far-by (hasLiteralForm ls && eqb (addr % 4) 0) refl
     where
       far-by : (b : Bool) → (hasLiteralForm ls && eqb (addr % 4) 0) ≡ b → decide MCLOH-AdrpLdrGotLdr s r ≡ adrFirst s (ls .base) addr
-      far-by false e = got-ldr-adr e
+      far-by false e = got-ldr-adr n e
       far-by true e =
           rw (
-            f .no-31,
+            n,
             f .pair,
             f .words .third,
             relaxed,

@@ -1,5 +1,6 @@
 -- What the order of fold and ADR changes (RULES 8.18, 8.20): a hint that both fit is folded where the Rust's order has the ADR, which is another word
--- at place 0, and every other hint of the two kinds is decided as in the Rust's order. By a walk through both definitions: each test by cases.
+-- at place 0, and every other hint of the two kinds is decided as in the Rust's order, where number 31 does not bar it. By a walk through both
+-- definitions: each test by cases.
 use mathlib.Core.Path.{_≡_, refl, sym, ap, subst, _∙_}
 use mathlib.Core.Logic.{_⊎_, inl, inr, ⊎-elim}
 use mathlib.Core.Bool.{Bool, true, false}

@@ -4,14 +4,12 @@
 use mathlib.Core.Path.{_≡_}
 use mathlib.Core.Logic.{_⊎_}
 use mathlib.Core.Bool.{true, false}
-use mathlib.Core.List.{[], _∷_}
 use Prim.Native.Nat.{ℕ, _+_, _%_}
 use lib.Dec.{eqb}
 use Rattle.util.specs.Choice.{choose}
 use Rattle.macho.specs.Types.{MCLOH-AdrpAddLdr, MCLOH-AdrpAddStr, ARM64-RELOC-PAGE21, ARM64-RELOC-PAGEOFF12}
 use Rattle.arm64_insn.specs.Reach.{within1mb}
 use Rattle.arm64_insn.specs.Fix.{nopWord}
-use Rattle.arm64_insn.specs.Links.{meets31}
 use Rattle.arm64_insn.specs.declared.add.Add.{Add}
 use Rattle.arm64_insn.specs.declared.ldst.LoadStore.{LoadStore}
 use Rattle.arm64_hint_terms.specs.Answer.{sumOf, summed, fitsLiteral}
@@ -70,12 +68,11 @@ pub record BothFit (kind : ℕ) (s : Insns) (r : Rels) : Type 0 where
   pub comes : ((kind ≡ MCLOH-AdrpAddLdr) × (fitsLiteral ls addr (s .p2) ≡ false)) ⊎ ((kind ≡ MCLOH-AdrpAddStr) × (ls .«is_store» ≡ true))
 
 -- ADRP, the ADD to its register that a load of a GOT slot was relaxed to and that makes addr, and the access ls through the ADD's; and an ADR of addr
--- fits: addr is within 1 MiB of the ADRP. Number 31 links none of them, and the ADD is not to it
+-- fits: addr is within 1 MiB of the ADRP
 pub record AdrFits (s : Insns) (r : Rels) (d : Add) (addr : ℕ) (ls : LoadStore) : Type 0 where
   pub pair : hasPagePair r 3 true ≡ true
   pub words : ThirdAccess s d addr ls (addr + ls .offset)
   pub reach : within1mb (s .p0) addr ≡ true
-  pub no-31 : meets31 (s .w0 ∷ s .w1 ∷ s .w2 ∷ []) ≡ false
 
 -- an entry of a type, of one target
 abbrev half : ℕ → Rel

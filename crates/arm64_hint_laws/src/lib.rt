@@ -1,1 +1,1 @@
-// The rule of each kind, and what is proved of every decision of a hint rule: a definition and theorems, no code.
+// What is decided of a hint, by number 31 and by the rule of its kind, and what is proved of every decision: definitions and theorems, no code.

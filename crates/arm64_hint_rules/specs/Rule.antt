@@ -15,7 +15,7 @@ use Rattle.arm64_hint_places.specs.Hint.{isSkipped, offsOf, insnsOf, relsOf}
 use Rattle.arm64_hint_rules.specs.declared.outcome.HintOutcome.{HintOutcome}
 use Rattle.arm64_hint_rules.specs.declared.outcome.HintOutcome.the-variants.{Skipped, Worked}
 
--- what the rule of a kind answers to a hint's words
+-- what is decided (Decide) of a hint of a kind with its words
 abbrev pub ruled : ℕ → HintRecord → Rels → List ℕ → HintOutcome
 ruled kind h r words = Worked (decide kind (insnsOf h words) r) (insnsOf h words)
 
@@ -39,7 +39,7 @@ abbrev pub newsOf : HintOutcome → List (Option ℕ)
 newsOf Skipped = []
 newsOf (Worked d s) = newsIn d
 
--- what the rule of a kind answers in a hint's section
+-- what is decided in a hint's section
 abbrev pub ruledIn : ℕ → HintRecord → Rels → List ℕ → HintOutcome
 ruledIn kind h r section = ruled kind h r (wordsAt (offsOf h) section)
 

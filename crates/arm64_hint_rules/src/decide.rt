@@ -8,9 +8,10 @@ use arm64_hint_got::adrp_ldr_got_ldr;
 use arm64_hint_got::adrp_ldr_got_str;
 use arm64_hint_terms::answer::Decision;
 use arm64_hint_terms::answer::Insns;
-use arm64_hint_terms::links::meets_31;
 use arm64_hint_terms::rels::Rels;
 use arm64_hint_terms::rels::has_page_pair;
+use arm64_insn::links::three_meet_31;
+use arm64_insn::links::two_meet_31;
 ghost use mathlib.Core.Path.{_≡_};
 ghost use Rattle.macho.specs.Types.{MCLOH-AdrpLdr, MCLOH-AdrpAddLdr, MCLOH-AdrpLdrGotLdr, MCLOH-AdrpAddStr};
 ghost use Rattle.macho.specs.Types.{MCLOH-AdrpLdrGotStr, MCLOH-AdrpAdd, MCLOH-AdrpLdrGot};
@@ -20,7 +21,7 @@ ghost use Rattle.arm64_hint_laws.specs.Decide.{decide};
 pub fn decide_adrp_ldr(s: Insns, r: Rels) -> Decision
     ensures { λ d. ⌜ d ≡ decide MCLOH-AdrpLdr s r ⌝ }
 {
-    if meets_31(s.w0, s.w1, 0, 2) {
+    if two_meet_31(s.w0, s.w1) {
         return Decision::Declined;
     }
     adrp_ldr(s, has_page_pair(r, 2, false))
@@ -30,7 +31,7 @@ pub fn decide_adrp_ldr(s: Insns, r: Rels) -> Decision
 pub fn decide_adrp_add(s: Insns, r: Rels) -> Decision
     ensures { λ d. ⌜ d ≡ decide MCLOH-AdrpAdd s r ⌝ }
 {
-    if meets_31(s.w0, s.w1, 0, 2) {
+    if two_meet_31(s.w0, s.w1) {
         return Decision::Declined;
     }
     adrp_add(s, has_page_pair(r, 2, false))
@@ -40,7 +41,7 @@ pub fn decide_adrp_add(s: Insns, r: Rels) -> Decision
 pub fn decide_adrp_add_ldr(s: Insns, r: Rels) -> Decision
     ensures { λ d. ⌜ d ≡ decide MCLOH-AdrpAddLdr s r ⌝ }
 {
-    if meets_31(s.w0, s.w1, s.w2, 3) {
+    if three_meet_31(s.w0, s.w1, s.w2) {
         return Decision::Declined;
     }
     adrp_add_ldr(s, has_page_pair(r, 3, false))
@@ -50,7 +51,7 @@ pub fn decide_adrp_add_ldr(s: Insns, r: Rels) -> Decision
 pub fn decide_adrp_add_str(s: Insns, r: Rels) -> Decision
     ensures { λ d. ⌜ d ≡ decide MCLOH-AdrpAddStr s r ⌝ }
 {
-    if meets_31(s.w0, s.w1, s.w2, 3) {
+    if three_meet_31(s.w0, s.w1, s.w2) {
         return Decision::Declined;
     }
     adrp_add_str(s, has_page_pair(r, 3, false))
@@ -60,7 +61,7 @@ pub fn decide_adrp_add_str(s: Insns, r: Rels) -> Decision
 pub fn decide_adrp_ldr_got(s: Insns, r: Rels) -> Decision
     ensures { λ d. ⌜ d ≡ decide MCLOH-AdrpLdrGot s r ⌝ }
 {
-    if meets_31(s.w0, s.w1, 0, 2) {
+    if two_meet_31(s.w0, s.w1) {
         return Decision::Declined;
     }
     adrp_ldr_got(s, has_page_pair(r, 2, true))
@@ -70,7 +71,7 @@ pub fn decide_adrp_ldr_got(s: Insns, r: Rels) -> Decision
 pub fn decide_adrp_ldr_got_ldr(s: Insns, r: Rels) -> Decision
     ensures { λ d. ⌜ d ≡ decide MCLOH-AdrpLdrGotLdr s r ⌝ }
 {
-    if meets_31(s.w0, s.w1, s.w2, 3) {
+    if three_meet_31(s.w0, s.w1, s.w2) {
         return Decision::Declined;
     }
     adrp_ldr_got_ldr(s, has_page_pair(r, 3, true))
@@ -80,7 +81,7 @@ pub fn decide_adrp_ldr_got_ldr(s: Insns, r: Rels) -> Decision
 pub fn decide_adrp_ldr_got_str(s: Insns, r: Rels) -> Decision
     ensures { λ d. ⌜ d ≡ decide MCLOH-AdrpLdrGotStr s r ⌝ }
 {
-    if meets_31(s.w0, s.w1, s.w2, 3) {
+    if three_meet_31(s.w0, s.w1, s.w2) {
         return Decision::Declined;
     }
     adrp_ldr_got_str(s, has_page_pair(r, 3, true))

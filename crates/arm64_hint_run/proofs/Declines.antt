@@ -10,7 +10,6 @@ use Rattle.macho.specs.Hint.{hintOf}
 use Rattle.macho.specs.declared.hint.HintRecord.{HintRecord}
 use Rattle.image.specs.Words.{wordsAt}
 use Rattle.image.specs.Steps.{Work, stepOf}
-use Rattle.macho.specs.Types.{MCLOH-AdrpAdrp}
 use Rattle.arm64_insn.specs.Links.{meets31}
 use Rattle.arm64_insn.specs.Manual.{anyUnallocated}
 use Rattle.arm64_hint_terms.specs.Kinds.{heldWords}
@@ -58,9 +57,9 @@ module _ (h : HintRecord) (x : List ℕ) where
       → hintOutcome entries h (wordsAt (placesOf h) x) ≡ Worked Declined (insnsOf h (wordsAt (placesOf h) x))
   unallocated-declined = by-words anyUnallocated refl (unallocated-declines (h .kind))
 
-  pub declined-31 : (entries : List ℕ) → (h .kind ≡ MCLOH-AdrpAdrp → ⊥) → meets31 (wordsAt (placesOf h) x) ≡ true
+  pub declined-31 : (entries : List ℕ) → meets31 (wordsAt (placesOf h) x) ≡ true
       → hintOutcome entries h (wordsAt (placesOf h) x) ≡ Worked Declined (insnsOf h (wordsAt (placesOf h) x))
-  declined-31 entries n = by-words meets31 refl (λ s r. meets-declines (h .kind) s r n) entries
+  declined-31 = by-words meets31 refl (meets-declines (h .kind))
 
 -- a hint that declines leaves the image, and is counted
 module _ (hints entries : List ℕ) (k : ℕ) (w : Work Tally) where
@@ -73,6 +72,6 @@ module _ (hints entries : List ℕ) (k : ℕ) (w : Work Tally) where
       → stepOf (stepsOf hints entries) k w ≡ record { image = w .image; tally = addDecision Declined (w .tally) }
   unallocated-leaves u = leaves (unallocated-declined (hintOf hints k) (w .image) entries u)
 
-  pub leaves-31 : (hintOf hints k .kind ≡ MCLOH-AdrpAdrp → ⊥) → meets31 (wordsAt (placesOf (hintOf hints k)) (w .image)) ≡ true
+  pub leaves-31 : meets31 (wordsAt (placesOf (hintOf hints k)) (w .image)) ≡ true
       → stepOf (stepsOf hints entries) k w ≡ record { image = w .image; tally = addDecision Declined (w .tally) }
-  leaves-31 n u = leaves (declined-31 (hintOf hints k) (w .image) entries n u)
+  leaves-31 u = leaves (declined-31 (hintOf hints k) (w .image) entries u)

@@ -5,7 +5,7 @@ use mathlib.Core.Path.{_≡_}
 use mathlib.Core.Logic.{_⊎_}
 use mathlib.Core.Bool.{Bool, true, false}
 use mathlib.Core.List.{List, [], _∷_}
-use lib.Dec.{eqb, ltb}
+use lib.Dec.{eqb}
 use lib.ListN.{take}
 use Rattle.util.specs.Choice.{choose}
 use Rattle.macho.specs.Hint.{wordCount}
@@ -64,10 +64,6 @@ wordsOf n = wordsAmong kinds n
 -- the words that a hint of a kind holds, up to the kind's word count
 abbrev pub heldWords : ℕ → Insns → List ℕ
 heldWords n s = take (wordCount n) (s .w0 ∷ s .w1 ∷ s .w2 ∷ [])
-
--- the first n words of three: two of them, or all
-abbrev pub firstWords : (n w0 w1 w2 : ℕ) → List ℕ
-firstWords n w0 w1 w2 = choose (ltb n 3) (w0 ∷ w1 ∷ []) (w0 ∷ w1 ∷ w2 ∷ [])
 
 -- an ADRP of the manual
 pub record IsAdrp (w : ℕ) : Type 0 where

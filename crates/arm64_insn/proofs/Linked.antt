@@ -5,21 +5,25 @@ use Prim.Native.Nat.{ℕ, _+_, _*_, _/_, _%_, _<_}
 use native.Mathlib.Omega.{arith}
 use native.Mathlib.Nat.{div-one}
 use borrow.Author.Tests.{ne-eqb}
-use lib.Dec.{eqb}
+use lib.Dec.{eqb, lit<}
 use Rattle.util.specs.Choice.{choose}
 use Rattle.util.specs.Bits.{field}
 use Rattle.util.specs.Diagram.{matches}
-use Rattle.util.proofs.Choice.{choose-first, both, agree, agree-is}
+use Rattle.util.proofs.Choice.{choose-first, both, and-false, agree, agree-is}
 use Rattle.util.proofs.Below.{every, every-at}
 use Rattle.util.proofs.Diagram.{finer, matches-fields}
-use Rattle.arm64_insn.specs.Encoding.{add, addImmediate, loadStore}
-use Rattle.arm64_insn.specs.LoadStoreTable.{Row, load, store, rowOf, literalRowOf, moves, isStore}
-use Rattle.arm64_insn.specs.Manual.{sfIn, shIn, sizeIn, vIn, opcIn, rowIn}
+use Rattle.arm64_insn.specs.Encoding.{adrp, add, addImmediate, loadStore}
+use Rattle.arm64_insn.specs.LoadStoreTable.{rowOf, literalRowOf, moves, isStore}
+use Rattle.arm64_insn.specs.Manual.{rdIn, rnIn, sfIn, shIn, sizeIn, vIn, opcIn, rowIn}
+use Rattle.arm64_insn.specs.Adrp.{adrpOf}
 use Rattle.arm64_insn.specs.LoadStore.{loadStoreBy, loadStoreOf}
-use Rattle.arm64_insn.specs.Links.{loadsGeneral, makes, links31, adds31}
+use Rattle.arm64_insn.specs.Links.{loadsGeneral, makes, takes, links31, adds31}
+use Rattle.arm64_insn.specs.declared.adrp.Adrp as A
+use Rattle.arm64_insn.specs.declared.adrp.AdrpWord.the-variants as AdrpWord
 use Rattle.arm64_insn.specs.declared.ldst.LoadStore as L
 use Rattle.arm64_insn.specs.declared.ldst.LoadStoreWord.the-variants as LoadStoreWord
 use Rattle.arm64_insn.proofs.Cells.{each-cell}
+use Rattle.arm64_insn.proofs.ManualClasses.{one-class}
 
 -- a row loads a general register where it moves something, V is 0, and it is no store
 loads-cell : (size v opc : ℕ) → size < 4 → v < 2 → opc < 4
@@ -39,8 +43,8 @@ literal-cell v opc hv ho =
     let right : ℕ → ℕ → Bool = λ v o. agree (loadsGeneral (literalRowOf o v)) (eqb v 0 && not (eqb o 3)) in
     agree-is _ _ (rw (ev, eo) at (every-at (λ k. right (k / 4) (k % 4)) 8 refl k (omega arith)))
 
-neither : (l : L.LoadStore) → LoadStoreWord.Other ≡ LoadStoreWord.LoadStore l → ⊥
-neither l e = let z : _≡_ {A = ℕ} 0 1 = cc in omega arith
+not-other : (l : L.LoadStore) → LoadStoreWord.Other ≡ LoadStoreWord.LoadStore l → ⊥
+not-other l e = let z : _≡_ {A = ℕ} 0 1 = cc in omega arith
 
 exchanged : (a b : Bool) → (b && (a && true)) ≡ (a && b)
 exchanged true true = refl
@@ -76,8 +80,8 @@ module _ (w : ℕ) where
       → (matches loadStore w ≡ true) × (moves (rowIn w) ≡ true) × (loadsGeneral (rowIn w) ≡ (not (l .«is_float») && not (l .«is_store»)))
   unfolding loadStoreOf
   access-loads l e =
-      let q = choose-first (matches loadStore w) (loadStoreBy (rowIn w) w) LoadStoreWord.Other (LoadStoreWord.LoadStore l) e (λ f. neither l f) in
-      let m = choose-first (moves (rowIn w)) _ LoadStoreWord.Other (LoadStoreWord.LoadStore l) (q .1) (λ f. neither l f) in
+      let q = choose-first (matches loadStore w) (loadStoreBy (rowIn w) w) LoadStoreWord.Other (LoadStoreWord.LoadStore l) e (not-other l) in
+      let m = choose-first (moves (rowIn w)) _ LoadStoreWord.Other (LoadStoreWord.LoadStore l) (q .1) (not-other l) in
       let v : eqb (vIn w) 1 ≡ l .«is_float» = cc (m .1) in
       let s : isStore (rowIn w) ≡ l .«is_store» = cc (m .1) in
       (q .0, m .0, rw (m .0, v, s) at (loads-cell (sizeIn w) (vIn w) (opcIn w) (omega arith) (omega arith) (omega arith)))
@@ -89,7 +93,7 @@ module _ (w : ℕ) where
     where
       go : (t m : Bool) (l : L.LoadStore) → choose t (choose m (LoadStoreWord.LoadStore l) LoadStoreWord.Other) LoadStoreWord.Other ≡ LoadStoreWord.Other
           → (t && m) ≡ false
-      go true true l e = absurd (neither l (sym e))
+      go true true l e = absurd (not-other l (sym e))
       go true false l e = refl
       go false m l e = refl
 
@@ -106,3 +110,13 @@ module _ (w : ℕ) where
   pub makes-other : (w % 32 ≡ 31 → ⊥) → (u : ℕ) → (links31 w u ≡ false) × (adds31 w ≡ false)
   unfolding links31 makes adds31
   makes-other n u = let e = ne-eqb 31 (w % 32) (λ q. n (sym q)) in (rw (div-one, e), rw (div-one, e))
+
+  -- an ADRP takes no register, and is no ADD
+  pub adrp-takes : {a : A.Adrp} → adrpOf w ≡ AdrpWord.Adrp a → (u : ℕ) → (links31 u w ≡ false) × (adds31 w ≡ false)
+  unfolding links31 takes adds31 adrpOf
+  adrp-takes {a} e u =
+      let m = choose-first (matches adrp w) _ AdrpWord.Other (AdrpWord.Adrp a) e (λ f. let z : _≡_ {A = ℕ} 0 1 = cc in omega arith) .0 in
+      let d = no-add (one-class 1 2 w (lit< tt) (lit< tt) (λ q. omega arith) m) in
+      let l = one-class 1 3 w (lit< tt) (lit< tt) (λ q. omega arith) m in
+      let none : (eqb 31 (rnIn w) && false) ≡ false = and-false (eqb 31 (rnIn w)) in
+      (rw (d, l, none) (and-false (makes u 31)), rw d (and-false (eqb 31 (rdIn w))))

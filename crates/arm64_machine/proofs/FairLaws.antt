@@ -1,4 +1,4 @@
--- The rewrites of fair words that number 31 does not link and no ADD makes it in, one test at a time. Carried by taking the tests of a list apart.
+-- The rewrites of fair words, where number 31 does not link them and no ADD among them makes it. Carried by taking the tests of a list apart.
 use mathlib.Core.Path.{_≡_, refl, sym, ap₂, _∙_}
 use mathlib.Core.Logic.{_≢_}
 use mathlib.Core.Bool.{Bool, true, false, _&&_}

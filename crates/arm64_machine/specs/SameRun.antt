@@ -4,16 +4,13 @@ use mathlib.Core.Path.{_≡_}
 use mathlib.Core.Bool.{Bool, true, false, not, _&&_, _||_}
 use mathlib.Core.List.{List, [], _∷_}
 use lib.Dec.{eqb}
-use Rattle.arm64_insn.specs.LoadStoreTable.{Row, load, store, prefetch, unallocated, general, vector}
+use Rattle.arm64_insn.specs.LoadStoreTable.{Row}
+use Rattle.arm64_insn.specs.Links.{loadsGeneral}
 use Rattle.arm64_machine.specs.Machine.{Action, adr, adrp, add, access, literal, nop, other, action, State, Placed, Other, run}
 
 -- whether a load or store of register t has general register r as its destination
 abbrev pub loadsTo : Row → ℕ → ℕ → Bool
-loadsTo (load m general n g) t r = eqb r t
-loadsTo (load m vector n g) t r = false
-loadsTo (store m c n) t r = false
-loadsTo (prefetch m) t r = false
-loadsTo unallocated t r = false
+loadsTo row t r = loadsGeneral row && eqb r t
 
 -- whether general number r is an action's destination; what another word writes is not known, and counts as `unknown` says
 abbrev pub writesOr : Bool → Action → ℕ → Bool

@@ -78,17 +78,15 @@ pub record Hints : Type 2 where
   pub unallocated-examples : UnallocatedDecline
   -- what is rewritten has allocated words
   pub rewritten-allocated : (n : ℕ) (s : Insns) (r : Rels) (p : Plan) → decide n s r ≡ Rewritten p → anyUnallocated (heldWords n s) ≡ false
-  -- RULES 8.35: a hint of another kind than ADRP_ADRP that number 31 links, or one of whose words is an ADD to it, declines, whatever its entries: it
-  -- reaches no sum
-  pub declines-31 : (n : ℕ) (s : Insns) (r : Rels) → (n ≡ MCLOH-AdrpAdrp → ⊥) → meets31 (heldWords n s) ≡ true → decide n s r ≡ Declined
-  -- every other hint is decided by its kind's rule
+  -- RULES 8.35: a hint that number 31 links, or one of whose words is an ADD to it, declines, whatever its kind and entries: it reaches no sum
+  pub declines-31 : (n : ℕ) (s : Insns) (r : Rels) → meets31 (heldWords n s) ≡ true → decide n s r ≡ Declined
+  -- every other hint is decided by its kind's rule, and ADRP_ADRP always
   pub else-by-rule : (n : ℕ) (s : Insns) (r : Rels) → (n ≡ MCLOH-AdrpAdrp) ⊎ (meets31 (heldWords n s) ≡ false) → decide n s r ≡ byRule n s r
   -- in a run it is told by the words that stand at the hint's places at its turn; it leaves the image, and is counted
-  pub leaves-31 : (hints entries : List ℕ) (k : ℕ) (w : Work Tally) → (hintOf hints k .kind ≡ MCLOH-AdrpAdrp → ⊥)
-      → meets31 (wordsAt (placesOf (hintOf hints k)) (w .image)) ≡ true
+  pub leaves-31 : (hints entries : List ℕ) (k : ℕ) (w : Work Tally) → meets31 (wordsAt (placesOf (hintOf hints k)) (w .image)) ≡ true
       → stepOf (stepsOf hints entries) k w ≡ record { image = w .image; tally = addDecision Declined (w .tally) }
-  -- an ADRP to 31, an ADD to 31 and a GOT load into 31, by kind, with what the rule alone would have decided: of a sum above 2^64 - 1, too; for ADRP and
-  -- ADD, that its words would not have run as the old ones
+  -- an ADRP to 31, an ADD to 31 and a GOT load into 31, by kind, with what the rule alone would have decided, also of sums above 2^64 - 1; of two hints with
+  -- an ADRP and one with an ADD, that the words which the rule would have left do not run as the old ones
   pub examples-31 : Number31Declines
   -- number 31 where it links nothing
   pub stays-31 : Number31Stays
@@ -102,18 +100,19 @@ pub record Hints : Type 2 where
       → (decide kind s r ≡ folded (f .ls) (f .d .rn) (f .d .imm)) × (inRustOrder kind s r ≡ adrThird s (f .ls) (f .addr))
   -- that ADR is never the ADRP that the fold keeps
   pub moved-word : (kind : ℕ) (s : Insns) (r : Rels) (f : BothFit kind s r) → adrWord (f .ls .base) (f .addr) (s .p0) ≡ s .w0 → ⊥
-  -- no other hint of these two kinds moves by the order: it is decided as in the Rust's
+  -- no other hint of these two kinds moves by the order: where number 31 does not bar it, it is decided as in the Rust's
   pub moved-only : (kind : ℕ) (s : Insns) (r : Rels) → bars31 kind s ≡ false → (decide kind s r ≡ inRustOrder kind s r) ⊎ BothFit kind s r
   -- a load and a store of ADRP_ADD_LDR and a store of ADRP_ADD_STR that both fit, with the words of both orders
   pub moved-examples : MovedExamples
-  -- RULES 8.19, 8.21: the kinds of a GOT load keep the ADR before the fold. ADRP_LDR_GOT_STR has it for every store that it fits
-  pub got-str-adr : (s : Insns) (r : Rels) (d : Add) (addr : ℕ) (st : LoadStore) → AdrFits s r d addr st → st .«is_store» ≡ true
-      → decide MCLOH-AdrpLdrGotStr s r ≡ adrFirst s (st .base) addr
+  -- RULES 8.19, 8.21: the kinds of a GOT load keep the ADR before the fold, where number 31 does not bar the hint. ADRP_LDR_GOT_STR has it for every store
+  -- that it fits
+  pub got-str-adr : (s : Insns) (r : Rels) (d : Add) (addr : ℕ) (st : LoadStore) → AdrFits s r d addr st
+      → bars31 MCLOH-AdrpLdrGotStr s ≡ false → st .«is_store» ≡ true → decide MCLOH-AdrpLdrGotStr s r ≡ adrFirst s (st .base) addr
   -- ADRP_LDR_GOT_LDR for every access that it fits and that is no literal load: without a literal form, of no multiple of 4, or out of the load's reach
-  pub got-ldr-adr : (s : Insns) (r : Rels) (d : Add) (addr : ℕ) (ld : LoadStore) → AdrFits s r d addr ld → (hasLiteralForm ld && eqb (addr % 4) 0) ≡ false
-      → decide MCLOH-AdrpLdrGotLdr s r ≡ adrFirst s (ld .base) addr
-  pub got-ldr-adr-far : (s : Insns) (r : Rels) (d : Add) (addr : ℕ) (ld : LoadStore) → AdrFits s r d addr ld → addr + ld .offset < 2 ^ 64
-      → within1mb (s .p2) (addr + ld .offset) ≡ false → decide MCLOH-AdrpLdrGotLdr s r ≡ adrFirst s (ld .base) addr
+  pub got-ldr-adr : (s : Insns) (r : Rels) (d : Add) (addr : ℕ) (ld : LoadStore) → AdrFits s r d addr ld
+      → bars31 MCLOH-AdrpLdrGotLdr s ≡ false → (hasLiteralForm ld && eqb (addr % 4) 0) ≡ false → decide MCLOH-AdrpLdrGotLdr s r ≡ adrFirst s (ld .base) addr
+  pub got-ldr-adr-far : (s : Insns) (r : Rels) (d : Add) (addr : ℕ) (ld : LoadStore) → AdrFits s r d addr ld
+      → bars31 MCLOH-AdrpLdrGotLdr s ≡ false → addr + ld .offset < 2 ^ 64 → within1mb (s .p2) (addr + ld .offset) ≡ false → decide MCLOH-AdrpLdrGotLdr s r ≡ adrFirst s (ld .base) addr
   -- a kind of two words writes no third place
   pub two-words : (n : ℕ) (s : Insns) (r : Rels) (p : Plan) → length (wordsOf n) ≡ 2 → decide n s r ≡ Rewritten p → p .w2 ≡ Keep
   -- each new word has 32 bits

@@ -8,7 +8,6 @@ use Prim.Native.Nat.{ℕ, _+_, _^_, _≤_, _<_}
 use lib.Dec.{eqb}
 use lib.ListN.{length, getD}
 use Rattle.macho.specs.Hint.{noEntry, wordCount, hintCount, hintOf}
-use Rattle.macho.specs.Types.{MCLOH-AdrpAdrp}
 use Rattle.macho.specs.declared.hint.HintRecord.{HintRecord}
 use Rattle.image.specs.Words.{span, wordsAt}
 use Rattle.arm64_insn.specs.LoadStoreTable as Table
@@ -79,9 +78,9 @@ pub record Kept : Type 0 where
   pub rewritten-words-allocated : (entries : List ℕ) (h : HintRecord) (image : List ℕ) (p : Plan) (s : Insns)
       → hintOutcome entries h (wordsAt (placesOf h) image) ≡ Worked (Rewritten p) s
       → Machine.Each (λ w. allocated (w .word) ≡ true) (Order.codes h image)
-  -- RULES 9.15, 9.16, 9.21: of another kind than ADRP_ADRP, number 31 does not link them and no ADD among them makes it, in the machine's own words
-  -- (Without31: arm64_hint_kept/specs/Number31), which no premise supposes
-  pub rewritten-without-31 : (entries : List ℕ) (h : HintRecord) (image : List ℕ) (p : Plan) (s : Insns) → (h .kind ≡ MCLOH-AdrpAdrp → ⊥)
+  -- RULES 9.15, 9.16, 9.21: number 31 does not link the words of such a hint and none of them is an ADD to it, in the machine's own words (Without31:
+  -- arm64_hint_kept/specs/Number31), which no premise supposes
+  pub rewritten-without-31 : (entries : List ℕ) (h : HintRecord) (image : List ℕ) (p : Plan) (s : Insns)
       → hintOutcome entries h (wordsAt (placesOf h) image) ≡ Worked (Rewritten p) s → Without31 (Order.codes h image)
   -- RULES 7.35, 9.9: what a word makes is what the machine writes, what it takes as a base or ADD source is what the machine reads, and so a link by 31
   pub makes-written : (w r : ℕ) → makes w r ≡ writesOr false (action w) r
