@@ -271,7 +271,8 @@ struct hauklivo_tally {
     uint32_t rewritten;
     /* Of another kind, or with another word count. */
     uint32_t skipped;
-    /* Left as they were, for a rule did not fit, or for register 31 in their words. */
+    /* Left as they were: a rule did not fit, or register 31 links two of the words or is an ADD's
+     * destination. */
     uint32_t declined;
     /* Left as they were, for an address sum passed 2^64 - 1 (number 9, which no run returns). */
     uint32_t turned_down;

@@ -396,7 +396,8 @@ pub struct Tally {
     pub rewritten: u32,
     /// Skipped: of another kind, or with another word count.
     pub skipped: u32,
-    /// Left as they were, for a rule did not fit, or for register 31 in their words.
+    /// Left as they were: a rule did not fit, or register 31 links two of the words or is an ADD's
+    /// destination.
     pub declined: u32,
     /// Left as they were, for an address sum passed 2^64 - 1 ([`Overflow`](crate::Refusal::Overflow),
     /// which no run returns).

@@ -1,4 +1,5 @@
--- Number 31 in hints (RULES 8.35): what is said of the words of a hint that is rewritten, in the machine's own words, and hints that decline.
+-- Number 31 in hints (RULES 8.35): what is said of the words of a hint that is rewritten, in the machine's own words, hints that decline, and hints in which
+-- 31 stands and that it does not bar.
 use mathlib.Core.Path.{_≡_}
 use mathlib.Core.Bool.{false, _&&_}
 use mathlib.Core.List.{List, [], _∷_}
@@ -68,7 +69,7 @@ pub record Number31Declines : Type 0 where
   pub got-ldr-high : Barred gotPair 4 0xfffffffffffff000 (0x90000000 ∷ 0xf97ffc1f ∷ 0xf94003e1 ∷ []) Nine
   pub got-str-high : Barred gotPair 6 0xfffffffffffff000 (0x90000000 ∷ 0xf97ffc1f ∷ 0xf90003e1 ∷ []) Nine
 
--- hints that number 31 stands in and does not bar; ADRP_ADRP and ADRP_LDR are among those that meet every premise (EachRewrite, drop-31 and ldr-31)
+-- hints that number 31 stands in and does not bar; more are among those that meet every premise (EachRewrite: drop-31, ldr-31 and got-slot-31)
 pub record Number31Stays : Type 0 where
   -- adrp x0; ldr xzr, [x0, #8], of kind 8
   pub ldr-got : Ends gotPair 8 0x1000 (0x90000000 ∷ 0xf940041f ∷ []) (counts 1 0 0 0) (0xd503201f ∷ 0x5800003f ∷ [])

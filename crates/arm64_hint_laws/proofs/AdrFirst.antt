@@ -61,7 +61,8 @@ module _ (s : Insns) (r : Rels) (d : Add) (addr : ℕ) (ls : LoadStore) (f : Adr
   got-str-adr n st = rw (n, f .pair, f .words .third, st, relaxed, eq-eqb (d .rd) (ls .base) (sym (f .words .base)), f .reach)
 
   -- kind 4: what has no literal form, and an address that is no multiple of 4
-  pub got-ldr-adr : bars31 MCLOH-AdrpLdrGotLdr s ≡ false → (hasLiteralForm ls && eqb (addr % 4) 0) ≡ false → decide MCLOH-AdrpLdrGotLdr s r ≡ adrFirst s (ls .base) addr
+  pub got-ldr-adr : bars31 MCLOH-AdrpLdrGotLdr s ≡ false → (hasLiteralForm ls && eqb (addr % 4) 0) ≡ false
+      → decide MCLOH-AdrpLdrGotLdr s r ≡ adrFirst s (ls .base) addr
   unfolding decide byRule adrpLdrGotLdr relaxedLdr adrOrFoldLoad choose
   got-ldr-adr n e = rw (n, f .pair, f .words .third, relaxed, eq-eqb (d .rd) (ls .base) (sym (f .words .base)), e, f .reach)
 

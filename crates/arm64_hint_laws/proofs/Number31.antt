@@ -65,7 +65,9 @@ module _ (kind : ℕ) (s : Insns) where
     pub meets-declines : meets31 (heldWords kind s) ≡ true → decide kind s r ≡ Declined
     meets-declines e =
         same-or kind MCLOH-AdrpAdrp
-        (λ k. else-same (not-barred k) ∙ subst (λ (k : ℕ). byRule k s r ≡ Declined) (sym k) (two-adrps s r (subst (λ (k : ℕ). meets31 (heldWords k s) ≡ true) k e)))
+        (λ k.
+        let d = two-adrps s r (subst (λ (k : ℕ). meets31 (heldWords k s) ≡ true) k e) in
+        else-same (not-barred k) ∙ subst (λ (k : ℕ). byRule k s r ≡ Declined) (sym k) d)
         (λ n. barred-declines (barred n ∙ e))
 
     pub as-before : (kind ≡ MCLOH-AdrpAdrp) ⊎ (meets31 (heldWords kind s) ≡ false) → decide kind s r ≡ byRule kind s r

@@ -1,4 +1,4 @@
--- What a word makes and takes (RULES 9.9) by what the decoders answer, and by V and opc of a literal load. The manual's rows are one computed test each.
+-- What a word makes and takes (RULES 7.35) by what the decoders answer, and by V and opc of a literal load. The manual's rows are one computed test each.
 use mathlib.Core.Path.{_≡_, refl, sym, ap, _∙_}
 use mathlib.Core.Bool.{Bool, true, false, _&&_, not}
 use Prim.Native.Nat.{ℕ, _+_, _*_, _/_, _%_, _<_}

@@ -1,5 +1,5 @@
--- Which general register a word makes for the next one, which it takes as a base or as ADD's source (Arm Architecture Reference Manual, C6.2; RULES 9.9), and
--- number 31 between words (RULES 7.35): the zero register as a destination of ADR, ADRP or a load, the stack pointer as a base and in both registers of ADD.
+-- Which general register a word makes for the next one, which it takes as a base or as ADD's source (Arm Architecture Reference Manual, C6.2; RULES 7.35),
+-- and number 31 between words: the zero register as a destination of ADR, ADRP or a load, the stack pointer as a base and in both registers of ADD.
 use Prim.Native.Nat.{ℕ}
 use mathlib.Core.Bool.{Bool, true, false, _&&_, _||_}
 use mathlib.Core.List.{List, [], _∷_}

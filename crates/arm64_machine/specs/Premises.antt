@@ -1,5 +1,5 @@
 -- The premises of RULES 9.13 to 9.21: tests of words, the premises that the theorems need (FairWords), and all of them (WordPremises).
--- None supposes anything of number 31, which a store of what was made leaves out.
+-- FairWords supposes nothing of number 31: no-store leaves it out. Of the others only no-vector-link can meet it, where an ADRP's number is 31.
 -- That the words share no image byte is said of a hint's places, above this crate.
 use Prim.Native.Nat.{ℕ, _+_, _*_, _%_, _^_}
 use mathlib.Core.Path.{_≡_}

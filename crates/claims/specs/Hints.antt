@@ -112,7 +112,8 @@ pub record Hints : Type 2 where
   pub got-ldr-adr : (s : Insns) (r : Rels) (d : Add) (addr : ℕ) (ld : LoadStore) → AdrFits s r d addr ld
       → bars31 MCLOH-AdrpLdrGotLdr s ≡ false → (hasLiteralForm ld && eqb (addr % 4) 0) ≡ false → decide MCLOH-AdrpLdrGotLdr s r ≡ adrFirst s (ld .base) addr
   pub got-ldr-adr-far : (s : Insns) (r : Rels) (d : Add) (addr : ℕ) (ld : LoadStore) → AdrFits s r d addr ld
-      → bars31 MCLOH-AdrpLdrGotLdr s ≡ false → addr + ld .offset < 2 ^ 64 → within1mb (s .p2) (addr + ld .offset) ≡ false → decide MCLOH-AdrpLdrGotLdr s r ≡ adrFirst s (ld .base) addr
+      → bars31 MCLOH-AdrpLdrGotLdr s ≡ false → addr + ld .offset < 2 ^ 64 → within1mb (s .p2) (addr + ld .offset) ≡ false
+      → decide MCLOH-AdrpLdrGotLdr s r ≡ adrFirst s (ld .base) addr
   -- a kind of two words writes no third place
   pub two-words : (n : ℕ) (s : Insns) (r : Rels) (p : Plan) → length (wordsOf n) ≡ 2 → decide n s r ≡ Rewritten p → p .w2 ≡ Keep
   -- each new word has 32 bits
