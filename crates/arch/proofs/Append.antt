@@ -38,6 +38,11 @@ pub mapped-same : (a : Reading) → mapped (λ (e : Reloc). e) a ≡ a
 mapped-same (refused x) = refl
 mapped-same (entries es) = ap entries (map-same es)
 
+-- a step of a table that does not move
+pub moved-none : (s : Step) → moved 0 (λ (e : Reloc). e) s ≡ s
+moved-none (S.Refused x) = refl
+moved-none (S.Read e next) = ap (S.Read e) (omega arith)
+
 -- ---- a table that stands d records further on
 
 -- a step of it against the same step of the table by itself: where that one reads, both read alike, moved; where it refuses, both refuse alike if P says so.

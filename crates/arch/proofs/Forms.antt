@@ -2,12 +2,13 @@
 use mathlib.Core.Path.{_≡_, refl, sym, ap, ap₂, _∙_}
 use mathlib.Core.Bool.{Bool, true, false, not, _||_, true≢false, false≢true}
 use mathlib.Core.List.{List, [], _∷_}
-use Prim.Native.Nat.{ℕ, zero, suc, _+_, _-_, _*_, _/_, _%_, _^_, _<_}
+use Prim.Native.Nat.{ℕ, zero, suc, _+_, _-_, _*_, _/_, _%_, _^_, _<_, _≤_}
 use native.Mathlib.Omega.{arith}
 use native.Mathlib.Nat.{div-eq-of-lt, zero-div, one-mul}
 use borrow.Author.Tests.{eq-eqb, ne-eqb, ltb-true, ltb-false, eqb-true}
 use lib.Bits.{bitOr, or-shr, or-mod, or-zero-l}
 use lib.Dec.{eqb, ltb}
+use lib.ListN.{length, List·getD-eq-default}
 use lib.Pow.{pow-lt, pow-add, shl-shr}
 use Rattle.util.proofs.Below.{every, every-at}
 use Rattle.util.proofs.Choice.{both}
@@ -16,6 +17,7 @@ use Rattle.macho.specs.MachRel.{pcrelOf, p2sizeOf, externOf, typeOf, formOf}
 use Rattle.macho.specs.declared.mach_rel.MachRel.{MachRel}
 use Rattle.macho.proofs.Packed.{form-fields}
 use Rattle.arch.specs.Form.{Form, form, formIn, sameForm, member, formNumber, bitOf, bitsOf, fieldsFit}
+use Rattle.arch.specs.Form.{formsIn, supportedIn, tableFits}
 
 -- the number in a record's bits is its form's
 pub form-number : (r : MachRel) → formOf (r .bits) ≡ formNumber (formIn r)
@@ -115,6 +117,21 @@ has-member (f ∷ fs) r h =
     ∙ ap (λ (k : ℕ). eqb k (formNumber f)) (form-number r)
     ∙ same-number (formIn r) f (record-fits r) (g .0))
     (has-member fs r (g .1))
+
+-- the forms of each type of a table that fits
+fits-at : (table : List (List Form)) (ty : ℕ) → tableFits table ≡ true → fieldsFit (formsIn table ty) ≡ true
+fits-at [] ty h = refl
+fits-at (fs ∷ table) zero h = both (fieldsFit fs) (tableFits table) h .0
+fits-at (fs ∷ table) (suc ty) h = fits-at table ty (both (fieldsFit fs) (tableFits table) h .1)
+
+-- whatever the machine: a record's form is in the bits of its type's forms where the table has it
+pub supported-bits : (table : List (List Form)) (r : MachRel) → tableFits table ≡ true
+    → hasBit (bitsOf (formsIn table (typeOf (r .bits)))) (formOf (r .bits)) ≡ supportedIn table r
+supported-bits table r h = has-member (formsIn table (typeOf (r .bits))) r (fits-at table (typeOf (r .bits)) h)
+
+-- a type past the table's end takes no form
+pub past-table : (table : List (List Form)) (r : MachRel) → length table ≤ typeOf (r .bits) → supportedIn table r ≡ false
+past-table table r h = ap (member (formIn r)) (List·getD-eq-default table [] {n = typeOf (r .bits)} h)
 
 -- ---- a test of every type and form, computed
 

@@ -5,3 +5,4 @@ pub mod Targets
 pub mod Walk
 pub mod Fuel
 pub mod Append
+pub mod Lengths

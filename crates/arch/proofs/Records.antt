@@ -1,14 +1,19 @@
 -- The records of a list of bytes by their numbers, and of two lists one after the other.
-use mathlib.Core.Path.{_≡_, refl, ap, ap₂, _∙_}
+use mathlib.Core.Path.{_≡_, refl, sym, ap, ap₂, _∙_}
+use mathlib.Core.Bool.{Bool, true, false}
 use mathlib.Core.List.{List, _∷_, _++_}
 use Prim.Native.Nat.{ℕ, zero, suc, _+_, _-_, _*_, _/_, _%_, _<_, _≤_}
 use native.Mathlib.Omega.{arith}
-use lib.ListN.{length, length-append}
+use borrow.Author.Tests.{ne-eqb, eqb-true, eqb-false}
+use lib.Dec.{eqb}
+use lib.ListN.{length, length-append, List·getD-append}
+use lib.Seq.{getD-append-add}
+use Rattle.util.specs.Choice.{choose}
 use Rattle.util.specs.Word.{le}
 use Rattle.util.proofs.Bytes.{le-append-left, le-append-right}
 use Rattle.macho.specs.MachRel.{machRelAt}
 use Rattle.macho.specs.declared.mach_rel.MachRel.{MachRel}
-use Rattle.arch.specs.Table.{recordsFrom, recordsOf, recordAt}
+use Rattle.arch.specs.Table.{recordsFrom, recordsOf, recordAt, subtractedAt, endsIn}
 
 record-from : (s : List ℕ) (n at i : ℕ) → i < n → recordAt (recordsFrom s n at) i ≡ machRelAt s (at + 8 * i)
 unfolding recordsFrom
@@ -65,3 +70,40 @@ records-append a b h =
     ∙ ap₂ (λ (xs ys : List MachRel). xs ++ ys)
     (from-left a b (length a / 8) 0 (omega arith))
     (from-right a b (length b / 8) 0 (0 + 8 * (length a / 8)) (omega arith))
+
+-- ---- two lists of records, one after the other
+
+-- their records
+pub left-at : (xs ys : List MachRel) (i : ℕ) → i < length xs → recordAt (xs ++ ys) i ≡ recordAt xs i
+left-at xs ys i h = List·getD-append xs ys _ i h
+
+pub right-at : (xs ys : List MachRel) (j k : ℕ) → k ≡ length xs + j → recordAt (xs ++ ys) k ≡ recordAt ys j
+right-at xs ys j k e = ap (recordAt (xs ++ ys)) e ∙ getD-append-add xs ys j _
+
+-- which of them are subtracted
+pub left-subtracted : (subtractor : ℕ) (before : Bool) (xs ys : List MachRel) (i : ℕ) → i ≤ length xs
+    → subtractedAt subtractor before (xs ++ ys) i ≡ subtractedAt subtractor before xs i
+unfolding subtractedAt choose
+left-subtracted subtractor before xs ys i h = go (eqb i 0) refl
+  where
+    go : (t : Bool) → eqb i 0 ≡ t → subtractedAt subtractor before (xs ++ ys) i ≡ subtractedAt subtractor before xs i
+    go true e = rw e
+    go false e =
+        let n = eqb-false i 0 e in
+        rw (e, left-at xs ys (i - 1) (omega arith))
+
+pub right-subtracted : (subtractor : ℕ) (before : Bool) (xs ys : List MachRel) (j : ℕ)
+    → subtractedAt subtractor before (xs ++ ys) (length xs + j) ≡ subtractedAt subtractor (endsIn subtractor before xs) ys j
+right-subtracted subtractor before xs ys j = go (eqb j 0) refl
+  where
+    go : (t : Bool) → eqb j 0 ≡ t
+        → subtractedAt subtractor before (xs ++ ys) (length xs + j) ≡ subtractedAt subtractor (endsIn subtractor before xs) ys j
+    go true e =
+        let z = eqb-true j 0 e in
+        ap (subtractedAt subtractor before (xs ++ ys)) {x = length xs + j} {y = length xs} (omega arith)
+        ∙ left-subtracted subtractor before xs ys (length xs) (omega arith)
+        ∙ sym (unfold subtractedAt choose in rw e)
+    go false e =
+        let n = eqb-false j 0 e in
+        unfold subtractedAt choose in
+        rw (e, ne-eqb (length xs + j) 0 (λ q. omega arith), right-at xs ys (j - 1) (length xs + j - 1) (omega arith))

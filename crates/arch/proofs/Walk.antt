@@ -21,6 +21,7 @@ use Rattle.arch.specs.Entry.{enter, targeted}
 use Rattle.arch.specs.Table.{lengthsOf}
 use Rattle.arch.specs.Target.{targetOf}
 use Rattle.arch.specs.Walk.{Reading, refused, entries, before, after, more, readFrom, readAll, Fills, answerOf, bytesOf, slotsAfter}
+use Rattle.arch.specs.Walk.{passing, Reads}
 use Rattle.macho.specs.declared.refusal.Check.{Check}
 use Rattle.macho.specs.declared.refusal.Check.the-variants as C
 use Rattle.arch.specs.declared.target.Target.{Target}
@@ -68,6 +69,16 @@ pub ends-within : (n m : ℕ) → m ≤ n → (s : Step) → Ends m s → Within
 unfolding Within Ends
 ends-within n m h (S.Refused x) e = tt
 ends-within n m h (S.Read r next) e = omega arith
+
+-- a check before a step: what passes ends where the step does, and reads what the step reads
+pub passing-ends : (m : ℕ) (c : Check) (s : Step) → Ends m s → Ends m (passing c s)
+unfolding Ends
+passing-ends m C.Fit s h = h
+passing-ends m (C.Refused x) s h = tt
+
+pub passing-reads : (c : Check) (s : Step) → Reads (passing c s) → s ≡ passing c s
+passing-reads C.Fit s h = refl
+passing-reads (C.Refused x) s h = absurd h
 
 -- the step of a record with its target ends where it is told
 pub targeted-ends : (sections : List ℕ) (r : MachRel) (subtracted : Bool) (offset addend next : ℕ)
@@ -229,6 +240,14 @@ module _ (step : ℕ → Step) (n : ℕ) where
   pub fill-refused : (count i : ℕ) {s : Step} {x : Refusal} → count ≤ i → i < n → s ≡ S.Refused x → s ≡ step i
       → Fills (Rest step n count i) → ⊥
   fill-refused count i le lt p q f = subst (λ (a : Reading). Fills a) (turn step n count i le lt p q) f
+
+  -- in a table that fills, each step from which a walk goes on reads
+  pub fill-reads : (count i : ℕ) → count ≤ i → i < n → Fills (Rest step n count i) → Reads (step i)
+  fill-reads count i c l f = go (step i) refl
+    where
+      go : (s : Step) → s ≡ step i → Reads s
+      go (S.Refused x) e = fill-refused count i c l refl e f
+      go (S.Read r next) e = tt
 
   pub fill-done : (count i : ℕ) (l : List ℕ) → n ≤ i → stored count (Rest step n count i) l ≡ l
   unfolding bytesOf

@@ -34,6 +34,10 @@ recordAt rs i = getD rs i (record { offset = 0; bits = 0 })
 unfoldable pub subtractedAt : ℕ → Bool → List MachRel → ℕ → Bool
 subtractedAt subtractor before rs i = choose (eqb i 0) before (eqb (typeOf (recordAt rs (i - 1) .bits)) subtractor)
 
+-- whether the record before what follows a list is SUBTRACTOR: the list's last one, or the one before the list
+abbrev pub endsIn : ℕ → Bool → List MachRel → Bool
+endsIn subtractor before rs = subtractedAt subtractor before rs (length rs)
+
 -- numbers 1 and 2, of the lengths that a reader is lent
 unfoldable pub lengthsOf : ℕ → ℕ → ℕ → Check
 lengthsOf records sections slots =

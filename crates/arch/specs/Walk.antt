@@ -14,6 +14,16 @@ use Rattle.arch.specs.declared.step.Step.the-variants as S
 use Rattle.macho.specs.declared.refusal.Answer.{Answer}
 use Rattle.macho.specs.declared.refusal.Answer.the-variants as A
 
+-- a refusal of a record's check, else the step that follows it
+abbrev pub passing : Check → Step → Step
+passing C.Fit s = s
+passing (C.Refused x) s = S.Refused x
+
+-- a step that refuses nothing
+abbrev pub Reads : Step → Type 0
+Reads (S.Refused x) = ⊥
+Reads (S.Read e next) = Unit {0}
+
 -- what a table reads to: the first refusal, or the entries in the order of their records
 pub data Reading : Type 0 where
   refused : Refusal → Reading

@@ -5,7 +5,7 @@ use macho::reloc::TARGET_SECTION;
 use util::wrapping_sub;
 ghost use mathlib.Core.Path.{_≡_};
 ghost use Rattle.macho.specs.MachRel.{idxOf};
-ghost use Rattle.arch.specs.Target.{sectionTarget, targetOf};
+ghost use Rattle.arch.specs.Target.{sectionTarget, targetOf, isThere};
 
 // The target field of an entry, with bit 31 set for a section, and the entry's addend.
 pub enum Target {
@@ -39,4 +39,18 @@ pub fn target_of(sections: &[u64], r: MachRel, addend: u64) -> Target
         return Target::Named(r.idx(), addend);
     }
     section_target(sections, r, addend)
+}
+
+// Whether what a record names is there: a symbol is, whatever its number, and of `count` sections one by its ordinal.
+pub fn has_target(r: MachRel, count: usize) -> bool
+    ensures { λ b. ⌜ b ≡ isThere count r ⌝ }
+{
+    if r.is_extern() {
+        return true;
+    }
+    let ordinal = r.idx() as usize;
+    if ordinal == 0 {
+        return false;
+    }
+    ordinal <= count
 }

@@ -14,13 +14,14 @@ use Rattle.util.specs.Choice.{choose}
 use Rattle.util.specs.Word.{le}
 use Rattle.util.proofs.Choice.{split, chosen}
 use Rattle.util.proofs.Bytes.{le-drop}
-use Rattle.macho.specs.MachRel.{idxOf, typeOf, p2sizeOf, externOf}
+use Rattle.macho.specs.MachRel.{typeOf, p2sizeOf}
 use Rattle.macho.specs.Types.{ARM64-RELOC-UNSIGNED}
 use Rattle.macho.specs.declared.mach_rel.MachRel.{MachRel}
 use Rattle.macho.specs.declared.reloc.Reloc.{Reloc}
 use Rattle.arch.specs.Entry.{entryOf, enter, targeted}
 use Rattle.arch.specs.Table.{recordAt}
-use Rattle.arch.specs.Target.{sectionTarget, targetOf}
+use Rattle.arch.specs.Target.{targetOf, isThere, targetIn, addendIn}
+use Rattle.arch.proofs.Targets.{target-is}
 use Rattle.arch.specs.Walk.{Reading, refused, entries, before, after, readFrom, readAll}
 use Rattle.arch.specs.declared.target.Target.{Target}
 use Rattle.arch.specs.declared.target.Target.the-variants as T
@@ -31,11 +32,12 @@ use Rattle.arch.specs.declared.step.Step.the-variants as S
 use Rattle.arm64_reader.specs.declared.record.Addend.{Addend}
 use Rattle.arm64_reader.specs.declared.record.Addend.the-variants.{Held, Refused}
 use Rattle.arm64_reader.specs.Check.{checkReloc}
-use Rattle.arm64_reader.specs.Record.{addendOf, passing, adding, recordOf, stepAt}
+use Rattle.arch.specs.Walk.{passing}
+use Rattle.arm64_reader.specs.Record.{addendOf, adding, recordOf, stepAt}
 use Rattle.arm64_reader.specs.Read.{readRecords}
 use Rattle.arch.proofs.Walk.{Within, Later, done-any, turn-suc}
 use Rattle.arm64_reader.proofs.Steps.{step-within, step-onward}
-use Rattle.arm64_reader.specs.Fields.{isAddend, starts, pairs, ownOf, heldIn, targetIn, addendIn, entryFrom}
+use Rattle.arm64_reader.specs.Fields.{isAddend, starts, pairs, ownOf, heldIn, entryFrom}
 
 -- ---- one step
 
@@ -66,20 +68,11 @@ addend-holds r loc given =
     P : Addend → Type 0
     P = Holds (heldIn r (le 4 loc 0) (le 8 loc 0) given)
 
-section-names : (sections : List ℕ) (r : MachRel) (held k : ℕ) → idxOf (r .bits) ≡ k → eqb (externOf (r .bits)) 1 ≡ false
-    → Names (targetIn r) (addendIn sections r held) (sectionTarget sections k held)
-unfolding sectionTarget Names choose
-section-names sections r held zero e x = tt
-section-names sections r held (suc i) e x =
-    let z : idxOf (r .bits) - 1 ≡ i = omega arith in
-    chosen (Names (targetIn r) (addendIn sections r held)) (ltb i (length sections)) _ _ (rw (x, z) (refl, refl)) tt
-
 target-names : (sections : List ℕ) (r : MachRel) (held : ℕ) → Names (targetIn r) (addendIn sections r held) (targetOf sections r held)
-unfolding targetOf Names choose
+unfolding Names
 target-names sections r held =
-    split (Names (targetIn r) (addendIn sections r held)) (eqb (externOf (r .bits)) 1) _ _
-    (λ x. rw x (refl, refl))
-    (λ x. section-names sections r held (idxOf (r .bits)) refl x)
+    subst (Names (targetIn r) (addendIn sections r held)) (sym (target-is sections r held))
+    (chosen (Names (targetIn r) (addendIn sections r held)) (isThere (length sections) r) _ _ (refl, refl) tt)
 
 module _ (sections : List ℕ) (r : MachRel) (subtracted : Bool) (offset next : ℕ) where
   -- the entry with what it holds

@@ -10,15 +10,15 @@ use Rattle.util.proofs.Below.{every}
 use Rattle.macho.specs.MachRel.{p2sizeOf, externOf, typeOf}
 use Rattle.macho.specs.Types.{ARM64-RELOC-UNSIGNED, ARM64-RELOC-ADDEND, ARM64-RELOC-AUTHENTICATED-POINTER}
 use Rattle.macho.specs.declared.mach_rel.MachRel.{MachRel}
-use Rattle.arch.specs.Form.{form, member}
+use Rattle.arch.specs.Form.{form, member, appliedBelow}
 use Rattle.arch.proofs.Forms.{each-form, implied}
-use Rattle.arm64_reader.specs.Support.{formsOf, supportedOf, appliedBelow}
+use Rattle.arm64_reader.specs.Support.{forms, formsOf, supportedOf}
 use Rattle.arm64_reader.specs.Header.{isPageDistance, inHeader, isDefined}
 
 -- the records that it applies, by type and form
-pub applied : appliedBelow 256
+pub applied : appliedBelow forms 256
     ≡ 0x04 ∷ 0x06 ∷ 0x0c ∷ 0x0e ∷ 0x1c ∷ 0x1e ∷ 0x2d ∷ 0x3d ∷ 0x4c ∷ 0x5d ∷ 0x6c ∷ 0x7d ∷ 0x8d ∷ 0x9c ∷ 0xa4 ∷ []
-unfolding supportedOf formsOf choose
+unfolding choose
 applied = refl
 
 -- the headers have every record that the linker applies

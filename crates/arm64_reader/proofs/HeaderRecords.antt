@@ -31,8 +31,10 @@ use Rattle.arm64_reader.specs.declared.record.Addend.{Addend}
 use Rattle.arm64_reader.specs.declared.record.Addend.the-variants.{Held, Refused}
 use Rattle.arm64_reader.specs.Support.{supportedOf}
 use Rattle.arm64_reader.specs.Check.{pointer32, wordCheck, checkReloc}
-use Rattle.arm64_reader.specs.Record.{addendOf, passing, adding, recordOf}
-use Rattle.arm64_reader.specs.Fields.{heldIn, targetIn, addendIn}
+use Rattle.arch.specs.Walk.{passing}
+use Rattle.arm64_reader.specs.Record.{addendOf, adding, recordOf}
+use Rattle.arch.specs.Target.{targetIn, addendIn}
+use Rattle.arm64_reader.specs.Fields.{heldIn}
 use Rattle.arm64_reader.specs.Header.{Referent, section, Less, Relocation, isDefined}
 use Rattle.arm64_reader.specs.Header.{referentOf, pointerOf, Known}
 use Rattle.arm64_reader.specs.Said.{namedBy, sayOne}

@@ -32,12 +32,14 @@ use Rattle.arch.proofs.Fuel.{same-from}
 use Rattle.arm64_reader.specs.declared.record.Addend.{Addend}
 use Rattle.arm64_reader.specs.declared.record.Addend.the-variants.{Held, Refused}
 use Rattle.arm64_reader.specs.Check.{wordCheck, checkReloc}
-use Rattle.arm64_reader.specs.Record.{addendOf, passing, adding, recordOf, ownAt, stepAt}
+use Rattle.arch.specs.Walk.{passing}
+use Rattle.arm64_reader.specs.Record.{addendOf, adding, recordOf, ownAt, stepAt}
 use Rattle.arm64_reader.specs.Read.{readRecords, endsIn, NoLastAddend, readRelocs}
 use Rattle.arm64_reader.specs.Fields.{isAddend, ownOf, lookedAt}
 use Rattle.arm64_reader.proofs.Steps.{past-is, pair-is, pair-ends, step-onward}
 use Rattle.arm64_reader.proofs.Moves.{same-record, step-moved}
-use Rattle.arm64_reader.proofs.Tables.{moved-none, read-append}
+use Rattle.arch.proofs.Append.{moved-none}
+use Rattle.arm64_reader.proofs.Tables.{read-append}
 
 -- slots count by their length
 pub slots-ignored : (contents records sections slots others : List ℕ) → length slots ≡ length others

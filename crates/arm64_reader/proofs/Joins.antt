@@ -33,7 +33,8 @@ use Rattle.arm64_reader.specs.Check.{checkReloc, wordCheck, pointer32}
 use Rattle.arch.specs.Entry.{targeted}
 use Rattle.arch.specs.Target.{targetOf}
 use Rattle.arm64_reader.specs.Support.{supportedOf, formsOf}
-use Rattle.arm64_reader.specs.Record.{addendOf, passing, adding, recordOf, stepAt, Reads}
+use Rattle.arch.specs.Walk.{passing, Reads}
+use Rattle.arm64_reader.specs.Record.{addendOf, adding, recordOf, stepAt}
 use Rattle.arm64_reader.specs.Read.{readRecords, endsIn}
 use Rattle.arm64_reader.proofs.Steps.{past-is, lone-is, pair-is, other-is, step-onward, step-within}
 use Rattle.arm64_reader.proofs.Moves.{step-moved}

@@ -26,7 +26,8 @@ use Rattle.arm64_reader.specs.declared.record.Addend.{Addend}
 use Rattle.arm64_reader.specs.declared.record.Addend.the-variants.{Held, Refused}
 use Rattle.arm64_reader.specs.Support.{supportedOf}
 use Rattle.arm64_reader.specs.Check.{pointer32, checkReloc}
-use Rattle.arm64_reader.specs.Record.{addendOf, passing, adding, recordOf, stepAt}
+use Rattle.arch.specs.Walk.{passing}
+use Rattle.arm64_reader.specs.Record.{addendOf, adding, recordOf, stepAt}
 use Rattle.arm64_reader.proofs.Steps.{past-is, lone-is, pair-is, other-is}
 
 -- a record counts by its bits alone

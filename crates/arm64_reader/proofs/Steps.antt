@@ -15,25 +15,24 @@ use Rattle.macho.specs.Types.{ARM64-RELOC-SUBTRACTOR}
 use Rattle.macho.specs.Types.{ARM64-RELOC-ADDEND}
 use Rattle.macho.specs.declared.mach_rel.MachRel.{MachRel}
 use Rattle.macho.specs.declared.reloc.Reloc.{Reloc}
-use Rattle.macho.specs.declared.refusal.Refusal.{Refusal}
 use Rattle.macho.specs.declared.refusal.Refusal.the-variants.{Bounds, LoneAddend}
 use Rattle.arch.specs.Entry.{entryOf, targeted}
-use Rattle.arch.specs.Table.{recordsOf, recordAt, subtractedAt, lengthsOf}
-use Rattle.arch.specs.Walk.{refused, readAll, Fills}
-use Rattle.macho.specs.declared.refusal.Check.{Check}
-use Rattle.macho.specs.declared.refusal.Check.the-variants as C
+use Rattle.arch.specs.Table.{recordsOf, recordAt, subtractedAt}
+use Rattle.arch.specs.Walk.{readAll}
 use Rattle.arch.specs.declared.step.Step.{Step}
 use Rattle.arch.specs.declared.step.Step.the-variants as S
 use Rattle.arch.proofs.Records.{length-records}
-use Rattle.arch.proofs.Walk.{Later, Within, Ends, Onward, refused-later, refused-within, ends-later, ends-within, targeted-ends, onward, Rest, fill-refused}
+use Rattle.arch.proofs.Walk.{Later, Within, Ends, Onward, refused-later, refused-within, ends-later, ends-within, targeted-ends, onward}
+use Rattle.arch.proofs.Walk.{passing-ends, passing-reads}
 use Rattle.arm64_reader.specs.declared.record.Addend.{Addend}
 use Rattle.arm64_reader.specs.declared.record.Addend.the-variants.{Held, Refused}
 use Rattle.arm64_reader.specs.Check.{checkReloc}
-use Rattle.arm64_reader.specs.Record.{addendOf, passing, adding, recordOf, ownAt, stepAt, Reads}
+use Rattle.arch.specs.Walk.{passing, Reads}
+use Rattle.arm64_reader.specs.Record.{addendOf, adding, recordOf, ownAt, stepAt}
 use Rattle.arm64_reader.specs.Plain.{plainOf}
 use Rattle.arm64_reader.proofs.PlainRecords.{plain-reads}
 use Rattle.arm64_reader.specs.Fields.{isAddend, ownOf, givenOf}
-use Rattle.arm64_reader.specs.Read.{readRecords, readTable, readRelocs}
+use Rattle.arm64_reader.specs.Read.{readRecords, readTable}
 
 -- the record after one that is no SUBTRACTOR is not subtracted
 pub after-other : (before : Bool) (rs : List MachRel) (i : ℕ) → (typeOf (recordAt rs i .bits) ≡ ARM64-RELOC-SUBTRACTOR → ⊥)
@@ -120,11 +119,6 @@ own-missing contents records sections i f h k e l =
     (none-is contents sections false (recordsOf records) i (offset-within contents f h) (omega (arith, length-records records))
     (omega (arith, length-records records, e)))
 
--- what a check lets through is what it was given
-passing-reads : (c : Check) (s : Step) → Reads (passing c s) → s ≡ passing c s
-passing-reads C.Fit s h = refl
-passing-reads (C.Refused x) s h = absurd h
-
 -- a step that reads does so without the check
 pub entered-is : (contents sections : List ℕ) (before : Bool) (rs : List MachRel) (i : ℕ)
     → recordAt rs i .offset ≤ length contents → ownOf rs i < length rs
@@ -140,11 +134,6 @@ entered-is contents sections before rs i h l r =
     ∙ sym e
 
 -- ---- where a step ends
-
-passing-ends : (m : ℕ) (c : Check) (s : Step) → Ends m s → Ends m (passing c s)
-unfolding Ends
-passing-ends m C.Fit s h = h
-passing-ends m (C.Refused x) s h = tt
 
 adding-ends : (sections : List ℕ) (r : MachRel) (subtracted : Bool) (offset next : ℕ) (a : Addend) → Ends next (adding sections r subtracted offset next a)
 unfolding Ends
@@ -199,24 +188,3 @@ module _ (contents records sections : List ℕ) where
 
   pub table-onward : (i : ℕ) {s : Step} {e : Reloc} {next : ℕ} → s ≡ S.Read e next → s ≡ tableStep i → i < next
   table-onward i p q = onward tableStep (step-onward contents sections false (recordsOf records)) i p q
-
-  -- in a table that fills, each step from which a walk goes on reads
-  pub table-reads : (count i : ℕ) → count ≤ i → i < length records / 8 → Fills (Rest tableStep (length records / 8) count i) → Reads (tableStep i)
-  table-reads count i c l f = go (tableStep i) refl
-    where
-      go : (s : Step) → s ≡ tableStep i → Reads s
-      go (S.Refused x) e = fill-refused tableStep (length records / 8) count i c l refl e f
-      go (S.Read r next) e = tt
-
--- ---- the whole call, by the lengths that it is lent
-
-module _ (contents records sections slots : List ℕ) where
-  pub lengths-refuse : {x : Refusal} → lengthsOf (length records) (length sections) (length slots) ≡ C.Refused x
-      → readRelocs contents records sections slots ≡ refused x
-  unfolding readRelocs
-  lengths-refuse e = rw e
-
-  pub lengths-fit : lengthsOf (length records) (length sections) (length slots) ≡ C.Fit
-      → readRelocs contents records sections slots ≡ readTable contents records sections
-  unfolding readRelocs
-  lengths-fit e = rw e

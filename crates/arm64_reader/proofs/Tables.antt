@@ -5,11 +5,9 @@ use mathlib.Core.Bool.{Bool, true, false}
 use mathlib.Core.List.{List, _++_}
 use Prim.Native.Nat.{ℕ, _+_, _-_, _%_, _<_, _≤_}
 use native.Mathlib.Omega.{arith}
-use borrow.Author.Tests.{ne-eqb, lt-ltb, le-ltb, ltb-true, ltb-false, eqb-true, eqb-false}
-use lib.ListN.{length, drop, length-append, List·getD-append}
-use lib.Seq.{getD-append-add}
+use borrow.Author.Tests.{lt-ltb, le-ltb, ltb-true, ltb-false, eqb-true, eqb-false}
+use lib.ListN.{length, drop, length-append}
 use lib.Dec.{eqb, ltb}
-use Rattle.util.specs.Choice.{choose}
 use Rattle.macho.specs.MachRel.{typeOf}
 use Rattle.macho.specs.Types.{ARM64-RELOC-SUBTRACTOR, ARM64-RELOC-ADDEND}
 use Rattle.macho.specs.declared.mach_rel.MachRel.{MachRel}
@@ -18,54 +16,16 @@ use Rattle.macho.specs.declared.refusal.Refusal.{Refusal}
 use Rattle.macho.specs.declared.refusal.Refusal.the-variants.{Bounds, LoneAddend}
 use Rattle.arch.specs.Entry.{entryOf}
 use Rattle.arch.specs.Join.{joined, mapped, moved}
-use Rattle.arch.specs.Table.{recordsOf, recordAt, subtractedAt}
+use Rattle.arch.specs.Table.{recordsOf, recordAt}
 use Rattle.arch.specs.Walk.{readAll, Fills}
 use Rattle.arch.specs.declared.step.Step.{Step}
 use Rattle.arch.specs.declared.step.Step.the-variants as S
-use Rattle.arch.proofs.Records.{records-append}
-use Rattle.arch.proofs.Append.{Carries, carries-same, follows-moved, append, mapped-same}
+use Rattle.arch.proofs.Records.{records-append, left-at, right-at, left-subtracted, right-subtracted}
+use Rattle.arch.proofs.Append.{Carries, carries-same, follows-moved, append, mapped-same, moved-none}
 use Rattle.arm64_reader.specs.Record.{stepAt}
 use Rattle.arm64_reader.specs.Read.{readRecords, endsIn, NoLastAddend, readTable}
 use Rattle.arm64_reader.proofs.Steps.{past-is, lone-is, step-onward, step-within}
 use Rattle.arm64_reader.proofs.Moves.{step-moved}
-
-pub moved-none : (s : Step) → moved 0 (λ (e : Reloc). e) s ≡ s
-moved-none (S.Refused x) = refl
-moved-none (S.Read e next) = ap (S.Read e) (omega arith)
-
--- the records of two lists
-left-at : (xs ys : List MachRel) (i : ℕ) → i < length xs → recordAt (xs ++ ys) i ≡ recordAt xs i
-left-at xs ys i h = List·getD-append xs ys _ i h
-
-right-at : (xs ys : List MachRel) (j k : ℕ) → k ≡ length xs + j → recordAt (xs ++ ys) k ≡ recordAt ys j
-right-at xs ys j k e = ap (recordAt (xs ++ ys)) e ∙ getD-append-add xs ys j _
-
-left-subtracted : (before : Bool) (xs ys : List MachRel) (i : ℕ) → i ≤ length xs
-    → subtractedAt ARM64-RELOC-SUBTRACTOR before (xs ++ ys) i ≡ subtractedAt ARM64-RELOC-SUBTRACTOR before xs i
-unfolding subtractedAt choose
-left-subtracted before xs ys i h = go (eqb i 0) refl
-  where
-    go : (t : Bool) → eqb i 0 ≡ t → subtractedAt ARM64-RELOC-SUBTRACTOR before (xs ++ ys) i ≡ subtractedAt ARM64-RELOC-SUBTRACTOR before xs i
-    go true e = rw e
-    go false e =
-        let n = eqb-false i 0 e in
-        rw (e, left-at xs ys (i - 1) (omega arith))
-
-right-subtracted : (before : Bool) (xs ys : List MachRel) (j : ℕ)
-    → subtractedAt ARM64-RELOC-SUBTRACTOR before (xs ++ ys) (length xs + j) ≡ subtractedAt ARM64-RELOC-SUBTRACTOR (endsIn before xs) ys j
-right-subtracted before xs ys j = go (eqb j 0) refl
-  where
-    go : (t : Bool) → eqb j 0 ≡ t
-        → subtractedAt ARM64-RELOC-SUBTRACTOR before (xs ++ ys) (length xs + j) ≡ subtractedAt ARM64-RELOC-SUBTRACTOR (endsIn before xs) ys j
-    go true e =
-        let z = eqb-true j 0 e in
-        ap (subtractedAt ARM64-RELOC-SUBTRACTOR before (xs ++ ys)) {x = length xs + j} {y = length xs} (omega arith)
-        ∙ left-subtracted before xs ys (length xs) (omega arith)
-        ∙ sym (unfold subtractedAt choose in rw e)
-    go false e =
-        let n = eqb-false j 0 e in
-        unfold subtractedAt choose in
-        rw (e, ne-eqb (length xs + j) 0 (λ q. omega arith), right-at xs ys (j - 1) (length xs + j - 1) (omega arith))
 
 module _ (contents sections : List ℕ) (before : Bool) (xs ys : List MachRel) where
   -- a step of the first list, unless it is an ADDEND record at the end
@@ -80,7 +40,7 @@ module _ (contents sections : List ℕ) (before : Bool) (xs ys : List MachRel) w
         inside = ap (λ (q : MachRel). ltb (length contents) (q .offset)) e;
         loc = ap (λ (q : MachRel). drop (q .offset) contents) e;
         bits = ap (λ (q : MachRel). q .bits) e;
-        subtracted = left-subtracted before xs ys i (omega arith);
+        subtracted = left-subtracted ARM64-RELOC-SUBTRACTOR before xs ys i (omega arith);
         more = λ t.
             let l = g t in
             lt-ltb (i + 1) (length (xs ++ ys)) (simp length-append (omega arith)) ∙ sym (lt-ltb (i + 1) (length xs) l);
@@ -131,7 +91,7 @@ module _ (contents sections : List ℕ) (before : Bool) (xs ys : List MachRel) w
         inside = ap (λ (q : MachRel). ltb (length contents) (q .offset)) e;
         loc = ap (λ (q : MachRel). drop (q .offset) contents) e;
         bits = ap (λ (q : MachRel). q .bits) e;
-        subtracted = right-subtracted before xs ys j;
+        subtracted = right-subtracted ARM64-RELOC-SUBTRACTOR before xs ys j;
         more = λ _. longer (ltb (j + 1) (length ys)) refl;
         own = λ _. ap (λ (q : MachRel). q .bits) (right-at xs ys (j + 1) (length xs + j + 1) (omega arith));
       })

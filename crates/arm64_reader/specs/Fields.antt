@@ -1,21 +1,19 @@
 -- What the entries of a table hold, as functions of its records (RULES 4.2 to 4.14).
-use Prim.Native.Nat.{ℕ, suc, _+_, _-_}
+use Prim.Native.Nat.{ℕ, suc, _+_}
 use mathlib.Core.Bool.{Bool, true, false}
 use mathlib.Core.List.{List, [], _∷_}
-use lib.ListN.{getD}
 use lib.Dec.{eqb}
 use Rattle.util.specs.Bits.{extend}
 use Rattle.util.specs.Choice.{choose}
 use Rattle.util.specs.Word.{le}
-use Rattle.util.specs.Wrap.{diff}
-use Rattle.macho.specs.MachRel.{idxOf, p2sizeOf, externOf, typeOf}
-use Rattle.macho.specs.Reloc.{targetSection}
+use Rattle.macho.specs.MachRel.{idxOf, p2sizeOf, typeOf}
 use Rattle.macho.specs.Types.{ARM64-RELOC-UNSIGNED, ARM64-RELOC-SUBTRACTOR, ARM64-RELOC-GOT-LOAD-PAGEOFF12, ARM64-RELOC-TLVP-LOAD-PAGEOFF12}
 use Rattle.macho.specs.Types.{ARM64-RELOC-ADDEND}
 use Rattle.macho.specs.declared.mach_rel.MachRel.{MachRel}
 use Rattle.macho.specs.declared.reloc.Reloc.{Reloc}
 use Rattle.arch.specs.Entry.{entryOf}
 use Rattle.arch.specs.Table.{recordAt, subtractedAt}
+use Rattle.arch.specs.Target.{targetIn, addendIn}
 
 -- whether a record is ADDEND
 abbrev pub isAddend : MachRel → Bool
@@ -53,14 +51,6 @@ lookedAt r =
 unfoldable pub heldIn : MachRel → ℕ → ℕ → ℕ → ℕ
 heldIn r word pointer given =
     choose (eqb (typeOf (r .bits)) ARM64-RELOC-UNSIGNED) (choose (eqb (p2sizeOf (r .bits)) 2) (extend word 32) pointer) given
-
--- what it names: a symbol, or with bit 31 a section
-abbrev pub targetIn : MachRel → ℕ
-targetIn r = choose (eqb (externOf (r .bits)) 1) (idxOf (r .bits)) (targetSection + (idxOf (r .bits) - 1))
-
--- the addend: of a section less that section's address
-abbrev pub addendIn : List ℕ → MachRel → ℕ → ℕ
-addendIn sections r held = choose (eqb (externOf (r .bits)) 1) held (diff held (getD sections (idxOf (r .bits) - 1) 0))
 
 -- the entry that starts at record i: its offset is of that record, everything else of its own
 unfoldable pub entryFrom : List ℕ → List ℕ → Bool → List MachRel → ℕ → Reloc

@@ -8,7 +8,8 @@ use Rattle.macho.specs.MachRel.{typeOf}
 use Rattle.macho.specs.Types.{ARM64-RELOC-SUBTRACTOR, ARM64-RELOC-ADDEND}
 use Rattle.macho.specs.declared.mach_rel.MachRel.{MachRel}
 use Rattle.macho.specs.declared.refusal.Answer.{Answer}
-use Rattle.arch.specs.Table.{recordsOf, recordAt, subtractedAt, lengthsOf}
+use Rattle.arch.specs.Table as Table
+use Rattle.arch.specs.Table.{recordsOf, recordAt, lengthsOf}
 use Rattle.arch.specs.Walk.{Reading, readAll, checked, answerOf, slotsAfter}
 use Rattle.arm64_reader.specs.Record.{stepAt}
 
@@ -18,7 +19,7 @@ readRecords contents sections before rs = readAll (stepAt contents sections befo
 
 -- whether the record before what follows a list is SUBTRACTOR: the list's last one, or the one before the list
 abbrev pub endsIn : Bool → List MachRel → Bool
-endsIn before rs = subtractedAt ARM64-RELOC-SUBTRACTOR before rs (length rs)
+endsIn before rs = Table.endsIn ARM64-RELOC-SUBTRACTOR before rs
 
 -- the last record of a list is no ADDEND
 abbrev pub NoLastAddend : List MachRel → Type 0

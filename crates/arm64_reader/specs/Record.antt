@@ -13,8 +13,7 @@ use Rattle.macho.specs.declared.mach_rel.MachRel.{MachRel}
 use Rattle.macho.specs.declared.refusal.Refusal.the-variants.{Bounds, LoneAddend}
 use Rattle.arch.specs.Entry.{targeted}
 use Rattle.arch.specs.Table.{recordAt, subtractedAt}
-use Rattle.macho.specs.declared.refusal.Check.{Check}
-use Rattle.macho.specs.declared.refusal.Check.the-variants as C
+use Rattle.arch.specs.Walk.{passing}
 use Rattle.arch.specs.declared.step.Step.{Step}
 use Rattle.arch.specs.declared.step.Step.the-variants as S
 use Rattle.arm64_reader.specs.declared.record.Addend.{Addend}
@@ -29,11 +28,6 @@ addendOf r loc addend =
     (choose (ltb (length loc) 4) (Refused Bounds) (Held (extend (le 4 loc 0) 32)))
     (choose (ltb (length loc) 8) (Refused Bounds) (Held (le 8 loc 0))))
     (Held addend)
-
--- a refusal of the check, else what follows
-abbrev pub passing : Check → Step → Step
-passing C.Fit s = s
-passing (C.Refused x) s = S.Refused x
 
 -- a refusal of the addend, else the entry with its target
 abbrev pub adding : List ℕ → MachRel → Bool → ℕ → ℕ → Addend → Step
@@ -60,8 +54,3 @@ stepAt contents sections before rs i =
     (ownAt contents sections before rs (i + 1) (recordAt rs i .offset) (extend (idxOf (recordAt rs i .bits)) 24))
     (S.Refused LoneAddend))
     (ownAt contents sections before rs i (recordAt rs i .offset) 0))
-
--- a step that refuses nothing
-abbrev pub Reads : Step → Type 0
-Reads (S.Refused x) = ⊥
-Reads (S.Read e next) = Unit {0}

@@ -1,12 +1,9 @@
 -- Which relocation records the linker applies (arch/arm64.rs, `is_supported`; RULES 4.6).
-use Prim.Native.Nat.{ℕ, zero, suc, _*_, _^_}
+use Prim.Native.Nat.{ℕ}
 use mathlib.Core.Bool.{Bool}
-use mathlib.Core.List.{List, [], _∷_, _++_}
-use lib.ListN.{getD}
-use Rattle.util.specs.Choice.{choose}
-use Rattle.macho.specs.MachRel.{typeOf}
+use mathlib.Core.List.{List, [], _∷_}
 use Rattle.macho.specs.declared.mach_rel.MachRel.{MachRel}
-use Rattle.arch.specs.Form.{Form, form, formIn, member}
+use Rattle.arch.specs.Form.{Form, form, formsIn, supportedIn}
 
 -- for each type the forms that it takes: UNSIGNED, SUBTRACTOR, BRANCH26, PAGE21, PAGEOFF12, GOT_LOAD_PAGE21, GOT_LOAD_PAGEOFF12,
 -- POINTER_TO_GOT, TLVP_LOAD_PAGE21, TLVP_LOAD_PAGEOFF12, ADDEND
@@ -27,13 +24,8 @@ forms =
 
 -- the forms of a type
 unfoldable pub formsOf : ℕ → List Form
-formsOf ty = getD forms ty []
+formsOf ty = formsIn forms ty
 
 -- whether a record has a form that its type takes
 unfoldable pub supportedOf : MachRel → Bool
-supportedOf r = member (formIn r) (formsOf (typeOf (r .bits)))
-
--- the numbers below n, in bits 24 to 31 of a record its type and form, that the linker applies
-abbrev pub appliedBelow : ℕ → List ℕ
-appliedBelow zero = []
-appliedBelow (suc n) = appliedBelow n ++ choose (supportedOf (record { offset = 0; bits = n * 2 ^ 24 })) (n ∷ []) []
+supportedOf r = supportedIn forms r

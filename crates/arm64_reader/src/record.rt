@@ -20,7 +20,8 @@ ghost use mathlib.Core.Bool.{false};
 ghost use Prim.Native.Nat.{_<_, _≤_};
 ghost use lib.ListN.{length, drop};
 ghost use Rattle.arch.specs.Table.{recordCount, recordsOf};
-ghost use Rattle.arm64_reader.specs.Record.{addendOf, adding, recordOf, stepAt, Reads};
+ghost use Rattle.arch.specs.Walk.{Reads};
+ghost use Rattle.arm64_reader.specs.Record.{addendOf, adding, recordOf, stepAt};
 ghost use Rattle.arm64_reader.specs.Fields.{ownOf, givenOf};
 
 // The addend of a record.

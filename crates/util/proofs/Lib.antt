@@ -12,3 +12,4 @@ pub mod Below
 pub mod Cases
 pub mod All
 pub mod Puts
+pub mod Listed

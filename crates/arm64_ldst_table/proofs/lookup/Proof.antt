@@ -7,7 +7,7 @@ use Rattle.arm64_insn.specs.LoadStoreTable.{rowOf}
 use Rattle.arm64_ldst_class.specs.Entry.{entryOf}
 use Rattle.arm64_ldst_class.specs.Row.{classOfIndex}
 use Rattle.arm64_ldst_class.proofs.High.{class-high}
-use Rattle.arm64_ldst_table.proofs.Listed.{listed}
+use Rattle.util.proofs.Listed.{listed}
 use borrow.Author.Needs.{needs}
 use Rattle.arm64_ldst_table.proofs.lookup.Statement.{statement}
 use Rattle.arm64_ldst_table.proofs.lookup.Tie as tie

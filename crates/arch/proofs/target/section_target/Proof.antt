@@ -1,9 +1,8 @@
--- `section_target` meets its contract: ordinal 0 names no section; for another `section-of` of Targets leaves the test of the list's length.
+-- `section_target` meets its contract: ordinal 0 names no section; for another `section-is` of Targets leaves the test of the list's length.
 use mathlib.Core.Path.{sym, ap, _∙_}
-use borrow.Author.Tests.{lt-ltb, le-ltb}
 use Rattle.util.specs.Choice.{choose}
 use Rattle.arch.specs.Target.{sectionTarget}
-use Rattle.arch.proofs.Targets.{section-of}
+use Rattle.arch.proofs.Targets.{section-is, in-list, past-list}
 use borrow.Author.Needs.{needs}
 use Rattle.arch.proofs.target.section_target.Statement.{statement}
 use Rattle.arch.proofs.target.section_target.Tie as tie
@@ -40,12 +39,14 @@ returns-2 : tie.Need-returns-2
 unfolding choose
 returns-2 c =
     let k = c .before .before .before in
-    rw (← k .before .idx .ensures, section-of _ (k .before .idx .result) _ (k .if1 .left))
-    (simp (lt-ltb _ _ (c .before .before .if2 .taken), c .wrapping-sub .ensures))
+    rw (← k .before .idx .ensures, section-is _ (k .before .idx .result) _)
+    (simp (in-list _ _ (k .if1 .left) (c .before .before .if2 .taken), c .wrapping-sub .ensures))
 
 returns-3 : tie.Need-returns-3
 unfolding choose
-returns-3 c = rw (← c .before .before .idx .ensures, section-of _ (c .before .before .idx .result) _ (c .before .if1 .left)) (simp (le-ltb _ _ (c .if2 .left)))
+returns-3 c =
+    rw (← c .before .before .idx .ensures, section-is _ (c .before .before .idx .result) _)
+    (simp (past-list _ _ (c .before .if1 .left) (c .if2 .left)))
 
 pub section-target-spec : {M : Type 1} → statement M
 section-target-spec =

@@ -6,9 +6,9 @@ use borrow.Author.Needs.{needs}
 use lib.ListN.{length}
 use denote.Ref.{now}
 use Rattle.arch.specs.Walk.{Reading, Fills, slotsAfter}
-use Rattle.arch.proofs.Walk.{Rest, stored, fill-start, fill-fills, fill-read, fill-stored, fill-refused, fill-done}
+use Rattle.arch.proofs.Walk.{Rest, stored, fill-start, fill-fills, fill-read, fill-stored, fill-refused, fill-reads, fill-done}
 use Rattle.arm64_reader.specs.Read.{readTable}
-use Rattle.arm64_reader.proofs.Steps.{tableStep, table-is, table-onward, table-reads}
+use Rattle.arm64_reader.proofs.Steps.{tableStep, table-is, table-onward}
 use Rattle.arm64_reader.proofs.read.fill_walk.Statement.{statement}
 use Rattle.arm64_reader.proofs.read.fill_walk.Tie as tie
 
@@ -36,7 +36,7 @@ loop-holds c =
 enter-one-requires : tie.Need-enter-one-requires Inv-loop μ-loop
 enter-one-requires c κs =
     let p = c .before .loop in
-    (c .loop-test .taken, table-reads _ _ _ (p .count) (p .i) (p .inv .0) (c .loop-test .taken) (p .inv .1))
+    (c .loop-test .taken, fill-reads _ _ (p .count) (p .i) (p .inv .0) (c .loop-test .taken) (p .inv .1))
 
 enum-told : tie.Need-enum-told Inv-loop μ-loop
 enum-told c = search needs

@@ -1,11 +1,11 @@
--- `read_relocs` meets its contract: lengths and first walk decide the case (Steps); a walk that counts is one that fills (Walk).
+-- `read_relocs` meets its contract: lengths and first walk decide the case (Lengths); a walk that counts is one that fills (Walk).
 use mathlib.Core.Path.{sym, ap, _∙_}
 use denote.Ref.{now}
 use lib.ListN.{length}
 use Rattle.arch.specs.Walk.{Reading, answerOf, slotsAfter}
 use Rattle.arch.proofs.Walk.{fills-of, kept-of, fit-room}
-use Rattle.arm64_reader.specs.Read.{readTable}
-use Rattle.arm64_reader.proofs.Steps.{lengths-refuse, lengths-fit}
+use Rattle.arch.proofs.Lengths.{lengths-refuse, lengths-fit}
+use Rattle.arm64_reader.specs.Read.{readTable, readRelocs}
 use borrow.Author.Needs.{needs}
 use Rattle.arm64_reader.proofs.read.read_relocs.Statement.{statement}
 use Rattle.arm64_reader.proofs.read.read_relocs.Tie as tie
@@ -41,22 +41,24 @@ fill-walk-requires c κs =
     )
 
 returns : tie.Need-returns
+unfolding readRelocs
 returns c =
     let check-lengths = c .before .before .before in
     let start = check-lengths .before .before .before .before .before in
     let a = start .args in
     let f = sym (check-lengths .check-lengths .ensures) ∙ c .before .refusal .given .1 in
-    let e = lengths-refuse (now (a .contents)) (now (a .records)) (now (a .sections)) (now (a .slots)) f in
+    let e = lengths-refuse _ _ _ (readTable (now (a .contents)) (now (a .records)) (now (a .sections))) f in
     (ap answerOf (sym e), ap (λ (r : Reading). slotsAfter r (now (a .slots))) (sym e))
 
 returns-2 : tie.Need-returns-2
+unfolding readRelocs
 returns-2 c =
     let check-walk = c .before .before .before in
     let check-lengths = check-walk .before .before .before in
     let start = check-lengths .before .before .before .before .before in
     let f = sym (check-lengths .check-lengths .ensures) ∙ check-walk .before .enum-told .given .1 in
     let a = start .args in
-    let e = lengths-fit (now (a .contents)) (now (a .records)) (now (a .sections)) (now (a .slots)) f in
+    let e = lengths-fit _ _ _ (readTable (now (a .contents)) (now (a .records)) (now (a .sections))) f in
     let d = sym (c .before .refusal2 .given .1) ∙ check-walk .check-walk .ensures in (
       d ∙ ap answerOf (sym e),
       kept-of (readTable (now (a .contents)) (now (a .records)) (now (a .sections))) _ _ d ∙ ap (λ (r : Reading). slotsAfter r (now (a .slots))) (sym e),
@@ -66,6 +68,7 @@ same-length : tie.Need-same-length
 same-length c = search needs
 
 returns-3 : tie.Need-returns-3
+unfolding readRelocs
 returns-3 c =
     let count = c .before .before .before .before .before in
     let check-walk = count .before .before in
@@ -73,7 +76,7 @@ returns-3 c =
     let start = check-lengths .before .before .before .before .before in
     let f = sym (check-lengths .check-lengths .ensures) ∙ check-walk .before .enum-told .given .1 in
     let a = start .args in
-    let e = lengths-fit (now (a .contents)) (now (a .records)) (now (a .sections)) (now (a .slots)) f in (
+    let e = lengths-fit _ _ _ (readTable (now (a .contents)) (now (a .records)) (now (a .sections))) f in (
       sym (count .count .given .1) ∙ check-walk .check-walk .ensures ∙ ap answerOf (sym e),
       c .before .before .fill-walk .ensures ∙ ap (λ (r : Reading). slotsAfter r (now (a .slots))) (sym e),
     )
