@@ -15,6 +15,7 @@ use Rattle.arch.specs.Walk as Walk
 use Rattle.arch.specs.Walk.{Reading}
 use Rattle.arm64_insn.specs.Reach.{adrpReaches}
 use Rattle.arm64_reader.specs.Read.{readRelocs}
+use Rattle.x86_64_reader.specs.Read as X86
 use Rattle.arm64_fixup.specs.Answer as Answer
 use Rattle.arm64_fixup.specs.Answer.{Outcome, basesOf, outcomeOf}
 use Rattle.arm64_fixup.specs.Stub.{wordsIn, stubAnswer, stubNumber, thunkCheck}
@@ -34,6 +35,7 @@ use Rattle.hauklivo.specs.Stub as Stub
 use Rattle.hauklivo.specs.Hints as Hints
 use Rattle.hauklivo.proofs.Lent.{count-kept}
 use Rattle.hauklivo.proofs.reader.hauklivo_read_relocs.Met as ReadRelocs
+use Rattle.hauklivo.proofs.reader.hauklivo_read_relocs_x86_64.Met as ReadRelocsX86
 use Rattle.hauklivo.proofs.fixup.hauklivo_apply_reloc_alloc.Met as ApplyRelocAlloc
 use Rattle.hauklivo.proofs.stub.hauklivo_write_stub.Met as WriteStub
 use Rattle.hauklivo.proofs.stub.hauklivo_write_thunk.Met as WriteThunk
@@ -89,6 +91,7 @@ pub calls : Calls
 calls =
     record {
       read-relocs = λ M. ReadRelocs.met;
+      read-relocs-x86-64 = λ M. ReadRelocsX86.met;
       apply-reloc-alloc = λ M. ApplyRelocAlloc.met;
       write-stub = λ M. WriteStub.met;
       write-thunk = λ M. WriteThunk.met;
@@ -101,6 +104,8 @@ calls =
       version-4 = λ M. Version4.met;
       numbered = numbered;
       read-relocs-refused = λ contents records sections slots count. reader (readRelocs contents records sections slots) slots count;
+      read-relocs-x86-64-refused = λ contents records sections address slots count.
+          reader (X86.readRelocs contents records sections address slots) slots count;
       apply-reloc-alloc-refused = λ section base tls entries targets slots count.
           fix-up (outcomeOf section (basesOf base tls) entries targets slots) section slots count;
       write-stub-refused = stub;

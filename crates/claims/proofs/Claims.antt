@@ -7,6 +7,8 @@ use Rattle.claims.proofs.Manual.{manual}
 use Rattle.claims.proofs.Words.{words}
 use Rattle.claims.proofs.Classes.{classes}
 use Rattle.claims.proofs.Header.{header}
+use Rattle.claims.proofs.X86.{x86}
+use Rattle.claims.proofs.Forms.{forms}
 use Rattle.claims.proofs.Fixup.{fixup}
 use Rattle.claims.proofs.Hints.{hints}
 use Rattle.claims.proofs.Kept.{kept}
@@ -24,6 +26,8 @@ claims =
       words = words;
       classes = classes;
       header = header;
+      x86 = x86;
+      forms = forms;
       fixup = fixup;
       hints = hints;
       kept = kept;

@@ -7,6 +7,8 @@ pub mod Manual
 pub mod Words
 pub mod Classes
 pub mod Header
+pub mod X86
+pub mod Forms
 pub mod Fixup
 pub mod Hints
 pub mod Kept

@@ -29,9 +29,9 @@ use Rattle.arch.specs.Walk.{Reading, readFrom, readAll, answerOf}
 use Rattle.arm64_reader.specs.Support.{formsOf, supportedOf}
 use Rattle.arm64_reader.specs.Check.{pointer32, checkReloc}
 use Rattle.arm64_reader.specs.Record.{addendOf, recordOf, stepAt}
-use Rattle.arm64_reader.specs.Read.{readRecords, readRelocs}
+use Rattle.arm64_reader.specs.Read.{readRecords, readTable, readRelocs}
 use Rattle.arm64_reader.proofs.Examples.{turned-down, tlvp-words, first-number}
-use Rattle.arm64_reader.proofs.Lengths as Lengths
+use Rattle.arch.proofs.Lengths as Lengths
 use Rattle.arm64_fixup_entry.specs.Target.{widthOf}
 use Rattle.arm64_fixup_entry.specs.Check.{checkOf}
 use Rattle.arm64_fixup.specs.Walk.{entryCount, consumed, checkAt, checkTo}
@@ -93,28 +93,27 @@ hint-run-earliest image hints entries k x lists h fit e =
 
 -- ---- lengths
 
+-- the number of what a reader reads to
+pub numbered : {a b : Reading} → a ≡ b → answerNumber (answerOf a) ≡ answerNumber (answerOf b)
+numbered e = ap (λ (a : Reading). answerNumber (answerOf a)) e
+
 module _ (contents records sections slots : List ℕ) where
-  -- the number of what the reader reads to
-  read-number : {a : Reading} → readRelocs contents records sections slots ≡ a
-      → Reader.numberTo contents records sections slots ≡ answerNumber (answerOf a)
-  read-number e = ap (λ (a : Reading). answerNumber (answerOf a)) e
+  not-whole : (length records % 8 ≡ 0 → ⊥) → Reader.numberTo contents records sections slots ≡ 1
+  unfolding readRelocs
+  not-whole w = numbered (Lengths.not-whole (length records) (length sections) (length slots) (readTable contents records sections) w)
 
   many-records : 2 ^ 32 ≤ length records / 8 → Reader.numberTo contents records sections slots ≡ 1
-  many-records h = go (eqb (length records % 8) 0) refl
-    where
-      go : (t : Bool) → eqb (length records % 8) 0 ≡ t → Reader.numberTo contents records sections slots ≡ 1
-      go true e = read-number (Lengths.many-records contents records sections slots (eqb-true (length records % 8) 0 e) h)
-      go false e = read-number (Lengths.not-whole contents records sections slots (eqb-false (length records % 8) 0 e))
+  unfolding readRelocs
+  many-records h = numbered (Lengths.many-records (length records) (length sections) (length slots) (readTable contents records sections) h)
 
   many-sections : 2 ^ 32 ≤ length sections → Reader.numberTo contents records sections slots ≡ 1
-  many-sections h = go (eqb (length records % 8) 0) (ltb (length records / 8) (2 ^ 32)) refl refl
-    where
-      go : (t f : Bool) → eqb (length records % 8) 0 ≡ t → ltb (length records / 8) (2 ^ 32) ≡ f → Reader.numberTo contents records sections slots ≡ 1
-      go true true e l =
-          read-number
-          (Lengths.many-sections contents records sections slots (eqb-true (length records % 8) 0 e) (ltb-true (length records / 8) (2 ^ 32) l) h)
-      go true false e l = many-records (ltb-false (length records / 8) (2 ^ 32) l)
-      go false f e l = read-number (Lengths.not-whole contents records sections slots (eqb-false (length records % 8) 0 e))
+  unfolding readRelocs
+  many-sections h = numbered (Lengths.many-sections (length records) (length sections) (length slots) (readTable contents records sections) h)
+
+  few-slots : length records % 8 ≡ 0 → length records / 8 < 2 ^ 32 → length sections < 2 ^ 32 → length slots < 24 * (length records / 8)
+      → Reader.numberTo contents records sections slots ≡ 2
+  unfolding readRelocs
+  few-slots w n m h = numbered (Lengths.few-slots (length records) (length sections) (length slots) (readTable contents records sections) w n m h)
 
 -- one of four tests holds
 second : (a b c d : Bool) → b ≡ true → (a || b || c || d) ≡ true
@@ -207,8 +206,7 @@ numbers =
       hint-run-first = (h .5, h .6, h .7, h .8);
       hint-run-left-out = (h .9, h .10, h .11);
       hint-run-earliest = hint-run-earliest;
-      records-not-whole = λ contents records sections slots w.
-          read-number contents records sections slots (Lengths.not-whole contents records sections slots w);
+      records-not-whole = not-whole;
       many-records = many-records;
       many-sections = many-sections;
       entries-not-whole = entries-not-whole;
@@ -217,8 +215,7 @@ numbers =
       counts-differ = counts-differ;
       hint-lengths = HintLengths.lengths;
       hint-lengths-only = HintLengths.lengths-only;
-      few-entry-slots = λ contents records sections slots w n m h.
-          read-number contents records sections slots (Lengths.few-slots contents records sections slots w n m h);
+      few-entry-slots = few-slots;
       few-report-slots = few-report-slots;
       at-the-end = (refl, refl, refl, refl);
     }

@@ -5,17 +5,20 @@ use Prim.Native.Nat.{ℕ, _≤_}
 use Rattle.macho.specs.Refusal as Refusal
 use Rattle.macho.specs.declared.refusal.Refusal.{Refusal}
 use Rattle.arm64_reader.specs.Read as Read
+use Rattle.x86_64_reader.specs.Read as ReadX86
 use Rattle.arm64_fixup.specs.Answer as Answer
 use Rattle.arm64_hint_work.specs.declared.tally.Tally.{Tally}
 use Rattle.hint_payload.specs.Answer.{rowTo, bytesTo}
 use Rattle.lister_text.specs.Listing.{outAfter}
 use Rattle.hauklivo.specs.Reader as Reader
+use Rattle.hauklivo.specs.ReaderX86 as ReaderX86
 use Rattle.hauklivo.specs.Fixup as Fixup
 use Rattle.hauklivo.specs.Stub as Stub
 use Rattle.hauklivo.specs.Hints as Hints
 use Rattle.hauklivo.specs.Lister as Lister
 use Rattle.hauklivo.specs.Payload as Payload
 use Rattle.hauklivo.proofs.reader.hauklivo_read_relocs.Statement as ReadRelocs
+use Rattle.hauklivo.proofs.reader.hauklivo_read_relocs_x86_64.Statement as ReadRelocsX86
 use Rattle.hauklivo.proofs.fixup.hauklivo_apply_reloc_alloc.Statement as ApplyRelocAlloc
 use Rattle.hauklivo.proofs.stub.hauklivo_write_stub.Statement as WriteStub
 use Rattle.hauklivo.proofs.stub.hauklivo_write_thunk.Statement as WriteThunk
@@ -30,8 +33,9 @@ use Rattle.hauklivo.proofs.version.hauklivo_version_4.Statement as Version4
 -- `statement M` is made by the toolchain from the code and its contract. It says of the compiled function, in every memory that can be lent as its
 -- parameters say: it touches no other memory, it returns, and its answer and every lent byte are what its `ensures` say. No call here has a `requires`
 pub record Calls : Type 2 where
-  -- RULES 1.1 to 1.3: the reader (hauklivo/src/reader.rt)
+  -- RULES 1.1 to 1.3: the readers, of arm64 and of x86_64 (hauklivo/src/reader.rt)
   pub read-relocs : (M : Type 1) → ReadRelocs.statement M
+  pub read-relocs-x86-64 : (M : Type 1) → ReadRelocsX86.statement M
   -- the fix-up (hauklivo/src/fixup.rt)
   pub apply-reloc-alloc : (M : Type 1) → ApplyRelocAlloc.statement M
   -- one stub entry (hauklivo/src/stub.rt)
@@ -55,6 +59,9 @@ pub record Calls : Type 2 where
   -- RULES 1.3, 3.2: a refused reader leaves slots and count
   pub read-relocs-refused : (contents records sections slots : List ℕ) (count : ℕ) → (Reader.numberTo contents records sections slots ≡ 0 → ⊥)
       → (Read.slotsTo contents records sections slots ≡ slots) × (Reader.countTo contents records sections slots count ≡ count)
+  pub read-relocs-x86-64-refused : (contents records sections : List ℕ) (address : ℕ) (slots : List ℕ) (count : ℕ)
+      → (ReaderX86.numberTo contents records sections address slots ≡ 0 → ⊥)
+      → (ReadX86.slotsTo contents records sections address slots ≡ slots) × (ReaderX86.countTo contents records sections address slots count ≡ count)
   -- a refused fix-up leaves section, slots and count
   pub apply-reloc-alloc-refused : (section : List ℕ) (base tls : ℕ) (entries targets slots : List ℕ) (count : ℕ)
       → (Fixup.numberTo section base tls entries targets slots ≡ 0 → ⊥)

@@ -6,6 +6,8 @@ use Rattle.claims.specs.Manual.{Manual}
 use Rattle.claims.specs.Words.{Words}
 use Rattle.claims.specs.Classes.{Classes}
 use Rattle.claims.specs.Header.{Header}
+use Rattle.claims.specs.X86.{X86}
+use Rattle.claims.specs.Forms.{Forms}
 use Rattle.claims.specs.Fixup.{Fixup}
 use Rattle.claims.specs.Hints.{Hints}
 use Rattle.claims.specs.Kept.{Kept}
@@ -24,6 +26,9 @@ pub record Claims : Type 2 where
   pub words : Words
   pub classes : Classes
   pub header : Header
+  -- records of x86_64, and of either machine (RULES 15)
+  pub x86 : X86
+  pub forms : Forms
   pub fixup : Fixup
   pub hints : Hints
   -- what a hint keeps (RULES 1.9 to 1.14)

@@ -23,7 +23,8 @@ use Rattle.arch.specs.Table.{recordsOf}
 use Rattle.arch.specs.Join.{joined, mapped, recordLater, entryLater}
 use Rattle.arch.specs.Walk.{refused, entries, answerOf, Fills}
 use Rattle.arm64_reader.specs.Read.{readRecords, readTable, readRelocs, endsIn, NoLastAddend}
-use Rattle.arm64_reader.specs.Support.{supportedOf, appliedBelow}
+use Rattle.arch.specs.Form.{appliedBelow}
+use Rattle.arm64_reader.specs.Support.{forms, supportedOf}
 use Rattle.arm64_reader.specs.Fields.{starts, pairs, entryFrom}
 use Rattle.arm64_reader.specs.Header.{Relocation, symbol, nothing, Meaning, undefined, relocations, meaningOf, Present, hasLonePointer32}
 use Rattle.arm64_reader.specs.Header.{inHeader, Reason, isTolerated, not-in-header, not-applied}
@@ -81,7 +82,7 @@ pub record Header : Type 0 where
   pub hint-ignores : (s : List ℕ) (at u v : ℕ) → hintAt (set (set s (at + 2) u) (at + 3) v) at ≡ hintAt s at
   pub entry-spare : (s : List ℕ) (at v : ℕ) → at + 16 ≤ length s → relocAt (put 4 s (at + 12) v) at ≡ withSpare (relocAt s at) (v % 2 ^ 32)
   -- RULES 4.6: the records that the linker applies, by type and form
-  pub applied : appliedBelow 256
+  pub applied : appliedBelow forms 256
       ≡ 0x04 ∷ 0x06 ∷ 0x0c ∷ 0x0e ∷ 0x1c ∷ 0x1e ∷ 0x2d ∷ 0x3d ∷ 0x4c ∷ 0x5d ∷ 0x6c ∷ 0x7d ∷ 0x8d ∷ 0x9c ∷ 0xa4 ∷ []
   -- RULES 4.16: the headers have each of them
   pub applied-in-header : (r : MachRel) → supportedOf r ≡ true → inHeader r ≡ true

@@ -1,5 +1,5 @@
-// Replays data/answers: what the unchanged Rust answers on relocation records, with the rows of docs/DIFFERENCES applied, chosen so that each row of the
-// differential run's table is covered. tools/make-answers makes the list, tests/driver/answers.rs says what it holds.
+// Replays data/answers: what the unchanged Rust answers on relocation records of arm64 and x86_64, with the rows of docs/DIFFERENCES applied, chosen so
+// that each row of the differential run's table is covered. tools/make-answers makes the list, tests/driver/answers.rs says what it holds.
 mod reader;
 
 use replay_list::head::Head;
@@ -9,12 +9,19 @@ use replay_list::seen::Seen;
 ghost use Prim.Native.Nat.{_<_};
 ghost use Rattle.replay_list.specs.Seen.{Bounded};
 
-// A record of read_relocs.
+// Records of read_relocs and read_relocs_x86_64.
 const READ: u8 = 1;
+
+const READ_X86_64: u8 = 9;
 
 // Whether a record is an answer that the port gives, too.
 fn holds(head: Head, body: &[u8]) -> bool {
-    head.what == READ && reader::holds(head, body)
+    let what = head.what;
+    match what {
+        READ => reader::holds(head, body, 0),
+        READ_X86_64 => reader::holds(head, body, 8),
+        _ => false,
+    }
 }
 
 // Replays the next record.
