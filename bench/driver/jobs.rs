@@ -1,11 +1,12 @@
 //! The work that is timed: each call of the port, the Rust's own, and a plain copy.
 
-use hauklivo::{HintRecord, MachRel, Record, Reloc, Report, Resolved};
-use oracle::{Entries, FixingUp, Given, Linked, Reading};
+use hauklivo::{HintRecord, MachRel, Record, Refusal, Reloc, Report, Resolved};
+use oracle::{Arm64, Entries, FixingUp, Given, Linked, Reading, X86_64};
 
 use crate::hints::Sequences;
 use crate::payload::Payload;
 use crate::records::{BASE, TLS_BEGIN, Table};
+use crate::records_x86_64::ADDRESS;
 
 /// One side of a comparison.
 pub trait Job {
@@ -37,23 +38,18 @@ impl Job for Copy {
     }
 }
 
-pub struct PortRead<'a> {
+/// The reading of a table by the port, into slots.
+pub struct PortRead<'a, F> {
     table: &'a Table,
     slots: Vec<Reloc>,
     count: usize,
+    call: F,
 }
 
-impl<'a> PortRead<'a> {
-    pub fn new(table: &'a Table) -> Self {
-        Self { table, slots: vec![Reloc::default(); table.records.len()], count: 0 }
-    }
-}
-
-impl Job for PortRead<'_> {
+impl<F: FnMut(&Table, &[u8], &mut [u8]) -> Result<usize, Refusal>> Job for PortRead<'_, F> {
     fn run(&mut self) {
         let records = MachRel::bytes(&self.table.records);
-        let slots = Reloc::bytes_mut(&mut self.slots);
-        self.count = hauklivo::read_relocs(&self.table.contents, records, &self.table.sections, slots).unwrap();
+        self.count = (self.call)(self.table, records, Reloc::bytes_mut(&mut self.slots)).unwrap();
     }
 
     fn result(&self) -> Vec<u8> {
@@ -61,31 +57,56 @@ impl Job for PortRead<'_> {
     }
 }
 
-pub struct RustRead<'a> {
+fn by_port<'a>(
     table: &'a Table,
-    reading: Reading,
+    call: impl FnMut(&Table, &[u8], &mut [u8]) -> Result<usize, Refusal> + 'a,
+) -> Box<dyn Job + 'a> {
+    Box::new(PortRead { table, slots: vec![Reloc::default(); table.records.len()], count: 0, call })
+}
+
+pub fn port_read(table: &Table) -> Box<dyn Job + '_> {
+    by_port(table, |table, records, slots| hauklivo::read_relocs(&table.contents, records, &table.sections, slots))
+}
+
+pub fn port_read_x86_64(table: &Table) -> Box<dyn Job + '_> {
+    by_port(table, |table, records, slots| {
+        hauklivo::read_relocs_x86_64(&table.contents, records, &table.sections, ADDRESS, slots)
+    })
+}
+
+/// The reading of a table by the Rust, into entries that it allocates.
+pub struct RustRead<'a, F> {
+    table: &'a Table,
     entries: Option<Entries>,
+    call: F,
 }
 
-impl<'a> RustRead<'a> {
-    pub fn new(table: &'a Table) -> Self {
-        let reading = Reading::new(MachRel::bytes(&table.records), &table.sections);
-        Self { table, reading, entries: None }
-    }
-}
-
-impl Job for RustRead<'_> {
+impl<F: FnMut(&[u8]) -> Entries> Job for RustRead<'_, F> {
     fn reset(&mut self) {
         self.entries = None;
     }
 
     fn run(&mut self) {
-        self.entries = Some(self.reading.run(&self.table.contents));
+        self.entries = Some((self.call)(&self.table.contents));
     }
 
     fn result(&self) -> Vec<u8> {
         self.entries.as_ref().unwrap().bytes()
     }
+}
+
+fn by_rust<'a>(table: &'a Table, call: impl FnMut(&[u8]) -> Entries + 'a) -> Box<dyn Job + 'a> {
+    Box::new(RustRead { table, entries: None, call })
+}
+
+pub fn rust_read(table: &Table) -> Box<dyn Job + '_> {
+    let reading = Reading::<Arm64>::new(MachRel::bytes(&table.records), &table.sections, 0);
+    by_rust(table, move |contents| reading.run(contents))
+}
+
+pub fn rust_read_x86_64(table: &Table) -> Box<dyn Job + '_> {
+    let reading = Reading::<X86_64>::new(MachRel::bytes(&table.records), &table.sections, ADDRESS);
+    by_rust(table, move |contents| reading.run(contents))
 }
 
 pub struct PortFix<'a> {

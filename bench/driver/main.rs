@@ -9,6 +9,7 @@ mod hints;
 mod jobs;
 mod payload;
 mod records;
+mod records_x86_64;
 #[allow(dead_code)]
 #[path = "../../tests/driver/rng.rs"]
 mod rng;
@@ -17,7 +18,7 @@ use std::collections::BTreeMap;
 
 use hauklivo::{HintRecord, MachRel, Record, Reloc, Resolved};
 use hints::{Objects, Sequences};
-use jobs::{Copy, Fill, Job, PortFix, PortRead, RustFix, RustRead};
+use jobs::{Copy, Fill, Job, PortFix, RustFix};
 use payload::Payload;
 use records::Table;
 
@@ -25,8 +26,9 @@ type Sides<'a> = Vec<(&'static str, Box<dyn Job + 'a>)>;
 
 const SIZES: [usize; 4] = [1_000, 10_000, 100_000, 1_000_000];
 const SWEEPS: usize = 5;
-const CASES: [(&str, usize); 7] = [
+const CASES: [(&str, usize); 8] = [
     ("read", 4),
+    ("read, x86_64", 4),
     ("fix", 4),
     ("hints", 4),
     ("hints, many objects", 4),
@@ -44,28 +46,8 @@ fn bench_timed(job: &mut dyn Job) {
 /// Makes the inputs of a case and hands its sides to `then`, with the bytes that the copy moves.
 fn with_sides(case: &str, size: usize, then: impl FnOnce(Sides, usize)) {
     match case {
-        "read" => {
-            let table = Table::new(size);
-            let bytes = table.contents.len() + size * (MachRel::SIZE + Reloc::SIZE);
-            let port = Box::new(PortRead::new(&table));
-            let rust = Box::new(RustRead::new(&table));
-            then(vec![("port", port), ("rust", rust), ("copy", Box::new(Copy::new(bytes)))], bytes);
-        }
-        "fix" => {
-            let table = Table::new(size + size / 8);
-            let (mut entries, mut targets) = records::entries(&table);
-            // No SUBTRACTOR may end the list.
-            let end = size - usize::from(entries[size - 1].ty == hauklivo::ty::SUBTRACTOR);
-            entries.truncate(end);
-            targets.truncate(end);
-            let symbols = &targets[..size / 4];
-            let bytes = table.contents.len() + end * (Reloc::SIZE + Resolved::SIZE);
-            let port = Box::new(PortFix::new(&table.contents, &entries, &targets));
-            let rust = Box::new(RustFix::new(&table.contents, &entries, &targets));
-            let fill = Box::new(Fill::new(&entries, symbols));
-            let copy = Box::new(Copy::new(bytes));
-            then(vec![("port", port), ("rust", rust), ("copy", copy), ("fill", fill)], bytes);
-        }
+        "read" | "read, x86_64" => with_readers(case, size, then),
+        "fix" => with_fix_ups(size, then),
         "payload, read" | "payload, written" => {
             let payload = Payload::new(size);
             let bytes = payload.bytes.len() + size_of_val(&payload.row[..]);
@@ -92,6 +74,33 @@ fn with_sides(case: &str, size: usize, then: impl FnOnce(Sides, usize)) {
             then(sides, bytes);
         }
     }
+}
+
+fn with_readers(case: &str, size: usize, then: impl FnOnce(Sides, usize)) {
+    let is_arm = case == "read";
+    let table = if is_arm { Table::new(size) } else { Table::new_x86_64(size) };
+    let bytes = table.contents.len() + size * (MachRel::SIZE + Reloc::SIZE);
+    let (port, rust) = match is_arm {
+        true => (jobs::port_read(&table), jobs::rust_read(&table)),
+        false => (jobs::port_read_x86_64(&table), jobs::rust_read_x86_64(&table)),
+    };
+    then(vec![("port", port), ("rust", rust), ("copy", Box::new(Copy::new(bytes)))], bytes);
+}
+
+fn with_fix_ups(size: usize, then: impl FnOnce(Sides, usize)) {
+    let table = Table::new(size + size / 8);
+    let (mut entries, mut targets) = records::entries(&table);
+    // No SUBTRACTOR may end the list.
+    let end = size - usize::from(entries[size - 1].ty == hauklivo::ty::SUBTRACTOR);
+    entries.truncate(end);
+    targets.truncate(end);
+    let symbols = &targets[..size / 4];
+    let bytes = table.contents.len() + end * (Reloc::SIZE + Resolved::SIZE);
+    let port = Box::new(PortFix::new(&table.contents, &entries, &targets));
+    let rust = Box::new(RustFix::new(&table.contents, &entries, &targets));
+    let fill = Box::new(Fill::new(&entries, symbols));
+    let copy = Box::new(Copy::new(bytes));
+    then(vec![("port", port), ("rust", rust), ("copy", copy), ("fill", fill)], bytes);
 }
 
 /// The times of a side's calls, and the bytes of a copy.

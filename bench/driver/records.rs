@@ -1,4 +1,4 @@
-//! A section with relocation records of all types, and the resolved targets of its entries.
+//! A section with relocation records of all arm64 types, and the resolved targets of its entries.
 
 use hauklivo::{MachRel, Record, Reloc, Resolved, flag, ty};
 
@@ -6,7 +6,7 @@ use crate::rng::Rng;
 
 pub const BASE: u64 = 0x1_0000_0000;
 pub const TLS_BEGIN: u64 = 0x1_0800_0000;
-const SECTIONS: u32 = 40;
+pub const SECTIONS: u32 = 40;
 
 /// What a reader is lent.
 pub struct Table {
@@ -20,13 +20,19 @@ const ADD: u32 = 0x9100_0000;
 const LDR: u32 = 0xf940_0000;
 
 impl Table {
-    /// `n` records, in the mix that `group` makes.
+    /// `n` arm64 records, in the mix that `group` makes.
     pub fn new(n: usize) -> Self {
-        let mut rng = Rng::new("records", n as u64);
+        Self::of_groups(n, "records", Self::group)
+    }
+
+    /// `n` records by groups, each of which is told how many are left.
+    pub fn of_groups(n: usize, seed: &str, group: fn(&mut Self, &mut Rng, usize)) -> Self {
+        let mut rng = Rng::new(seed, n as u64);
         let sections = (0..SECTIONS).map(|i| 0x1000 * u64::from(i)).collect();
         let mut table = Self { contents: Vec::new(), records: Vec::new(), sections };
         while table.records.len() < n {
-            table.group(&mut rng, n - table.records.len());
+            let left = n - table.records.len();
+            group(&mut table, &mut rng, left);
         }
         table
     }
@@ -75,13 +81,13 @@ impl Table {
     }
 
     /// The offset of so many new bytes at the section's end.
-    fn room(&mut self, bytes: usize) -> u32 {
+    pub fn room(&mut self, bytes: usize) -> u32 {
         let at = self.contents.len().next_multiple_of(bytes);
         self.contents.resize(at + bytes, 0);
         at as u32
     }
 
-    fn push(&mut self, at: u32, idx: u32, is_pcrel: bool, p2size: u8, is_extern: bool, ty: u8) {
+    pub fn push(&mut self, at: u32, idx: u32, is_pcrel: bool, p2size: u8, is_extern: bool, ty: u8) {
         self.records.push(MachRel::new(at, idx, is_pcrel, p2size, is_extern, ty));
     }
 
@@ -99,7 +105,7 @@ impl Table {
     }
 }
 
-fn symbol(rng: &mut Rng) -> u32 {
+pub fn symbol(rng: &mut Rng) -> u32 {
     rng.below(10_000) as u32
 }
 

@@ -1,8 +1,9 @@
 //! The oracle's calls for reading, fix-up, stubs and thunks.
 
+use std::marker::PhantomData;
 use std::path::Path;
 
-use crate::arch::{Arm64, Target};
+use crate::arch::{Arm64, Target, X86_64};
 use crate::chunks::ChunkHeader;
 use crate::context::Context;
 use crate::error::take_errors;
@@ -14,26 +15,29 @@ use crate::stop::{Stop, caught};
 use crate::symbol::{Symbol, Symbols, THREAD_LOCAL};
 
 /// A reading with its lists in the Rust's own types, so that the Rust can be timed alone.
-pub struct Reading {
+pub struct Reading<T> {
     sections: Vec<MachSection>,
     hdr: MachSection,
     records: Vec<MachRel>,
+    machine: PhantomData<T>,
 }
 
-impl Reading {
-    pub fn new(records: &[u8], sections: &[u64]) -> Self {
-        let sections = sections.iter().map(|&addr| MachSection { addr, flags: 0 }).collect();
-        Self { sections, hdr: MachSection::default(), records: lent::records(records) }
+impl<T: Target> Reading<T> {
+    /// `address` is the section's own, which the reader for arm64 does not ask for.
+    pub fn new(records: &[u8], sections: &[u64], address: u64) -> Self {
+        let header = |addr| MachSection { addr, flags: 0 };
+        let sections = sections.iter().copied().map(header).collect();
+        Self { sections, hdr: header(address), records: lent::records(records), machine: PhantomData }
     }
 
     /// The Rust's own call.
     pub fn run(&self, contents: &[u8]) -> Entries {
         let path = Path::new("object");
-        Entries(Arm64::read_relocs(path, &self.sections, &self.hdr, contents, &self.records))
+        Entries(T::read_relocs(path, &self.sections, &self.hdr, contents, &self.records))
     }
 }
 
-/// What the Rust's reader returns.
+/// What a reader of the Rust's returns.
 pub struct Entries(Vec<Reloc>);
 
 impl Entries {
@@ -43,10 +47,19 @@ impl Entries {
     }
 }
 
+fn read<T: Target>(contents: &[u8], records: &[u8], sections: &[u64], address: u64) -> Result<Vec<u8>, Stop> {
+    let reading = Reading::<T>::new(records, sections, address);
+    Ok(caught(|| reading.run(contents))?.bytes())
+}
+
 /// The entries that the Rust reads from `records`, 24 bytes each.
 pub fn read_relocs(contents: &[u8], records: &[u8], sections: &[u64]) -> Result<Vec<u8>, Stop> {
-    let reading = Reading::new(records, sections);
-    Ok(caught(|| reading.run(contents))?.bytes())
+    read::<Arm64>(contents, records, sections, 0)
+}
+
+/// The same of x86_64 records; `address` is that of the section that has them.
+pub fn read_relocs_x86_64(contents: &[u8], records: &[u8], sections: &[u64], address: u64) -> Result<Vec<u8>, Stop> {
+    read::<X86_64>(contents, records, sections, address)
 }
 
 /// What a fix-up leaves beside the section's bytes.

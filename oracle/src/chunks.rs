@@ -65,7 +65,7 @@ pub mod lazy_helpers {
     use crate::input_sections::{Reloc, RelocTarget};
     use crate::symbol::SymbolId;
 
-    #[derive(Clone, Copy)]
+    #[derive(Clone, Copy, PartialEq)]
     pub enum LazyUse {
         Call,
         Load { reg: u8, site: Option<(u32, u32)> },
@@ -107,7 +107,7 @@ pub mod delay_init {
     use crate::input_sections::Reloc;
     use crate::symbol::SymbolId;
 
-    #[derive(Clone, Copy)]
+    #[derive(Clone, Copy, PartialEq)]
     pub enum DelayUse {
         Load { reg: u8, site: Option<(u32, u32)> },
         Cmp,

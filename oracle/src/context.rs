@@ -16,6 +16,14 @@ pub struct Args {
     pub output_type: u32,
     pub ignore_optimization_hints: bool,
     pub objc_stubs_small: bool,
+    pub static_link: bool,
+    pub kexts_use_stubs: bool,
+}
+
+impl Args {
+    pub fn is_kext(&self) -> bool {
+        crate::left_out()
+    }
 }
 
 #[derive(Default)]
@@ -28,6 +36,7 @@ pub struct Stubs {
 pub struct StubHelper {
     pub dyld_private_isec: u32,
     pub dyld_stub_binder: Option<SymbolId>,
+    pub binding_helper: Option<SymbolId>,
 }
 
 #[derive(Default)]
@@ -72,6 +81,8 @@ pub struct Context<E: Target> {
     pub lazy_load_got: Slots,
     pub delay_init: delay_init::DelayInit,
     pub got: Slots,
+    pub lazy_ptrs: Slots,
+    pub pointers32: Mutex<Vec<(u32, u32)>>,
     pub cies: Vec<CieRecord>,
     pub fdes: Vec<FdeRecord>,
     pub target: PhantomData<E>,

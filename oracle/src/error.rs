@@ -61,12 +61,16 @@ impl RawPath for Path {
     }
 }
 
-/// The first rule matches one place only, the end of arm64.rs's apply_reloc_alloc. What it adds
-/// there is an impl block (see words.rs), which so sees the private functions of arm64.rs.
+/// The first rule matches one place of arm64.rs and one of x86_64.rs, the end of apply_reloc_alloc. It adds a module
+/// there, with the file below `inside` that has the path of the file around it: a module sees what is private around
+/// it, and the supplied file stays as it is.
 #[macro_export]
 macro_rules! fatal {
     ("unsupported relocation type: {}", $ty:expr) => {{
-        $crate::impl_words!();
+        mod inside {
+            use super::*;
+            include!(concat!("../inside/", file!()));
+        }
         $crate::error::fatal(format_args!("unsupported relocation type: {}", $ty))
     }};
     ($($arg:tt)*) => {

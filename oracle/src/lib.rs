@@ -1,4 +1,4 @@
-//! The oracle: the linker's own arm64 files, compiled unchanged, behind calls on the lent records
+//! The oracle: the linker's own files, compiled unchanged, behind calls on the lent records
 //! of RULES 2. The modules marked "supplied" come from the source folder; all others are
 //! shims for what is not supplied, or the oracle's calls. README.md has the list.
 
@@ -11,7 +11,7 @@ extern crate self as sha2;
 #[doc(hidden)]
 pub use registry::{Digest, Sha1, Sha256, fill, memchr, prelude};
 
-mod arch; // supplied: mod.rs and arm64.rs
+mod arch; // supplied: mod.rs, arm64.rs and x86_64.rs
 mod chunks;
 mod context;
 mod dtrace;
@@ -32,12 +32,12 @@ mod stop;
 mod values;
 pub mod words;
 
-pub use arch::Arm64;
-pub use calls::{Entries, FixedUp, FixingUp, Reading, apply_reloc_alloc, read_relocs, stub, thunk};
+pub use arch::{Arm64, X86_64};
+pub use calls::{Entries, FixedUp, FixingUp, Reading, apply_reloc_alloc, read_relocs, read_relocs_x86_64, stub, thunk};
 pub use hints::{Given, HintRun, Linked, Outcome, apply_hints, apply_hints_linked};
 pub use stop::Stop;
 pub use values::{encode_uleb, encode_ulebs, read_uleb, read_ulebs, uleb_size, write_uleb};
-pub use words::{AccessWord, AddWord, Words};
+pub use words::{AccessWord, AddWord, Forms, Words};
 
 /// For what the compiled files name but none of the oracle's calls reaches.
 fn left_out() -> ! {

@@ -50,13 +50,24 @@ impl Stop {
         }
     }
 
-    /// The number of RULES 3.1 for a stop of the reader.
+    /// The number of RULES 3.1 for a stop of the arm64 reader.
     pub fn reader_number(&self) -> Option<u8> {
         match self {
             Self::Slice(_) => Some(3),
             Self::Index(_) => Some(4),
             Self::Fatal(text) if text.contains("unsupported relocation at ") => Some(5),
             Self::Fatal(text) if text.contains("on an invalid instruction at ") => Some(6),
+            Self::Fatal(text) if text.contains("no such section") => Some(7),
+            _ => None,
+        }
+    }
+
+    /// The number of RULES 3.1 for a stop of the x86_64 reader, which reads a single byte by its index. There is none
+    /// where the sum of the section's own address and an offset overflows.
+    pub fn reader_x86_64_number(&self) -> Option<u8> {
+        match self {
+            Self::Slice(_) | Self::Index(_) => Some(3),
+            Self::Fatal(text) if text.contains("unsupported relocation at ") => Some(5),
             Self::Fatal(text) if text.contains("no such section") => Some(7),
             _ => None,
         }

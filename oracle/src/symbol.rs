@@ -95,7 +95,7 @@ impl Symbol {
     }
 }
 
-/// What only left-out code asks (symbol scanning, text relocations, helper code).
+/// What only left-out code asks (symbol scanning, text relocations, helper code, the fix-up for x86_64).
 impl Symbol {
     pub fn stub_addr<E: Target>(&self, _ctx: &Context<E>) -> u64 {
         crate::left_out()
@@ -126,6 +126,14 @@ impl Symbol {
     }
 
     pub fn is_absolute<E: Target>(&self, _ctx: &Context<E>) -> bool {
+        crate::left_out()
+    }
+
+    pub fn has_stub(&self, _symbols: &Symbols) -> bool {
+        crate::left_out()
+    }
+
+    pub fn binds_pointer<E: Target>(&self, _ctx: &Context<E>) -> bool {
         crate::left_out()
     }
 

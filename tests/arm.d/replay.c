@@ -16,7 +16,7 @@
 #include <string.h>
 
 enum { TITLE = 0, READ = 1, FIX = 2, STUB = 3, THUNK = 4, HINTS = 5, CLASS = 6 };
-enum { READ_HINTS = 7, WRITE_HINTS = 8 };
+enum { READ_HINTS = 7, WRITE_HINTS = 8, READ_X86_64 = 9 };
 enum { GUARD = 32, GUARD_BYTE = 0xc3, MOST = 1 << 19 };
 
 /* A record: what it is, the answer's number, the body's length, and values. */
@@ -30,6 +30,8 @@ static const char *why;
 
 result read_relocs(const uint8_t *, size_t, const void *, size_t, const uint64_t *, size_t, void *, size_t, size_t *)
     CALL(read_relocs);
+result read_relocs_x86_64(const uint8_t *, size_t, const void *, size_t, const uint64_t *, size_t, uint64_t, void *, size_t,
+                          size_t *) CALL(read_relocs_x86_64);
 result apply_reloc_alloc(uint8_t *, size_t, uint64_t, uint64_t, const void *, size_t, const void *, size_t, void *, size_t,
                          size_t *) CALL(apply_reloc_alloc);
 result write_stub(uint8_t *, size_t, uint64_t, uint64_t, uint8_t *) CALL(write_stub);
@@ -119,16 +121,22 @@ static int counted(const struct head *h, result number, size_t count, size_t fil
     return 1;
 }
 
+/* Only the reader of x86_64 is lent the section's own address. */
 static int holds_read(const struct head *h, const uint8_t *body)
 {
-    const uint8_t *records = body + h->v[0], *sections = records + h->v[1];
-    const uint8_t *entries = sections + 8 * h->v[2];
+    const uint8_t *records = body + h->v[0], *sections = records + h->v[1], *own = sections + 8 * h->v[2];
+    const uint8_t *entries = own + (h->what == READ_X86_64 ? 8 : 0);
     size_t count = UNCOUNTED;
+    result number;
     if (entries + 24 * h->v[4] != body + h->len)
         return fails("the record's lengths");
     const uint64_t *addresses = read_values(sections, h->v[2]);
     lend(&first, NULL, h->v[3]);
-    result number = read_relocs(body, h->v[0], records, h->v[1], addresses, h->v[2], first.bytes, h->v[3], &count);
+    if (h->what == READ)
+        number = read_relocs(body, h->v[0], records, h->v[1], addresses, h->v[2], first.bytes, h->v[3], &count);
+    else
+        number = read_relocs_x86_64(body, h->v[0], records, h->v[1], addresses, h->v[2], read64(own), first.bytes, h->v[3],
+                                    &count);
     if (!counted(h, number, count, h->v[4]))
         return 0;
     return became(&first, entries, 24 * h->v[4]) || fails("the entries");
@@ -226,7 +234,8 @@ static int holds(const struct head *h, const uint8_t *body)
 {
     turn++;
     switch (h->what) {
-    case READ: return holds_read(h, body);
+    case READ:
+    case READ_X86_64: return holds_read(h, body);
     case FIX: return holds_fix(h, body);
     case STUB:
     case THUNK: return holds_stub(h, body);
@@ -242,7 +251,8 @@ static int holds(const struct head *h, const uint8_t *body)
 static size_t answered(const struct head *h)
 {
     switch (h->what) {
-    case READ: return 24 * h->v[4];
+    case READ:
+    case READ_X86_64: return 24 * h->v[4];
     case FIX: return h->v[0] + 24 * h->v[4];
     case READ_HINTS: return 8 * h->v[2];
     case WRITE_HINTS: return h->v[2];

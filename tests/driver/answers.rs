@@ -16,6 +16,8 @@
 //! - 6, load_store_class. The number is the entry of the table. Body: the word (u32).
 //! - 7, read_hints. Values: bytes of the payload, slots, slots filled. Body: payload, row (u64).
 //! - 8, write_hints. Values: length of the row, bytes lent, bytes filled. Body: row (u64), bytes.
+//! - 9, read_relocs_x86_64. Values as of 1. Body: contents, records, sections (u64), the section's own address (u64),
+//!   entries.
 //!
 //! Only the list of every case has records of 6, 7 and 8; the lists that crates replay have none.
 //!
@@ -40,9 +42,10 @@ pub const HINTS: u8 = 5;
 pub const CLASS: u8 = 6;
 pub const READ_HINTS: u8 = 7;
 pub const WRITE_HINTS: u8 = 8;
+pub const READ_X86_64: u8 = 9;
 
 const FILES: [(&str, &[u8]); 3] =
-    [("replay_reader", &[READ]), ("replay_fixup", &[FIX, STUB, THUNK]), ("replay_hints", &[HINTS])];
+    [("replay_reader", &[READ, READ_X86_64]), ("replay_fixup", &[FIX, STUB, THUNK]), ("replay_hints", &[HINTS])];
 
 /// How often each cell of the table is covered, how many cells of a block that is shown as one line, how many cases
 /// of each group beside those, and the most bytes that an answer has.

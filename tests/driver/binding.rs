@@ -8,6 +8,10 @@ pub const ORACLE: Oracle = Oracle {
         oracle::read_relocs(contents, records, sections)
             .map_err(|s| Stop { number: s.reader_number(), text: format!("{s:?}") })
     },
+    read_relocs_x86_64: |contents, records, sections, address| {
+        oracle::read_relocs_x86_64(contents, records, sections, address)
+            .map_err(|s| Stop { number: s.reader_x86_64_number(), text: format!("{s:?}") })
+    },
     apply_reloc_alloc: |section, base, tls_begin, entries, targets| {
         oracle::apply_reloc_alloc(section, base, tls_begin, entries, targets)
             .map(|f| FixedUp { reports: f.reports, without_address: f.without_address })

@@ -2,7 +2,7 @@
 //! name of a predicate on cases and the name of what is expected there.
 //!
 //! Rows apply in the order of the table. Where a row's predicate holds of what the Rust is asked, its
-//! expectation changes either what the Rust is asked or what it answered. Rows about one hint, those of
+//! expectation changes what the Rust is asked, or what it answered, or both. Rows about one hint, those of
 //! hint_steps.rs, apply after these, at the hint's turn. A row that no case reaches, or that changes no
 //! answer, fails the run, and so does a row about one hint that leaves the answer as it was.
 
@@ -11,7 +11,8 @@ use std::sync::atomic::{AtomicU64, Ordering};
 use hauklivo::{MachRel, Record, Reloc, Resolved, Target, flag};
 
 use crate::fixup::{self, is_section, steps};
-use crate::{Difference, World, class, hint_steps, hints, payload_reader, payload_writer, reader, stub};
+use crate::reader_arm64::Arm64;
+use crate::{Difference, World, class, hint_steps, hints, payload_reader, payload_writer, reader, reader_x86_64, stub};
 
 /// How a row changes what is expected of a case.
 enum Change<C: Call> {
@@ -19,6 +20,8 @@ enum Change<C: Call> {
     Asked(fn(&mut C)),
     /// The Rust's answer is changed.
     Answered(fn(&C, &mut C::Answer)),
+    /// The Rust is asked something else, and its answer to that is changed.
+    Both(fn(&mut C), fn(&C, &mut C::Answer)),
 }
 
 /// The cases of a call, with the names that the table has for it.
@@ -30,7 +33,7 @@ trait Call: Clone + 'static {
     fn rust(&self, world: &World) -> Result<Self::Answer, Difference>;
 }
 
-impl Call for reader::Case {
+impl Call for reader::Case<Arm64> {
     type Answer = reader::Answer;
     const PREDICATES: &[(&str, fn(&Self) -> bool)] =
         &[("tlvp_on_unallocated", |c| !c.tlvp_on_unallocated().is_empty())];
@@ -38,6 +41,20 @@ impl Call for reader::Case {
 
     fn rust(&self, world: &World) -> Result<Self::Answer, Difference> {
         reader::rust(self, world)
+    }
+}
+
+impl Call for reader_x86_64::Case {
+    type Answer = reader::Answer;
+    const PREDICATES: &[(&str, fn(&Self) -> bool)] = &[("field_end_wraps", |c| c.field_end_wraps())];
+    const CHANGES: &[(&str, Change<Self>)] = &[("as_lower_address", Change::Both(Self::lower, Self::raise))];
+
+    /// Where the sum overflows, the Rust's stop has no number.
+    fn rust(&self, world: &World) -> Result<Self::Answer, Difference> {
+        match reader::rust(self, world) {
+            Err(_) if self.field_end_wraps() => Ok(Err(reader_x86_64::NO_NUMBER)),
+            answer => answer,
+        }
     }
 }
 
@@ -109,7 +126,7 @@ impl Call for payload_writer::Case {
 
 /// A TLVP page offset on an unallocated word is refused like a GOT page offset there. Both take the same form, and no
 /// other record looks at which of the two it is.
-fn as_got_page_offset(case: &mut reader::Case) {
+fn as_got_page_offset(case: &mut reader::Case<Arm64>) {
     let mut list = case.list();
     for i in case.tlvp_on_unallocated() {
         list[i].bits = list[i].bits & !(15 << 28) | 6 << 28;
@@ -242,6 +259,11 @@ fn expected<C: Call>(rows: &[Row<C>], asked: &mut C, world: &World) -> Result<C:
                 answer = asked.rust(world)?;
             }
             Change::Answered(change) => change(asked, &mut answer),
+            Change::Both(change_asked, change_answer) => {
+                change_asked(asked);
+                answer = asked.rust(world)?;
+                change_answer(asked, &mut answer);
+            }
         }
         row.met.add(answer != before);
     }
@@ -251,7 +273,8 @@ fn expected<C: Call>(rows: &[Row<C>], asked: &mut C, world: &World) -> Result<C:
 /// The rows, by call.
 #[derive(Default)]
 pub struct Differences {
-    reader: Vec<Row<reader::Case>>,
+    reader: Vec<Row<reader::Case<Arm64>>>,
+    reader_x86_64: Vec<Row<reader_x86_64::Case>>,
     fixup: Vec<Row<fixup::Case>>,
     stub: Vec<Row<stub::Case>>,
     hints: Vec<Row<hints::Case>>,
@@ -283,6 +306,7 @@ impl Differences {
             };
             let names = [name, predicate, change];
             let is_there = add(&mut rows.reader, Row::named(names))
+                || add(&mut rows.reader_x86_64, Row::named(names))
                 || add(&mut rows.fixup, Row::named(names))
                 || add(&mut rows.stub, Row::named(names))
                 || add(&mut rows.hints, Row::named(names))
@@ -297,8 +321,12 @@ impl Differences {
         Ok(rows)
     }
 
-    pub fn reader(&self, case: &reader::Case, world: &World) -> Result<reader::Answer, Difference> {
+    pub fn reader(&self, case: &reader::Case<Arm64>, world: &World) -> Result<reader::Answer, Difference> {
         expected(&self.reader, &mut case.clone(), world)
+    }
+
+    pub fn reader_x86_64(&self, case: &reader_x86_64::Case, world: &World) -> Result<reader::Answer, Difference> {
+        expected(&self.reader_x86_64, &mut case.clone(), world)
     }
 
     pub fn fixup(&self, case: &fixup::Case, world: &World) -> Result<fixup::Answer, Difference> {
@@ -343,7 +371,8 @@ impl Differences {
         fn met<C: Call>(rows: &[Row<C>]) -> impl Iterator<Item = &Met> {
             rows.iter().map(|row| &row.met)
         }
-        let first = met(&self.reader).chain(met(&self.fixup)).chain(met(&self.stub)).chain(met(&self.hints));
+        let readers = met(&self.reader).chain(met(&self.reader_x86_64));
+        let first = readers.chain(met(&self.fixup)).chain(met(&self.stub)).chain(met(&self.hints));
         let then = self.hint_steps.iter().map(|row| &row.met).chain(met(&self.class));
         first.chain(then).chain(met(&self.payload_reader)).chain(met(&self.payload_writer)).map(Met::count).collect()
     }

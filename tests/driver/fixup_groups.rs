@@ -4,7 +4,7 @@ use hauklivo::{Record, Reloc, Report, Resolved, Target, flag};
 
 use crate::class::UNALLOCATED;
 use crate::fixup::{Case, check, of_lengths};
-use crate::reader_groups::flip;
+use crate::reader_lists::flip;
 use crate::rng::{Digits, Rng};
 use crate::rows::{ON_UNALLOCATED_FIXED, Rows};
 use crate::run::{Group, Verdict};

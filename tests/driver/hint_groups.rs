@@ -5,7 +5,7 @@ use hauklivo::{HintInsn, HintRecord, Reloc};
 use crate::class::UNALLOCATED;
 use crate::hint_shape::{BASE, LDR_X, LDRSW, LOADS, NOP, STORES, STR_X, Shape, bytes, entry, laid, places, single};
 use crate::hints::{Answer, Case, check, of_lengths, word_count};
-use crate::reader_groups::flip;
+use crate::reader_lists::flip;
 use crate::rng::{Digits, Rng};
 use crate::rows::Rows;
 use crate::run::{Group, Verdict};

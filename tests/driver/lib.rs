@@ -21,7 +21,11 @@ mod payload_groups;
 mod payload_reader;
 mod payload_writer;
 mod reader;
+mod reader_arm64;
 mod reader_groups;
+mod reader_lists;
+mod reader_x86_64;
+mod reader_x86_64_groups;
 mod rng;
 mod rows;
 mod run;
@@ -62,6 +66,9 @@ pub struct Access {
 /// The calls of the Rust. Lists are whole.
 pub struct Oracle {
     pub read_relocs: fn(contents: &[u8], records: &[u8], sections: &[u64]) -> Result<Vec<u8>, Stop>,
+    /// `address` is that of the section that has the records.
+    pub read_relocs_x86_64:
+        fn(contents: &[u8], records: &[u8], sections: &[u64], address: u64) -> Result<Vec<u8>, Stop>,
     pub apply_reloc_alloc:
         fn(section: &mut [u8], base: u64, tls_begin: u64, entries: &[u8], targets: &[u8]) -> Result<FixedUp, Stop>,
     pub apply_hints: fn(image: &mut [u8], hints: &[u8], entries: &[u8]) -> Result<HintRun, Stop>,

@@ -2,7 +2,7 @@
 
 use crate::payload_reader::{self, of_lengths};
 use crate::payload_writer;
-use crate::reader_groups::flip;
+use crate::reader_lists::flip;
 use crate::rng::{Digits, Rng};
 use crate::rows::Rows;
 use crate::run::{Group, Verdict};

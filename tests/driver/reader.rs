@@ -1,16 +1,52 @@
-//! The reader: one case, and what the Rust makes of it.
+//! The readers of relocation records: one case of a machine's, and what the Rust makes of it.
 
-use hauklivo::{MachRel, Record, raw};
+use hauklivo::{MachRel, Record};
 
-use crate::answers::{READ, record};
-use crate::class::is_unallocated;
+use crate::answers::record;
 use crate::lent::{Lent, filled, hex, pattern};
-use crate::rows::Rows;
 use crate::table::Table;
-use crate::{Difference, World};
+use crate::{Difference, Oracle, Stop, World};
+
+/// A machine, with what its reader is lent beside the lists.
+pub trait Machine: Clone + 'static {
+    /// The name of the port's call, and its number in a list of answers.
+    const CALL: &str;
+    const LISTED: u8;
+
+    /// Whether the reader takes a form (pc-relative + 2 * log2 of the size + 8 * extern) of a type.
+    fn takes(ty: usize, form: usize) -> bool;
+
+    /// The section's own address, where the reader is lent one.
+    fn address(&self) -> Option<u64>;
+
+    /// The port's call.
+    fn port(&self, lists: &Lists, slots: &mut [u8], count: &mut usize) -> u8;
+
+    /// The Rust's call.
+    fn rust(&self, lists: &Lists, oracle: &Oracle) -> Result<Vec<u8>, Stop>;
+
+    /// What is expected of a case whose lists have lengths that fit.
+    fn expected(case: &Case<Self>, world: &World) -> Result<Answer, Difference>;
+
+    /// Notes which rows a case reached.
+    fn record_answer(case: &Case<Self>, answer: &Answer, table: &mut Table);
+}
+
+/// The types, each with the forms that a machine takes of it.
+pub fn supported<M: Machine>() -> impl Iterator<Item = (usize, usize)> {
+    (0..256).map(|i| (i / 16, i % 16)).filter(|&(ty, form)| M::takes(ty, form))
+}
+
+/// The lists that every reader is lent.
+pub struct Lists<'a> {
+    pub contents: &'a [u8],
+    pub records: &'a [u8],
+    pub sections: &'a [u64],
+}
 
 #[derive(Clone)]
-pub struct Case {
+pub struct Case<M> {
+    pub machine: M,
     pub contents: Vec<u8>,
     pub records: Vec<u8>,
     pub sections: Vec<u64>,
@@ -18,12 +54,12 @@ pub struct Case {
     pub slots: usize,
 }
 
-impl Case {
+impl<M: Machine> Case<M> {
     /// A case with just the slots that its records need.
-    pub fn new(contents: Vec<u8>, records: &[MachRel], sections: &[u64]) -> Self {
+    pub fn new(machine: M, contents: Vec<u8>, records: &[MachRel], sections: &[u64]) -> Self {
         let slots = 24 * records.len();
         let (records, sections) = (MachRel::bytes(records).to_vec(), sections.to_vec());
-        Self { contents, records, sections, slots }
+        Self { machine, contents, records, sections, slots }
     }
 
     /// The records of a whole list.
@@ -31,46 +67,20 @@ impl Case {
         MachRel::list(&self.records).expect("whole records")
     }
 
-    /// The numbers of the TLVP page offsets, of their form, whose word, at their turn's offset, is unallocated.
-    pub fn tlvp_on_unallocated(&self) -> Vec<usize> {
-        let list = self.list();
-        let is_on = |turn: &Turn| {
-            let bytes = self.contents.get(turn.offset..).and_then(|rest| rest.first_chunk());
-            list[turn.own].bits >> 24 == 0x9c && bytes.is_some_and(|&word| is_unallocated(u32::from_le_bytes(word)))
-        };
-        turns(&list).into_iter().filter(is_on).map(|turn| turn.own).collect()
+    pub fn lists(&self) -> Lists<'_> {
+        Lists { contents: &self.contents, records: &self.records, sections: &self.sections }
     }
 
     pub fn show(&self) -> String {
-        let Self { contents, records, sections, slots } = self;
+        let Self { machine, contents, records, sections, slots } = self;
+        let address = machine.address().map_or(String::new(), |address| format!("\n    at {address:x}"));
         format!(
-            "read_relocs: contents {}\n    records {}\n    sections {sections:x?}\n    {slots} bytes of slots",
+            "{}: contents {}{address}\n    records {}\n    sections {sections:x?}\n    {slots} bytes of slots",
+            M::CALL,
             hex(contents),
             hex(records)
         )
     }
-}
-
-/// A turn of the reader: the place, and the number of the record that says the rest, which may stand after an ADDEND.
-pub struct Turn {
-    pub offset: usize,
-    pub own: usize,
-    pub is_after_addend: bool,
-}
-
-/// The turns over a list; an ADDEND that is the last record has none.
-pub fn turns(list: &[MachRel]) -> Vec<Turn> {
-    let mut turns = Vec::new();
-    let mut i = 0;
-    while i < list.len() {
-        let is_after_addend = list[i].ty() == 10;
-        let own = i + usize::from(is_after_addend);
-        if own < list.len() {
-            turns.push(Turn { offset: list[i].offset as usize, own, is_after_addend });
-        }
-        i = own + 1;
-    }
-    turns
 }
 
 /// The entries' bytes, or a number.
@@ -86,8 +96,8 @@ pub fn of_lengths(records: usize, sections: usize, slots: usize) -> Option<u8> {
 }
 
 /// The Rust's answer.
-pub fn rust(case: &Case, world: &World) -> Result<Answer, Difference> {
-    match (world.oracle.read_relocs)(&case.contents, &case.records, &case.sections) {
+pub fn rust<M: Machine>(case: &Case<M>, world: &World) -> Result<Answer, Difference> {
+    match case.machine.rust(&case.lists(), world.oracle) {
         Ok(entries) => Ok(Ok(entries)),
         Err(stop) => stop.number.map(Err).ok_or_else(|| Difference {
             input: case.show(),
@@ -97,10 +107,10 @@ pub fn rust(case: &Case, world: &World) -> Result<Answer, Difference> {
     }
 }
 
-fn expected(case: &Case, world: &World) -> Result<Answer, Difference> {
+fn expected<M: Machine>(case: &Case<M>, world: &World) -> Result<Answer, Difference> {
     match of_lengths(case.records.len(), case.sections.len(), case.slots) {
         Some(number) => Ok(Err(number)),
-        None => world.differences.reader(case, world),
+        None => M::expected(case, world),
     }
 }
 
@@ -108,25 +118,12 @@ fn expected(case: &Case, world: &World) -> Result<Answer, Difference> {
 const COUNT: usize = 0x5eed;
 
 /// Holds the port to the expected answer on a case.
-pub fn check(case: &Case, world: &World, table: &mut Table) -> Result<Answer, Difference> {
+pub fn check<M: Machine>(case: &Case<M>, world: &World, table: &mut Table) -> Result<Answer, Difference> {
     let answer = expected(case, world)?;
     let lent = case.clone();
     let mut slots = Lent::slots(case.slots);
     let mut count = COUNT;
-    // SAFETY: slices of this function, none lent twice.
-    let number = unsafe {
-        raw::hauklivo_read_relocs(
-            lent.contents.as_ptr(),
-            lent.contents.len(),
-            lent.records.as_ptr(),
-            lent.records.len(),
-            lent.sections.as_ptr(),
-            lent.sections.len(),
-            slots.bytes().as_mut_ptr(),
-            case.slots,
-            &mut count,
-        )
-    };
+    let number = lent.machine.port(&lent.lists(), slots.bytes(), &mut count);
     let (number_due, count_due, slots_due) = match &answer {
         Ok(entries) => (0, entries.len() / 24, filled(entries, case.slots)),
         Err(number) => (*number, COUNT, pattern(case.slots)),
@@ -143,50 +140,20 @@ pub fn check(case: &Case, world: &World, table: &mut Table) -> Result<Answer, Di
             expected: format!("{number_due}, count {count_due}, slots {}", hex(&slots_due)),
         });
     }
-    record_answer(case, &answer, table);
+    M::record_answer(case, &answer, table);
     table.note(|| noted(case, &answer));
     Ok(answer)
 }
 
-fn noted(case: &Case, answer: &Answer) -> Vec<u8> {
-    let sections = case.sections.iter().flat_map(|a| a.to_le_bytes()).collect::<Vec<_>>();
+fn noted<M: Machine>(case: &Case<M>, answer: &Answer) -> Vec<u8> {
+    let numbers = case.sections.iter().copied().chain(case.machine.address());
+    let numbers = numbers.flat_map(u64::to_le_bytes).collect::<Vec<_>>();
     let entries = answer.as_ref().map_or(&[][..], |e| e);
     let values = [case.contents.len(), case.records.len(), case.sections.len(), case.slots, entries.len() / 24];
     record(
-        READ,
+        M::LISTED,
         answer.as_ref().err().copied().unwrap_or(0),
         &values,
-        &[&case.contents, &case.records, &sections, entries],
+        &[&case.contents, &case.records, &numbers, entries],
     )
-}
-
-fn record_answer(case: &Case, answer: &Answer, table: &mut Table) {
-    table.hit(Rows::ReaderNumber as usize, answer.as_ref().map_or_else(|&n| n as usize, |_| 0));
-    if answer.is_err() {
-        return;
-    }
-    let records = case.list();
-    let kind = |table: &mut Table, i| table.hit(Rows::ReaderKind as usize, i);
-    if records.is_empty() {
-        kind(table, 7);
-    }
-    for Turn { offset, own, is_after_addend } in turns(&records) {
-        let r = records[own];
-        let ty = r.ty() as usize;
-        table.hit_cell(Rows::ReaderRead as usize, ty, (r.bits >> 24 & 15) as usize);
-        if is_after_addend {
-            table.hit(Rows::ReaderAfterAddend as usize, ty);
-            if records[own - 1].idx() >> 23 == 1 {
-                kind(table, 6);
-            }
-        }
-        kind(table, usize::from(!r.is_extern()));
-        if own > 0 && records[own - 1].ty() == 1 {
-            kind(table, 2);
-        }
-        if ty == 0 {
-            let negative = r.p2size() == 2 && case.contents[offset + 3] >> 7 == 1;
-            kind(table, if r.p2size() == 3 { 5 } else { 3 + usize::from(negative) });
-        }
-    }
 }

@@ -1,14 +1,18 @@
-//! The cases of the reader.
+//! The cases of the arm64 reader.
 
 use hauklivo::MachRel;
 
 use crate::class::{UNALLOCATED, with_neighbours};
-use crate::reader::{Case, check};
+use crate::reader::{self, check, supported};
+use crate::reader_arm64::Arm64;
+use crate::reader_lists::{SECTIONS, check_damaged, check_good, record, short_lists, some_address, some_index};
 use crate::rng::{Digits, Rng};
-use crate::rows::{OnUnallocated, Rows, supported};
+use crate::rows::{OnUnallocated, Rows};
 use crate::run::{Group, Verdict};
 use crate::table::Table;
-use crate::{Difference, World, reader};
+use crate::{Difference, World};
+
+type Case = reader::Case<Arm64>;
 
 const NOP: u32 = 0xd503_201f;
 const LDR_X: u32 = 0xf940_0000;
@@ -18,8 +22,6 @@ const LDR_D: u32 = 0xfd40_0000;
 const LDR_Q: u32 = 0x3dc0_0000;
 const ADD_X: u32 = 0x9100_0000;
 const ADD_W: u32 = 0x1100_0000;
-
-const SECTIONS: [u64; 3] = [0x4000, 0xffff_ffff_ffff_0000, 7];
 
 pub fn groups() -> Vec<Group> {
     vec![
@@ -32,10 +34,6 @@ pub fn groups() -> Vec<Group> {
         Group::new("reader/lists", 900_000, 30_000, lists),
         Group::new("reader/damaged", 900_000, 30_000, damaged),
     ]
-}
-
-fn record(offset: u32, ty: usize, form: usize, idx: u32) -> MachRel {
-    MachRel { offset, bits: (ty as u32) << 28 | (form as u32) << 24 | idx }
 }
 
 fn put(bytes: &mut [u8], at: usize, word: u32) {
@@ -59,7 +57,7 @@ fn forms(index: u64, world: &World, table: &mut Table) -> Verdict {
     put(&mut contents, if before.is_empty() { offset } else { 0 }, word);
     put(&mut contents, offset, word);
     let records = [before, &[record(offset as u32, ty, form, idx)]].concat();
-    let answer = check(&Case::new(contents, &records, &SECTIONS), world, table)?;
+    let answer = check(&Case::new(Arm64, contents, &records, &SECTIONS), world, table)?;
     if answer == Err(5) {
         table.hit_cell(Rows::ReaderUnsupported as usize, ty, form);
     }
@@ -75,7 +73,7 @@ fn words(index: u64, world: &World, table: &mut Table) -> Verdict {
     let mut contents = vec![0; 8];
     put(&mut contents, offset, (class as u32) << 22 | low);
     let records = [record(offset as u32, [6, 9][kind], 12, 1)];
-    let answer = check(&Case::new(contents, &records, &[]), world, table)?;
+    let answer = check(&Case::new(Arm64, contents, &records, &[]), world, table)?;
     table.hit(Rows::ReaderClass as usize, kind * 1024 + class);
     table.hit(Rows::ReaderWord as usize, 2 * kind + usize::from(answer.is_err()));
     Ok(())
@@ -98,7 +96,7 @@ fn unallocated(index: u64, world: &World, table: &mut Table) -> Verdict {
     let own = some(if before == 1 { past } else { offset }, ty, form, idx);
     let after_it = [None, some(0, 2, 13, 1), pointer(offset), of_no_section, some(0, 10, 4, 1)];
     let records: Vec<_> = [before_it[before], own, after_it[after]].into_iter().flatten().collect();
-    let case = Case::new(contents, &records, &SECTIONS);
+    let case = Case::new(Arm64, contents, &records, &SECTIONS);
     let row = match (check(&case, world, table)?, before, after) {
         (Err(5), 0, 0) if form == 4 => OnUnallocated::OfSection,
         (Err(6), 0, 0) if offset == 4 => OnUnallocated::Alone,
@@ -128,7 +126,7 @@ fn read_by_rust(case: &Case, world: &World) -> Verdict {
 /// Every supported record at each offset of contents of each small length.
 fn bounds(index: u64, world: &World, table: &mut Table) -> Verdict {
     let mut d = Digits(index);
-    let pairs: Vec<_> = supported().collect();
+    let pairs: Vec<_> = supported::<Arm64>().collect();
     let (ty, form) = d.pick(&pairs);
     let (len, offset) = (d.next(13), d.next(15));
     let mut contents = vec![0; len];
@@ -140,7 +138,7 @@ fn bounds(index: u64, world: &World, table: &mut Table) -> Verdict {
         _ => vec![record(0, 1, 12, 1), own],
     };
     let alone = records.len() == 1;
-    let answer = check(&Case::new(contents, &records, &SECTIONS), world, table)?;
+    let answer = check(&Case::new(Arm64, contents, &records, &SECTIONS), world, table)?;
     let width = [0, 4, 8][usize::from([6, 9].contains(&ty)) + 2 * usize::from(ty == 0 && form & 2 == 2)];
     let row = match (offset as i64 - len as i64, offset + width) {
         (1, _) if alone && ty != 10 && answer == Err(3) => Some(0),
@@ -160,25 +158,20 @@ fn bounds(index: u64, world: &World, table: &mut Table) -> Verdict {
 
 /// Every short length of records and slots.
 fn lengths(index: u64, world: &World, table: &mut Table) -> Verdict {
-    let mut d = Digits(index);
-    let (records, slots, sections) = (d.next(41), d.next(131), d.next(2));
-    let mut bytes = hauklivo::Record::to_bytes(record(0, 3, 13, 5)).repeat(6);
-    bytes.truncate(records);
-    let case = Case { contents: vec![0; 4], records: bytes, sections: vec![1; sections], slots };
-    check(&case, world, table).map(|_| ())
+    short_lists(index, Arm64, record(0, 3, 13, 5), world, table)
 }
 
 /// Addends over the whole 24 bits, in front of each type.
 fn addends(index: u64, world: &World, table: &mut Table) -> Verdict {
     let mut d = Digits(index);
     let (ty, i) = (d.next(11), d.next(8192));
-    let form = supported().filter(|p| p.0 == ty).last().expect("a form").1;
+    let form = supported::<Arm64>().filter(|p| p.0 == ty).last().expect("a form").1;
     let near = [0, 1, 0x7f_ffff, 0x80_0000, 0x80_0001, 0xff_ffff];
     let idx = near.get(i).copied().unwrap_or((i as u32).wrapping_mul(2047) & 0xff_ffff);
     let mut contents = vec![0; 16];
     put(&mut contents, 4, LDR_X);
     let records = [record(4, 10, i % 16, idx), record(i as u32, ty, form, 1)];
-    check(&Case::new(contents, &records, &SECTIONS), world, table).map(|_| ())
+    check(&Case::new(Arm64, contents, &records, &SECTIONS), world, table).map(|_| ())
 }
 
 /// A list of records that mostly reads.
@@ -187,7 +180,7 @@ fn good_list(rng: &mut Rng) -> Case {
     let mut contents = rng.bytes(len);
     let sections: Vec<u64> = (0..rng.below(4)).map(|_| some_address(rng)).collect();
     let mut records = Vec::new();
-    let pairs: Vec<_> = supported().collect();
+    let pairs: Vec<_> = supported::<Arm64>().collect();
     for _ in 0..rng.below(7) {
         let (ty, form) = rng.pick(&pairs);
         let (offset, shown) = some_place(rng, &mut contents, ty, form);
@@ -200,7 +193,7 @@ fn good_list(rng: &mut Rng) -> Case {
         }
         records.push(record(if addend_first { shown } else { offset }, ty, form, idx));
     }
-    Case::new(contents, &records, &sections)
+    Case::new(Arm64, contents, &records, &sections)
 }
 
 /// An offset at which a record's bytes fit, with a word there that mostly fits, and an offset to show in a
@@ -226,98 +219,14 @@ fn some_place(rng: &mut Rng, contents: &mut [u8], ty: usize, form: usize) -> (u3
     (at as u32, shown)
 }
 
-fn some_index(rng: &mut Rng, form: usize, sections: usize) -> u32 {
-    if form & 8 == 0 && sections > 0 && !rng.one_in(16) {
-        return 1 + rng.below(sections as u64) as u32;
-    }
-    rng.word() & 0xff_ffff
-}
-
-fn some_address(rng: &mut Rng) -> u64 {
-    match rng.below(4) {
-        0 => rng.next(),
-        1 => rng.below(1 << 32),
-        2 => rng.pick(&[0, 1, u64::MAX, 1 << 63, (1 << 63) - 1]),
-        _ => rng.below(1 << 16) << 12,
-    }
-}
-
 fn lists(index: u64, world: &World, table: &mut Table) -> Verdict {
     let mut rng = Rng::new("reader/lists", index);
-    let mut case = good_list(&mut rng);
-    case.slots += rng.pick(&[0, 0, 0, 1, 23, 24, 48]);
-    check(&case, world, table).map(|_| ())
+    let case = good_list(&mut rng);
+    check_good(&mut rng, case, world, table)
 }
 
-/// A good list with one to three spots damaged.
 fn damaged(index: u64, world: &World, table: &mut Table) -> Verdict {
     let mut rng = Rng::new("reader/damaged", index);
-    let mut case = good_list(&mut rng);
-    for _ in 0..1 + rng.below(3) {
-        damage(&mut rng, &mut case);
-    }
-    check(&case, world, table).map(|_| ())
-}
-
-fn damage(rng: &mut Rng, case: &mut Case) {
-    let records = case.records.len();
-    match rng.below(8) {
-        0..=2 => flip(rng, &mut case.records),
-        3 => flip(rng, &mut case.contents),
-        4 => {
-            let len = case.contents.len();
-            case.contents.truncate(len.saturating_sub(rng.len(12)));
-        }
-        5 => {
-            // One record fewer, or a record that is not whole.
-            let less = rng.pick(&[8, 8, 8, 1, 7, 9]);
-            case.records.truncate(records.saturating_sub(less));
-        }
-        6 => case.slots = (case.slots + 3).saturating_sub(rng.len(30)),
-        _ => {
-            case.sections.pop();
-        }
-    }
-}
-
-/// Flips a bit.
-pub fn flip(rng: &mut Rng, bytes: &mut [u8]) {
-    if !bytes.is_empty() {
-        let i = rng.len(bytes.len());
-        bytes[i] ^= 1 << rng.below(8);
-    }
-}
-
-/// Lists of as many records as are allowed and one more, in memory that is reserved but not there:
-/// the lengths alone decide.
-pub fn long_lists(reserved: &[u8]) -> Result<u64, Difference> {
-    let most = u32::MAX as usize;
-    let mut cases = 0;
-    for (records, sections) in [(most, 0), (most + 1, 0), (0, most), (0, most + 1), (most, most)] {
-        let expected = reader::of_lengths(8 * records, sections, 0).unwrap_or(0);
-        let mut count = 7;
-        // SAFETY: the reserved bytes are as many as the lists have, and aligned to a page.
-        let number = unsafe {
-            hauklivo::raw::hauklivo_read_relocs(
-                reserved.as_ptr(),
-                0,
-                reserved.as_ptr(),
-                8 * records,
-                reserved.as_ptr().cast(),
-                sections,
-                [0u8; 0].as_mut_ptr(),
-                0,
-                &mut count,
-            )
-        };
-        if number != expected || count != if expected == 0 { 0 } else { 7 } {
-            return Err(Difference {
-                input: format!("read_relocs: {records} records, {sections} sections, no slots"),
-                port: format!("{number}, count {count}"),
-                expected: format!("{expected}"),
-            });
-        }
-        cases += 1;
-    }
-    Ok(cases)
+    let case = good_list(&mut rng);
+    check_damaged(&mut rng, case, world, table)
 }

@@ -5,6 +5,9 @@ use crate::hint_groups::{CLASSED, LIMITED};
 use crate::hint_register31::{can_decline, can_stay, reasons, stays};
 use crate::hint_unallocated::{can_be_neighbour, can_hold, holders, unallocated_ends};
 use crate::hint_ways::{FOLD_OR_ADR, HINT_WAYS, IN_REACH, can_end};
+use crate::reader::Machine;
+use crate::reader_arm64::Arm64;
+use crate::reader_x86_64::X86_64;
 use crate::table::Block;
 
 /// The blocks, in the order in which they are shown.
@@ -19,6 +22,15 @@ pub enum Rows {
     ReaderClass,
     ReaderUnallocated,
     ReaderBounds,
+    X86Number,
+    X86Read,
+    X86Unsupported,
+    X86Before,
+    X86Stored,
+    X86Bias,
+    X86Sums,
+    X86Bounds,
+    X86Order,
     FixupNumber,
     FixupType,
     FixupWay,
@@ -78,25 +90,9 @@ pub const TYPES: [&str; 16] = [
     "type 15",
 ];
 
-/// Whether the reader takes a form (pc-relative + 2 * log2 of the size + 8 * extern) of a type.
-pub fn takes(ty: usize, form: usize) -> bool {
-    match ty {
-        0 => [4, 6, 12, 14].contains(&form),
-        1 => [12, 14].contains(&form),
-        2 | 3 | 5 | 7 | 8 => form == 13,
-        4 | 6 | 9 => form == 12,
-        10 => form == 4,
-        _ => false,
-    }
-}
-
-pub fn supported() -> impl Iterator<Item = (usize, usize)> {
-    (0..256).map(|i| (i / 16, i % 16)).filter(|&(ty, form)| takes(ty, form))
-}
-
 /// An entry of 4 bytes that is no term of a difference is unsupported, too.
 fn can_be_unsupported(ty: usize, form: usize) -> bool {
-    !takes(ty, form) || ty == 0 && form & 6 == 4
+    !Arm64::takes(ty, form) || ty == 0 && form & 6 == 4
 }
 
 pub const READER_KINDS: [&str; 8] = [
@@ -143,6 +139,91 @@ pub const READER_BOUNDS: [&str; 7] = [
     "pointer 1 byte short: 3",
     "pointer that just fits: fine",
     "4 bytes of a difference 1 byte short: 3",
+];
+
+const X86_TYPES: [&str; 16] = [
+    "UNSIGNED",
+    "SIGNED",
+    "BRANCH",
+    "GOT_LOAD",
+    "GOT",
+    "SUBTRACTOR",
+    "SIGNED_1",
+    "SIGNED_2",
+    "SIGNED_4",
+    "TLV",
+    "type 10",
+    "type 11",
+    "type 12",
+    "type 13",
+    "type 14",
+    "type 15",
+];
+
+pub const X86_NUMBERS: [u8; 6] = [0, 1, 2, 3, 5, 7];
+
+const X86_BEFORE: [&str; 4] = ["none", "SUBTRACTOR", "SIGNED", "another"];
+
+const X86_WIDTHS: [&str; 3] = ["1 byte", "4 bytes", "8 bytes"];
+
+/// A stored number of an x86_64 record.
+#[derive(Clone, Copy)]
+pub enum Stored {
+    Zero,
+    Positive,
+    Negative,
+    Largest,
+    Least,
+}
+
+const STORED: [&str; 5] = ["0", "positive", "negative", "largest", "least"];
+
+/// SIGNED has no bias by which a sum could pass 2^31 - 1.
+const X86_BIASED: [&str; 4] = ["SIGNED", "SIGNED_1", "SIGNED_2", "SIGNED_4"];
+const BIASED: [&str; 5] = ["symbol", "section", "negative", "sum of 0", "over 2^31-1"];
+
+/// The target of an x86_64 record, and the sums that make its addend.
+#[derive(Clone, Copy)]
+#[rustfmt::skip]
+pub enum Sums {
+    Symbol, SymbolPastEnd, Section, PcrelSection, FirstSection, LastSection, EndFits, EndAt, EndPast, HeldPast,
+    HeldBelow, PcrelSectionBelow, SectionBelow, Least, Largest, EmptyList,
+}
+
+const SUMS: [&str; 16] = [
+    "target a symbol",
+    "target a symbol, pc-relative, its field past 2^64: no address is added",
+    "target a section, not pc-relative",
+    "target a section, pc-relative",
+    "target the first section",
+    "target the last section",
+    "own address + offset + 4 is 2^64 - 1",
+    "own address + offset + 4 is 2^64: wraps",
+    "own address + offset + 4 is above 2^64: wraps",
+    "stored number added up past 2^64: wraps",
+    "stored number, negative, added up below 0: wraps",
+    "section's address taken off, pc-relative, below 0: wraps",
+    "section's address taken off, not pc-relative, below 0: wraps",
+    "addend of -2^63",
+    "addend of 2^63 - 1",
+    "empty list",
+];
+
+const X86_BOUNDS: [&str; 4] = ["above end: 3", "at end: 3", "1 short: 3", "fits: fine"];
+
+/// Which of two numbers comes, by what was wrong.
+pub const X86_ORDER: [&str; 11] = [
+    "unsupported, past the contents: 5",
+    "unsupported, of no section: 5",
+    "past the contents, of no section: 3",
+    "5 before 3 of the next record",
+    "5 before 7 of the next record",
+    "3 before 5 of the next record",
+    "3 before 7 of the next record",
+    "7 before 3 of the next record",
+    "7 before 5 of the next record",
+    "list not whole, too few slots, a record refused: 1",
+    "too few slots, a record refused: 2",
 ];
 
 pub const FIXUP_NUMBERS: [u8; 9] = [0, 1, 2, 3, 5, 8, 9, 10, 11];
@@ -435,7 +516,7 @@ fn all(_: usize, _: usize) -> bool {
 fn reader_blocks() -> Vec<Block> {
     vec![
         Block::list("Reader, calls by number", 0..8),
-        Block::grid("Reader, entries read by type and form", TYPES, 0..16, takes),
+        Block::grid("Reader, entries read by type and form", TYPES, 0..16, Arm64::takes),
         Block::grid("Reader, refused by 5, by type and form", TYPES, 0..16, can_be_unsupported),
         Block::list("Reader, entries after an ADDEND record", &TYPES[..11]),
         Block::list("Reader, entries", READER_KINDS),
@@ -443,6 +524,22 @@ fn reader_blocks() -> Vec<Block> {
         Block::condensed("Reader, classes of bits 31..22 under GOT and TLVP page offsets", 2 * 1024),
         Block::grid("Reader, TLVP page offsets on unallocated words", ON_UNALLOCATED, named(UNALLOCATED), all),
         Block::list("Reader, bounds", READER_BOUNDS),
+    ]
+}
+
+fn x86_blocks() -> Vec<Block> {
+    let is_unsupported = |ty: usize, form: usize| !X86_64::takes(ty, form);
+    let types = &X86_TYPES[..10];
+    vec![
+        Block::list("Reader of x86_64, calls by number", X86_NUMBERS),
+        Block::grid("Reader of x86_64, entries read by type and form", X86_TYPES, 0..16, X86_64::takes),
+        Block::grid("Reader of x86_64, refused by 5, by type and form", X86_TYPES, 0..16, is_unsupported),
+        Block::grid("Reader of x86_64, entries by type and the record before", types, X86_BEFORE, all),
+        Block::grid("Reader of x86_64, stored numbers", X86_WIDTHS, STORED, all),
+        Block::grid("Reader of x86_64, stored numbers and the bias", X86_BIASED, BIASED, |ty, sum| ty > 0 || sum < 4),
+        Block::list("Reader of x86_64, targets and sums", SUMS),
+        Block::grid("Reader of x86_64, bounds of a field by its bytes", X86_WIDTHS, X86_BOUNDS, all),
+        Block::list("Reader of x86_64, order of numbers", X86_ORDER),
     ]
 }
 
@@ -530,8 +627,9 @@ fn class_and_payload_blocks() -> Vec<Block> {
 }
 
 pub fn blocks() -> Vec<Block> {
-    let calls = [reader_blocks(), fixup_blocks(), single_hint_blocks(), hint_blocks(), class_and_payload_blocks()];
-    let blocks: Vec<_> = calls.into_iter().flatten().collect();
+    let readers = [reader_blocks(), x86_blocks()];
+    let calls = [fixup_blocks(), single_hint_blocks(), hint_blocks(), class_and_payload_blocks()];
+    let blocks: Vec<_> = readers.into_iter().chain(calls).flatten().collect();
     assert!(blocks.len() == Rows::Count as usize);
     blocks
 }

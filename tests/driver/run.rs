@@ -12,11 +12,12 @@ use std::thread;
 use std::time::{Duration, Instant};
 
 use crate::differences::Differences;
+use crate::reader_arm64::Arm64;
 use crate::rows::blocks;
 use crate::table::Table;
 use crate::{
     Difference, Oracle, World, answers, class, fixup_groups, hint_groups, hint_register31, hint_unallocated,
-    payload_groups, reader_groups, stub,
+    payload_groups, reader_groups, reader_lists, reader_x86_64_groups, stub,
 };
 
 pub type Verdict = Result<(), Difference>;
@@ -203,9 +204,10 @@ fn reserve(len: usize) -> &'static mut [u8] {
     }
 }
 
-fn long_lists() -> Result<u64, Difference> {
+fn long_lists(world: &World) -> Result<u64, Difference> {
     let reserved = reserve(64 << 32);
-    let others = reader_groups::long_lists(reserved)? + fixup_groups::long_lists(reserved)?;
+    let readers = reader_lists::long_lists(&Arm64, reserved)? + reader_x86_64_groups::long_lists(reserved, world)?;
+    let others = readers + fixup_groups::long_lists(reserved)?;
     Ok(others + hint_groups::long_lists(reserved)? + payload_groups::long_lists(reserved)?)
 }
 
@@ -243,6 +245,7 @@ pub fn main(oracle: &Oracle) -> ExitCode {
     let world = World { oracle, differences: &differences };
     let calls = [
         reader_groups::groups,
+        reader_x86_64_groups::groups,
         fixup_groups::groups,
         stub::groups,
         hint_groups::groups,
@@ -294,7 +297,7 @@ fn run_all(groups: &[Group], options: &Options, world: &World) -> ExitCode {
         }
         progress(&shared, &pieces, total, begun);
     });
-    let long = long_lists();
+    let long = long_lists(world);
     finish(shared, long, total, world, begun)
 }
 

@@ -2,6 +2,8 @@
 //! Bytes and numbers are hexadecimal, `-` is no bytes at all; a section list is u64 words.
 //!
 //!   read CONTENTS RECORDS SECTIONS          entries BYTES
+//!   read-x86_64 CONTENTS RECORDS SECTIONS ADDRESS
+//!                                           entries BYTES
 //!   fix SECTION BASE TLS ENTRIES TARGETS    fixed SECTION REPORTS
 //!   hints IMAGE HINTS ENTRIES               image IMAGE OUTCOMES, a letter a hint:
 //!                                           r rewritten, s skipped, d declined, 9 turned down
@@ -45,6 +47,17 @@ fn stopped(number: Option<u8>, stop: &Stop) -> String {
     format!("stop {number} {text}")
 }
 
+fn addresses(field: &str) -> Vec<u64> {
+    bytes(field).chunks_exact(8).map(|s| u64::from_le_bytes(s.try_into().unwrap())).collect()
+}
+
+fn entries(read: Result<Vec<u8>, Stop>, number: fn(&Stop) -> Option<u8>) -> String {
+    match read {
+        Ok(entries) => format!("entries {}", hex(&entries)),
+        Err(stop) => stopped(number(&stop), &stop),
+    }
+}
+
 fn class(insn: u32) -> String {
     if Arm64::is_adrp(insn) {
         "adrp".into()
@@ -82,12 +95,13 @@ fn answer(line: &str) -> String {
     let fields: Vec<&str> = line.split_whitespace().collect();
     match fields[..] {
         ["read", contents, records, sections] => {
-            let sections: Vec<u64> =
-                bytes(sections).chunks_exact(8).map(|s| u64::from_le_bytes(s.try_into().unwrap())).collect();
-            match oracle::read_relocs(&bytes(contents), &bytes(records), &sections) {
-                Ok(entries) => format!("entries {}", hex(&entries)),
-                Err(stop) => stopped(stop.reader_number(), &stop),
-            }
+            let read = oracle::read_relocs(&bytes(contents), &bytes(records), &addresses(sections));
+            entries(read, Stop::reader_number)
+        }
+        ["read-x86_64", contents, records, sections, address] => {
+            let (contents, records, sections) = (bytes(contents), bytes(records), addresses(sections));
+            let read = oracle::read_relocs_x86_64(&contents, &records, &sections, number(address));
+            entries(read, Stop::reader_x86_64_number)
         }
         ["fix", section, base, tls, entries, targets] => {
             let mut section = bytes(section);

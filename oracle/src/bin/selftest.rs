@@ -1,8 +1,8 @@
 //! The oracle's self-test: the twelve examples (RULES 11), the examples of turned-down
-//! input, one of each stop, each kind of report, some LEB128 values, and the oracle's own hint walk
-//! against the Rust's on generated runs.
+//! input, one of each stop, each kind of report, records of x86_64, some LEB128 values, and the
+//! oracle's own hint walk against the Rust's on generated runs.
 
-use oracle::{Arm64, Outcome, Stop, Words};
+use oracle::{Arm64, Forms, Outcome, Stop, Words, X86_64};
 
 const NOP: u32 = 0xd503_201f;
 const NO_ENTRY: u32 = 0xffff_ffff;
@@ -169,6 +169,53 @@ fn stops() {
     let hints = [hint(9, 0, (0, 99), &[(0, 9, 0)]), hint(2, 0, (0, 8), &[(0, 9, 0)])].concat();
     let run = oracle::apply_hints(&mut image, &hints, &entries).unwrap();
     assert_eq!(run.tally, [0, 2, 0, 0]);
+}
+
+/// A section with x86_64 records, and the addresses of the sections that they may name.
+const CONTENTS: [u8; 9] = [0xf0, 0xff, 0xff, 0xff, 0xff, 0xff, 0xff, 0xff, 0x80];
+const SECTIONS: [u64; 2] = [0x100, u64::MAX];
+
+/// Records of x86_64: each width, bias and kind of target.
+fn records_x86_64() {
+    let read = |records: &[u8]| oracle::read_relocs_x86_64(&CONTENTS, records, &SECTIONS, 0x2000);
+    let pcrel = |mut e: Vec<u8>| {
+        e[6] = 1;
+        e
+    };
+    assert_eq!(read(&record(8, 0x2900_0005)), Ok(pcrel(entry(8, 2, 1, 5, -128))));
+    assert_eq!(read(&record(1, 0x0c00_0005)), Ok(entry(1, 0, 4, 5, -1)));
+    assert_eq!(read(&record(0, 0x0e00_0005)), Ok(entry(0, 0, 8, 5, -16)));
+    assert_eq!(read(&record(0, 0x0600_0002)), Ok(entry(0, 0, 8, SECTION | 1, -15)));
+    for (bits, ty, bias) in [(0x1d00_0005, 1, 0), (0x6d00_0005, 6, 1), (0x7d00_0005, 7, 2), (0x8d00_0005, 8, 4)] {
+        assert_eq!(read(&record(0, bits)), Ok(pcrel(entry(0, ty, 4, 5, -16 + bias))));
+        let of_section = (bits & 0xf700_0000) + 1;
+        let addend = 0x2000 + 4 - 16 + bias - 0x100;
+        assert_eq!(read(&record(0, of_section)), Ok(pcrel(entry(0, ty, 4, SECTION, addend))));
+    }
+    let mut minuend = entry(0, 0, 8, SECTION, -16 - 0x100);
+    minuend[7] = 1;
+    let pair = [record(4, 0x5c00_0005), record(0, 0x0600_0001)].concat();
+    assert_eq!(read(&pair), Ok([entry(4, 5, 4, 5, -1), minuend].concat()));
+}
+
+/// One of each stop of the x86_64 reader, and its forms.
+fn stops_x86_64() {
+    let stop = |contents: &[u8], records: &[u8], address| {
+        oracle::read_relocs_x86_64(contents, records, &SECTIONS, address).unwrap_err()
+    };
+    let number = |offset, bits| stop(&CONTENTS, &record(offset, bits), 0).reader_x86_64_number();
+    assert!(matches!(stop(&[], &record(0, 0x2900_0000), 0), Stop::Index(_)));
+    let past = [(9, 0x2900_0000), (10, 0x2900_0000), (6, 0x0c00_0000), (2, 0x0e00_0000)];
+    assert!(past.iter().all(|&(offset, bits)| number(offset, bits) == Some(3)));
+    assert!([0, 3, 0xff_ffff].iter().all(|ordinal| number(0, 0x1500_0000 | ordinal) == Some(7)));
+    for form in 0..256 {
+        let is_read = oracle::read_relocs_x86_64(&CONTENTS, &record(0, form << 24 | 1), &SECTIONS, 0).is_ok();
+        assert!(is_read == X86_64::is_supported(form << 24), "{form:02x}");
+        assert!(is_read || number(99, form << 24) == Some(5), "{form:02x}");
+    }
+    assert_eq!((0..256).filter(|form| X86_64::is_supported(form << 24)).count(), 20);
+    let overflow = stop(&CONTENTS, &record(1, 0x1500_0001), u64::MAX - 4);
+    assert!(matches!(overflow, Stop::Overflow(_)) && overflow.reader_x86_64_number().is_none());
 }
 
 /// Every fact of a resolved target, by a case that depends on it.
@@ -443,6 +490,8 @@ fn values() {
 fn main() {
     twelve_examples();
     stops();
+    records_x86_64();
+    stops_x86_64();
     facts();
     values();
     overlaps();
