@@ -1,5 +1,6 @@
 /*
- * Hauklivo: the calls that a Mach-O linker makes for arm64.
+ * Hauklivo: the calls that a Mach-O linker makes for arm64, and one for x86_64, which reads its
+ * relocation records.
  *
  * For every input whose pieces don't overlap, a call touches nothing but what it is lent. A call that
  * is lent something returns 0 or the number of a refusal (enum hauklivo_number). A refused call changes
@@ -13,11 +14,17 @@
  * works them as they are now, which faults or writes elsewhere.
  *
  * Lists are lent as bytes: a pointer and a length in bytes. Each list holds records of one fixed
- * size with no header, in the layouts of the structs below, little-endian. Three lists are lent as
- * 64-bit values, and their lengths count those: `sections` of hauklivo_read_relocs, `slots` of
- * hauklivo_read_hints and `row` of hauklivo_write_hints. No pointer may be null, not even one of an
- * empty list. Lists of records need no alignment, and a payload needs none; a list of 64-bit values
- * needs that of uint64_t, a tally that of uint32_t, a count that of size_t.
+ * size with no header, in the layouts of the structs below, little-endian. Four lists are lent as
+ * 64-bit values, and their lengths count those: `sections` of hauklivo_read_relocs and of
+ * hauklivo_read_relocs_x86_64, `slots` of hauklivo_read_hints and `row` of hauklivo_write_hints. No
+ * pointer may be null, not even one of an empty list. Lists of records need no alignment, and a
+ * payload needs none; a list of 64-bit values needs that of uint64_t, a tally that of uint32_t, a
+ * count that of size_t.
+ *
+ * An entry (struct hauklivo_reloc) does not say which machine it is of. The fix-up
+ * (hauklivo_apply_reloc_alloc) and the hint run (hauklivo_apply_hints) take every entry as arm64's.
+ * One that hauklivo_read_relocs_x86_64 filled is not: to lend it to them is the caller's mistake, for
+ * which there is no number. They may well accept it, and the bytes that come of it mean nothing.
  */
 #ifndef HAUKLIVO_H
 #define HAUKLIVO_H
@@ -86,7 +93,7 @@ enum hauklivo_number {
     HAUKLIVO_TRAILING = 14
 };
 
-/* Relocation types, those of Apple's <mach-o/arm64/reloc.h>. */
+/* Relocation types of an arm64 object, those of Apple's <mach-o/arm64/reloc.h>. */
 enum hauklivo_type {
     /* A pointer. */
     HAUKLIVO_UNSIGNED = 0,
@@ -109,6 +116,28 @@ enum hauklivo_type {
     HAUKLIVO_ADDEND = 10
 };
 
+/* Relocation types of an x86_64 object, those of Apple's <mach-o/x86_64/reloc.h>. */
+enum hauklivo_type_x86_64 {
+    /* A pointer. */
+    HAUKLIVO_X86_64_UNSIGNED = 0,
+    /* A displacement, from the end of its four bytes. */
+    HAUKLIVO_X86_64_SIGNED = 1,
+    /* The same of a call or jump; of a short jump, from the end of its one byte. */
+    HAUKLIVO_X86_64_BRANCH = 2,
+    /* The displacement to a GOT slot, in a movq that loads it and anywhere else. */
+    HAUKLIVO_X86_64_GOT_LOAD = 3,
+    HAUKLIVO_X86_64_GOT = 4,
+    /* What is taken from the UNSIGNED after it. */
+    HAUKLIVO_X86_64_SUBTRACTOR = 5,
+    /* A displacement, from 1, 2 or 4 bytes behind the end of its four. */
+    HAUKLIVO_X86_64_SIGNED_1 = 6,
+    HAUKLIVO_X86_64_SIGNED_2 = 7,
+    HAUKLIVO_X86_64_SIGNED_4 = 8,
+    /* The displacement to the GOT slot of a thread-local variable's descriptor, in a movq that loads
+     * it. */
+    HAUKLIVO_X86_64_TLV = 9
+};
+
 /* A relocation record of an object file: Apple's relocation_info. */
 struct hauklivo_mach_rel {
     /* Offset of the place in the section. */
@@ -122,11 +151,11 @@ HAUKLIVO_ASSERT(sizeof(struct hauklivo_mach_rel) == 8, "a record has 8 bytes");
 /* In an entry's target: the rest is a section's number, not a symbol's. */
 #define HAUKLIVO_SECTION_TARGET UINT32_C(0x80000000)
 
-/* An entry: what a record, with the ADDEND record before it, comes to. */
+/* An entry: what a record, in an arm64 object with the ADDEND record before it, comes to. */
 struct hauklivo_reloc {
     /* Offset of the place in the section; after an ADDEND record that record's. */
     uint32_t offset;
-    /* enum hauklivo_type. */
+    /* enum hauklivo_type, or enum hauklivo_type_x86_64 from hauklivo_read_relocs_x86_64. */
     uint8_t type;
     /* 1, 2, 4 or 8 bytes. */
     uint8_t size;
@@ -280,7 +309,7 @@ struct hauklivo_tally {
 HAUKLIVO_ASSERT(sizeof(struct hauklivo_tally) == 16, "a tally has 16 bytes");
 
 /*
- * Reads the relocation records of a section into entries.
+ * Reads the relocation records of a section of an arm64 object into entries.
  *
  *   contents  the section's bytes
  *   records   struct hauklivo_mach_rel
@@ -298,12 +327,36 @@ uint8_t hauklivo_read_relocs(const uint8_t *contents, size_t contents_len, const
                              void *slots, size_t slots_len, size_t *count);
 
 /*
+ * Reads the relocation records of a section of an x86_64 object into entries, one for each record. The
+ * entries are not for hauklivo_apply_reloc_alloc or hauklivo_apply_hints, which take them as arm64's.
+ *
+ *   contents  the section's bytes
+ *   records   struct hauklivo_mach_rel, with types of enum hauklivo_type_x86_64
+ *   sections  the address of each section of the object; `sections_count` counts addresses, where
+ *             every other length counts bytes
+ *   address   the address of the section that the records are of
+ *   slots     at least 24 bytes for each record; gets struct hauklivo_reloc
+ *   count     gets how many entries were filled, which is how many records there are; slots after
+ *             them keep their bytes
+ *
+ * Every record's addend is the number in the 1, 4 or 8 bytes at its place, signed, plus 1, 2 or 4 by
+ * its type for SIGNED_1, SIGNED_2 and SIGNED_4. A record of a section has that section's address taken
+ * off; where it is pc-relative, `address`, its offset and 4 are added. Sums are modulo 2^64.
+ *
+ * Numbers, in this order: 1, 2, then record by record 5, 3 (its offset, and the bytes there), 7.
+ */
+uint8_t hauklivo_read_relocs_x86_64(const uint8_t *contents, size_t contents_len,
+                                    const void *records, size_t records_len,
+                                    const uint64_t *sections, size_t sections_count,
+                                    uint64_t address, void *slots, size_t slots_len, size_t *count);
+
+/*
  * Fixes up a section's bytes by its entries.
  *
  *   section    the section's bytes
  *   base       the address of its first byte
  *   tls_begin  the start of thread-local storage
- *   entries    struct hauklivo_reloc
+ *   entries    struct hauklivo_reloc, of an arm64 object
  *   targets    struct hauklivo_resolved, one for each entry
  *   slots      at least 24 bytes for each entry; gets struct hauklivo_report
  *   count      gets how many reports were filled; slots after them keep their bytes
@@ -338,7 +391,7 @@ uint8_t hauklivo_write_thunk(uint8_t *bytes, size_t bytes_len, uint64_t address,
  *
  *   image    the bytes of every section that a hint's part is in
  *   hints    struct hauklivo_hint_record
- *   entries  struct hauklivo_reloc
+ *   entries  struct hauklivo_reloc, of arm64 objects
  *   tally    gets the four counts where 0 comes back. Its 16 bytes are read, and where the call
  *            refuses the same are written back; nothing else depends on them. So it may be
  *            uninitialised when lent, and is then still so after a refusal

@@ -2,7 +2,8 @@
 
 use crate::raw::{
     hauklivo_apply_hints, hauklivo_apply_reloc_alloc, hauklivo_list, hauklivo_load_store_class, hauklivo_read_hints,
-    hauklivo_read_relocs, hauklivo_version, hauklivo_write_hints, hauklivo_write_stub, hauklivo_write_thunk,
+    hauklivo_read_relocs, hauklivo_read_relocs_x86_64, hauklivo_version, hauklivo_write_hints, hauklivo_write_stub,
+    hauklivo_write_thunk,
 };
 use crate::{LoadStoreClass, Refusal, Tally};
 
@@ -23,8 +24,8 @@ pub fn version() -> u32 {
     hauklivo_version()
 }
 
-/// Reads the relocation records of a section into entries, and says how many it filled; slots
-/// after those keep their bytes.
+/// Reads the relocation records of a section of an arm64 object into entries, and says how many it
+/// filled; slots after those keep their bytes.
 ///
 /// `records` holds [`MachRel`](crate::MachRel)s, `sections` the address of each section of the
 /// object, `slots` at least 24 bytes for each record: there the [`Reloc`](crate::Reloc)s go.
@@ -62,6 +63,69 @@ pub fn read_relocs(contents: &[u8], records: &[u8], sections: &[u64], slots: &mu
             records.len(),
             sections.as_ptr(),
             sections.len(),
+            slots.as_mut_ptr(),
+            slots.len(),
+            &mut count,
+        )
+    };
+    settled(number, count)
+}
+
+/// Reads the relocation records of a section of an x86_64 object into entries, one for each record, and
+/// says how many that is; slots after those keep their bytes.
+///
+/// `records` holds [`MachRel`](crate::MachRel)s of the types [`ty_x86_64`](crate::ty_x86_64), `sections`
+/// the address of each section of the object, `address` that of the section that the records are of,
+/// `slots` at least 24 bytes for each record: there the [`Reloc`](crate::Reloc)s go.
+///
+/// Every record's addend is the number in the 1, 4 or 8 bytes at its place, signed, plus 1, 2 or 4 by its
+/// type for SIGNED_1, SIGNED_2 and SIGNED_4. A record of a section has that section's address taken off;
+/// where it is pc-relative, `address`, its offset and 4 are added. Sums are modulo 2^64.
+///
+/// An entry does not say which machine it is of: [`apply_reloc_alloc`] and [`apply_hints`] take every
+/// entry as arm64's. Lend them none of this call: there is no number for that, they may well accept it,
+/// and the bytes that come of it mean nothing.
+///
+/// ```
+/// use hauklivo::{MachRel, Record, Refusal, Reloc, Target, read_relocs_x86_64, ty_x86_64};
+///
+/// // movb $5, x(%rip) at 0x100, where x is 0x208: 8 bytes into the section at 0x200. The displacement
+/// // counts from the end of the instruction, one byte behind the field, as the type says.
+/// let contents = [0xc6, 0x05, 0x01, 0x01, 0, 0, 5]; // 0x208 - 0x107
+/// let records = [MachRel::new(2, 2, true, 2, false, ty_x86_64::SIGNED_1)];
+/// let mut slots = [Reloc::default(); 1];
+/// let (list, sections) = (MachRel::bytes(&records), [0x100, 0x200]);
+/// let read = read_relocs_x86_64(&contents, list, &sections, 0x100, Reloc::bytes_mut(&mut slots));
+/// assert_eq!(read, Ok(1));
+/// assert_eq!((slots[0].target(), slots[0].addend), (Target::Section(1), 8));
+///
+/// // There is no section 2.
+/// let read = read_relocs_x86_64(&contents, list, &sections[..1], 0x100, Reloc::bytes_mut(&mut slots));
+/// assert_eq!(read, Err(Refusal::NoSection));
+/// ```
+///
+/// # Errors
+///
+/// In this order: [`Lengths`](Refusal::Lengths), [`Slots`](Refusal::Slots), then record by record
+/// [`Unsupported`](Refusal::Unsupported), [`Bounds`](Refusal::Bounds), [`NoSection`](Refusal::NoSection).
+pub fn read_relocs_x86_64(
+    contents: &[u8],
+    records: &[u8],
+    sections: &[u64],
+    address: u64,
+    slots: &mut [u8],
+) -> Result<usize, Refusal> {
+    let mut count = 0;
+    // SAFETY: as in read_relocs.
+    let number = unsafe {
+        hauklivo_read_relocs_x86_64(
+            contents.as_ptr(),
+            contents.len(),
+            records.as_ptr(),
+            records.len(),
+            sections.as_ptr(),
+            sections.len(),
+            address,
             slots.as_mut_ptr(),
             slots.len(),
             &mut count,

@@ -1,8 +1,9 @@
 //! The last step of a Mach-O linker for arm64: relocation records into entries, entries into a
 //! section's bytes, single stub and thunk entries, linker optimization hints and their payloads, a
-//! listing of a section's words, and the class of a load or store. Each function calls one function of
-//! the static library `libhauklivo.a`, which is proved to do what the project's definitions say, to
-//! touch nothing outside what it is lent, and to return.
+//! listing of a section's words, and the class of a load or store; of x86_64 the first of these,
+//! relocation records into entries. Each function calls one function of the static library
+//! `libhauklivo.a`, which is proved to do what the project's definitions say, to touch nothing outside
+//! what it is lent, and to return.
 //!
 //! Lists are lent in records of one fixed size ([`records`]): as slices of them to the functions of
 //! [`typed`], or as bytes to those here. [`Record::bytes`] and [`Record::bytes_mut`] see a slice of
@@ -62,12 +63,13 @@ pub mod typed;
 mod version;
 
 pub use calls::{
-    LINE, SPELLING, apply_hints, apply_reloc_alloc, list, load_store_class, read_hints, read_relocs, version,
-    write_hints, write_stub, write_thunk,
+    LINE, SPELLING, apply_hints, apply_reloc_alloc, list, load_store_class, read_hints, read_relocs,
+    read_relocs_x86_64, version, write_hints, write_stub, write_thunk,
 };
 pub use class::LoadStoreClass;
 pub use records::{
     HintInsn, HintRecord, MachRel, Record, Reloc, Report, ReportKind, Resolved, Tally, Target, flag, kind, ty,
+    ty_x86_64,
 };
 pub use refusal::Refusal;
 pub use row::hints;

@@ -6,7 +6,8 @@
 //!
 //! [`Lengths`](Refusal::Lengths) and [`Slots`](Refusal::Slots) are of whole lists and have no position.
 //! [`LoneAddend`](Refusal::LoneAddend) and [`LoneSubtractor`](Refusal::LoneSubtractor) are of the last
-//! record. For any other number let record k be the one that the list is refused for:
+//! record. For any other number let record k be the one that the list is refused for. Of the records of
+//! an x86_64 object none asks for another, and no prefix without record k is refused. Elsewhere:
 //!
 //! - What a call says of a record depends on no record after it, save that ADDEND and SUBTRACTOR ask
 //!   whether one follows. So a prefix without record k is accepted, or ends in an ADDEND or SUBTRACTOR
@@ -34,6 +35,7 @@
 
 use crate::{
     HintRecord, MachRel, Record, Refusal, Reloc, Report, Resolved, apply_hints, apply_reloc_alloc, read_relocs,
+    read_relocs_x86_64,
 };
 
 /// The position, counted from 0, of the record for which [`read_relocs`] gives `refusal`. Of an ADDEND
@@ -41,12 +43,26 @@ use crate::{
 ///
 /// None for a refusal that is of whole lists, or that these lists are not refused with.
 pub fn in_records(refusal: Refusal, contents: &[u8], records: &[u8], sections: &[u64]) -> Option<usize> {
+    in_table(refusal, records, |records, slots| read_relocs(contents, records, sections, slots))
+}
+
+/// The position, counted from 0, of the record for which [`read_relocs_x86_64`] gives `refusal`; no number
+/// depends on `address`.
+///
+/// None for a refusal that is of whole lists, or that these lists are not refused with.
+pub fn in_records_x86_64(refusal: Refusal, contents: &[u8], records: &[u8], sections: &[u64]) -> Option<usize> {
+    in_table(refusal, records, |records, slots| read_relocs_x86_64(contents, records, sections, 0, slots))
+}
+
+/// The position of the record for which a reader, given records and slots, gives `refusal`.
+fn in_table(
+    refusal: Refusal,
+    records: &[u8],
+    read: impl Fn(&[u8], &mut [u8]) -> Result<usize, Refusal>,
+) -> Option<usize> {
     let count = records.len() / MachRel::SIZE;
     let mut slots = vec![0; Reloc::SIZE * count];
-    position(refusal, count, |n| {
-        let records = prefix::<MachRel>(records, n, count);
-        read_relocs(contents, records, sections, &mut slots).err()
-    })
+    position(refusal, count, |n| read(prefix::<MachRel>(records, n, count), &mut slots).err())
 }
 
 /// The position, counted from 0, of the entry for which [`apply_reloc_alloc`] gives `refusal`; no number

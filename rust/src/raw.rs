@@ -32,6 +32,21 @@ unsafe extern "C" {
         count: *mut usize,
     ) -> u8;
 
+    /// See [`read_relocs_x86_64`](crate::read_relocs_x86_64). `sections_count` counts addresses, where
+    /// every other length counts bytes.
+    pub fn hauklivo_read_relocs_x86_64(
+        contents: *const u8,
+        contents_len: usize,
+        records: *const u8,
+        records_len: usize,
+        sections: *const u64,
+        sections_count: usize,
+        address: u64,
+        slots: *mut u8,
+        slots_len: usize,
+        count: *mut usize,
+    ) -> u8;
+
     /// See [`apply_reloc_alloc`](crate::apply_reloc_alloc).
     pub fn hauklivo_apply_reloc_alloc(
         section: *mut u8,

@@ -103,7 +103,7 @@ macro_rules! records {
 
 records! { MachRel: 8, Reloc: 24, Resolved: 48, Report: 24, HintInsn: 16, HintRecord: 64, Tally: 16, }
 
-/// Relocation types, those of Apple's `<mach-o/arm64/reloc.h>`.
+/// Relocation types of an arm64 object, those of Apple's `<mach-o/arm64/reloc.h>`.
 #[allow(missing_docs)]
 pub mod ty {
     pub const UNSIGNED: u8 = 0;
@@ -117,6 +117,21 @@ pub mod ty {
     pub const TLVP_LOAD_PAGE21: u8 = 8;
     pub const TLVP_LOAD_PAGEOFF12: u8 = 9;
     pub const ADDEND: u8 = 10;
+}
+
+/// Relocation types of an x86_64 object, those of Apple's `<mach-o/x86_64/reloc.h>`.
+#[allow(missing_docs)]
+pub mod ty_x86_64 {
+    pub const UNSIGNED: u8 = 0;
+    pub const SIGNED: u8 = 1;
+    pub const BRANCH: u8 = 2;
+    pub const GOT_LOAD: u8 = 3;
+    pub const GOT: u8 = 4;
+    pub const SUBTRACTOR: u8 = 5;
+    pub const SIGNED_1: u8 = 6;
+    pub const SIGNED_2: u8 = 7;
+    pub const SIGNED_4: u8 = 8;
+    pub const TLV: u8 = 9;
 }
 
 /// A relocation record of an object file: Apple's `relocation_info`.
@@ -168,7 +183,7 @@ impl MachRel {
         self.bits >> 27 & 1 == 1
     }
 
-    /// Its type, one of [`ty`].
+    /// Its type, one of [`ty`], or of [`ty_x86_64`] in an x86_64 object.
     pub fn ty(self) -> u8 {
         (self.bits >> 28) as u8
     }
@@ -196,13 +211,15 @@ impl Target {
     }
 }
 
-/// An entry: what a record, with the ADDEND record before it, comes to.
+/// An entry: what a record, in an arm64 object with the ADDEND record before it, comes to.
 #[repr(C)]
 #[derive(Clone, Copy, Debug, Default, PartialEq, Eq, Hash)]
 pub struct Reloc {
     /// Offset of the place in the section.
     pub offset: u32,
-    /// Its type, one of [`ty`].
+    /// Its type, one of [`ty`], or of [`ty_x86_64`] from
+    /// [`read_relocs_x86_64`](crate::read_relocs_x86_64). Nothing in an entry says of which: whoever lends
+    /// entries to a fix-up or to a hint run says that they are arm64's.
     pub ty: u8,
     /// 1, 2, 4 or 8 bytes.
     pub size: u8,

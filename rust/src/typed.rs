@@ -26,9 +26,9 @@
 
 use crate::{HintRecord, MachRel, Record, Refusal, Reloc, Report, Resolved, Tally};
 
-/// Reads the relocation records of a section into entries, and says how many it filled; slots after
-/// those stay. `sections` has the address of each section of the object, `slots` at least one place for
-/// each record.
+/// Reads the relocation records of a section of an arm64 object into entries, and says how many it
+/// filled; slots after those stay. `sections` has the address of each section of the object, `slots` at
+/// least one place for each record.
 ///
 /// # Errors
 ///
@@ -40,6 +40,24 @@ pub fn read_relocs(
     slots: &mut [Reloc],
 ) -> Result<usize, Refusal> {
     crate::read_relocs(contents, MachRel::bytes(records), sections, Reloc::bytes_mut(slots))
+}
+
+/// Reads the relocation records of a section of an x86_64 object into entries, one for each record, and
+/// says how many that is; slots after those stay. `sections` has the address of each section of the
+/// object, `address` is that of the section that the records are of, `slots` has at least one place for
+/// each record. The other calls here take every entry as arm64's.
+///
+/// # Errors
+///
+/// Those of [`read_relocs_x86_64`](crate::read_relocs_x86_64).
+pub fn read_relocs_x86_64(
+    contents: &[u8],
+    records: &[MachRel],
+    sections: &[u64],
+    address: u64,
+    slots: &mut [Reloc],
+) -> Result<usize, Refusal> {
+    crate::read_relocs_x86_64(contents, MachRel::bytes(records), sections, address, Reloc::bytes_mut(slots))
 }
 
 /// Fixes up a section's bytes by its entries and their resolved targets, and says how many reports it

@@ -4,7 +4,7 @@ use std::mem::MaybeUninit;
 
 use hauklivo::{
     HintInsn, HintRecord, LoadStoreClass, MachRel, Record, Refusal, Reloc, Report, ReportKind, Resolved, Tally, Target,
-    flag, kind, load_store_class, ty, typed,
+    flag, kind, load_store_class, ty, ty_x86_64, typed,
 };
 
 const FILL: u8 = 0xa5;
@@ -19,14 +19,21 @@ fn record(offset: u32, bits: u32) -> MachRel {
     MachRel { offset, bits }
 }
 
-/// What the reader makes of `records` in 16 bytes whose words are NOP, with sections at 0x4000 and
-/// 0x8000. Slots that are not filled must keep their bytes.
-fn read(records: &[u8], slots: usize) -> Result<Vec<Reloc>, Refusal> {
+/// The entries that a reader fills in so many bytes of slots. Those that are not filled must keep their
+/// bytes.
+fn filled(slots: usize, reader: impl Fn(&mut [u8]) -> Result<usize, Refusal>) -> Result<Vec<Reloc>, Refusal> {
     let mut slots = vec![FILL; slots];
-    let done = hauklivo::read_relocs(&bytes(&[NOP; 4]), records, &[0x4000, 0x8000], &mut slots);
+    let done = reader(&mut slots);
     let kept = 24 * done.unwrap_or(0);
     assert!(slots[kept..].iter().all(|&b| b == FILL));
     done.map(|_| Reloc::list(&slots[..kept]).unwrap())
+}
+
+const SECTIONS: [u64; 2] = [0x4000, 0x8000];
+
+/// What the reader makes of `records` in 16 bytes whose words are NOP.
+fn read(records: &[u8], slots: usize) -> Result<Vec<Reloc>, Refusal> {
+    filled(slots, |slots| hauklivo::read_relocs(&bytes(&[NOP; 4]), records, &SECTIONS, slots))
 }
 
 fn read_all(records: &[MachRel]) -> Result<Vec<Reloc>, Refusal> {
@@ -66,6 +73,150 @@ fn reader_refuses() {
     assert_eq!(read_all(&[record(0, 0x06000003)]), Err(Refusal::NoSection));
     // A good record before a bad one is not kept.
     assert_eq!(read_all(&[record(0, 0x3d000005), record(0, 0xf0000000)]), Err(Refusal::Unsupported));
+}
+
+/// The address of the section whose x86_64 records are read.
+const OWN: u64 = 0x6000;
+
+/// What the reader of x86_64 records makes of them in a section at OWN, with words -2, 0x4010, 0x2004, -1.
+fn read_x86_64(records: &[u8], slots: usize) -> Result<Vec<Reloc>, Refusal> {
+    let contents = bytes(&[-2_i32 as u32, 0x4010, 0x2004, u32::MAX]);
+    filled(slots, |slots| hauklivo::read_relocs_x86_64(&contents, records, &SECTIONS, OWN, slots))
+}
+
+fn read_all_x86_64(records: &[MachRel]) -> Result<Vec<Reloc>, Refusal> {
+    read_x86_64(MachRel::bytes(records), 24 * records.len() + 5)
+}
+
+/// The first eight of those bytes as a number.
+const STORED: i64 = 0x4010_ffff_fffe;
+
+/// Records of every type, every width and every kind of target: offset, type, log2 of the size, pc-relative, the
+/// section where it is not of symbol 5; then, of the entry, subtracted and addend.
+const TABLE: [(u32, u8, u8, u8, Option<u32>, u8, i64); 26] = [
+    (0, ty_x86_64::BRANCH, 0, 1, None, 0, -2),
+    (3, ty_x86_64::BRANCH, 0, 1, None, 0, -1), // a byte of all ones
+    (0, ty_x86_64::BRANCH, 2, 1, None, 0, -2),
+    (0, ty_x86_64::SIGNED, 2, 1, None, 0, -2),
+    (0, ty_x86_64::SIGNED_1, 2, 1, None, 0, -1),
+    (0, ty_x86_64::SIGNED_2, 2, 1, None, 0, 0),
+    (0, ty_x86_64::SIGNED_4, 2, 1, None, 0, 2),
+    (0, ty_x86_64::GOT_LOAD, 2, 1, None, 0, -2),
+    (0, ty_x86_64::GOT, 2, 1, None, 0, -2),
+    (0, ty_x86_64::TLV, 2, 1, None, 0, -2),
+    // Differences, of 4 and of 8 bytes; a SUBTRACTOR reads what is stored, too.
+    (4, ty_x86_64::SUBTRACTOR, 2, 0, None, 0, 0x4010),
+    (4, ty_x86_64::UNSIGNED, 2, 0, None, 1, 0x4010),
+    (0, ty_x86_64::SUBTRACTOR, 3, 0, None, 0, STORED),
+    (0, ty_x86_64::UNSIGNED, 3, 0, None, 1, STORED),
+    // Whatever follows a SUBTRACTOR is subtracted, and only what follows it directly.
+    (0, ty_x86_64::SUBTRACTOR, 2, 0, None, 0, -2),
+    (0, ty_x86_64::SUBTRACTOR, 2, 0, None, 1, -2),
+    (0, ty_x86_64::SIGNED_4, 2, 1, None, 1, 2),
+    (0, ty_x86_64::UNSIGNED, 2, 0, None, 0, -2), // a pointer of 4 bytes alone
+    // Pointers into sections, less the section's address.
+    (4, ty_x86_64::UNSIGNED, 2, 0, Some(0), 0, 0x10),
+    (0, ty_x86_64::UNSIGNED, 3, 0, Some(1), 0, STORED - 0x8000),
+    // From the end of the four bytes, 0x600c, 0x2004 and what the type adds, to 0x8000.
+    (8, ty_x86_64::SIGNED, 2, 1, Some(1), 0, 0x10),
+    (8, ty_x86_64::SIGNED_1, 2, 1, Some(1), 0, 0x11),
+    (8, ty_x86_64::SIGNED_2, 2, 1, Some(1), 0, 0x12),
+    (8, ty_x86_64::SIGNED_4, 2, 1, Some(1), 0, 0x14),
+    (8, ty_x86_64::BRANCH, 2, 1, Some(1), 0, 0x10),
+    (12, ty_x86_64::SIGNED, 2, 1, Some(0), 0, 0x200f),
+];
+
+#[test]
+fn x86_64_reader_reads() {
+    assert_eq!(read_all_x86_64(&[]), Ok(vec![]));
+    let (mut records, mut entries) = (Vec::new(), Vec::new());
+    for (offset, ty, p2size, is_pcrel, section, is_subtracted, addend) in TABLE {
+        let (idx, target) = section.map_or((5, 5), |n| (n + 1, Target::Section(n).pack()));
+        records.push(MachRel::new(offset, idx, is_pcrel == 1, p2size, section.is_none(), ty));
+        entries.push(Reloc { offset, ty, size: 1 << p2size, is_pcrel, is_subtracted, target, spare: 0, addend });
+    }
+    assert_eq!(read_all_x86_64(&records), Ok(entries));
+    assert!((0..10).all(|ty| TABLE.iter().any(|row| row.1 == ty)));
+}
+
+/// Sums of addresses and addends are modulo 2^64.
+#[test]
+fn x86_64_sums_wrap() {
+    let read = |contents: &[u8], bits, sections: &[u64], address| {
+        let one = |slots: &mut [u8]| {
+            hauklivo::read_relocs_x86_64(contents, &record(8, bits).to_bytes(), sections, address, slots)
+        };
+        filled(24, one).map(|entries| entries[0].addend)
+    };
+    let stored = |number: i64| [[FILL; 8], number.to_le_bytes()].concat();
+    // SIGNED_4 of a section at 0x10: the own address, 8, 4, 4 and what is stored, less 0x10.
+    for (address, number, addend) in
+        [(u64::MAX - 15, 0, -0x10), (u64::MAX, 0x7fff_ffff, 0x7fff_fffe), (i64::MAX as u64, 1, i64::MIN), (5, -9, -4)]
+    {
+        assert_eq!(read(&stored(number), 0x85000001, &[0x10], address), Ok(addend), "{address:x}");
+    }
+    assert_eq!(read(&stored(i64::MIN), 0x06000001, &[1], 0), Ok(i64::MAX));
+    assert_eq!(read(&stored(i64::MAX), 0x06000001, &[u64::MAX], 0), Ok(i64::MIN));
+    assert_eq!(read(&stored(0x10), 0x06000001, &[1 << 63], 7), Ok(i64::MIN + 0x10));
+}
+
+/// Of the 256 forms that a record can have, 20 are read, each with all the bytes of its place.
+#[test]
+fn x86_64_forms() {
+    let supported = [
+        0x04, 0x06, 0x0c, 0x0e, 0x15, 0x1d, 0x25, 0x29, 0x2d, 0x3d, 0x4d, 0x5c, 0x5e, 0x65, 0x6d, 0x75, 0x7d, 0x85,
+        0x8d, 0x9d,
+    ];
+    for form in 0..256 {
+        let done = read_all_x86_64(&[record(0, form << 24 | 1)]);
+        if !supported.contains(&form) {
+            assert_eq!(done, Err(Refusal::Unsupported), "{form:x}");
+            continue;
+        }
+        assert_eq!(done.map(|entries| entries.len()), Ok(1), "{form:x}");
+        let last = 16 - (1 << (form >> 1 & 3));
+        assert!(read_all_x86_64(&[record(last, form << 24 | 1)]).is_ok(), "{form:x}");
+        for offset in [last + 1, 16, 17, u32::MAX] {
+            assert_eq!(read_all_x86_64(&[record(offset, form << 24 | 1)]), Err(Refusal::Bounds), "{form:x} {offset}");
+        }
+    }
+}
+
+#[test]
+fn x86_64_reader_refuses() {
+    let one = record(0, 0x1d000005).to_bytes();
+    assert_eq!(read_x86_64(&one[..7], 24), Err(Refusal::Lengths));
+    assert_eq!(read_x86_64(&one, 23), Err(Refusal::Slots));
+    for section in [0, 3, 0xffffff] {
+        for form in [0x04, 0x06, 0x15, 0x25, 0x65, 0x75, 0x85] {
+            assert_eq!(read_all_x86_64(&[record(0, form << 24 | section)]), Err(Refusal::NoSection));
+        }
+    }
+    // A good record before a bad one is not kept.
+    assert_eq!(
+        read_all_x86_64(&[record(0, 0x1d000005), record(0, 0x29000005), record(0, 0xad000005)]),
+        Err(Refusal::Unsupported)
+    );
+}
+
+/// Where two numbers apply, the first of the documented order comes back; of two records, the first one's.
+#[test]
+fn x86_64_numbers_in_order() {
+    let read = |records: &[(u32, u32)]| {
+        let records: Vec<_> = records.iter().map(|&(offset, bits)| record(offset, bits)).collect();
+        read_all_x86_64(&records).unwrap_err()
+    };
+    let [unsupported, past, absent] = [(0, 0xad000005), (13, 0x1d000005), (0, 0x15000003)];
+    assert_eq!(read_x86_64(&[0xff; 7], 0), Err(Refusal::Lengths)); // not Slots
+    assert_eq!(read_x86_64(&[0xff; 8], 23), Err(Refusal::Slots)); // not Unsupported
+    assert_eq!(read(&[(17, 0xad000005)]), Refusal::Unsupported); // not Bounds
+    assert_eq!(read(&[(13, 0x35000005)]), Refusal::Unsupported); // not Bounds, not NoSection
+    assert_eq!(read(&[(13, 0x15000003)]), Refusal::Bounds); // not NoSection
+    for (first, due) in [(unsupported, Refusal::Unsupported), (past, Refusal::Bounds), (absent, Refusal::NoSection)] {
+        for second in [unsupported, past, absent] {
+            assert_eq!(read(&[first, second]), due);
+        }
+    }
 }
 
 /// A section after a fix-up at 0x1000 with thread-local storage from 0x100, and the reports. What
@@ -304,6 +455,25 @@ fn hints_refuse() {
     assert_eq!(done, Ok((bytes(&[0x70000000, NOP]), tally)));
 }
 
+/// The x86_64 reader over records answers as that over bytes, and leaves what that leaves.
+#[test]
+fn typed_x86_64() {
+    let contents = bytes(&[NOP, NOP, 0x4010, 0]);
+    let records = [record(8, 0x15000001), record(0, 0x0c000005)];
+    let fill = Reloc::from([FILL; 24]);
+    let mut slots = [fill; 3];
+    let mut read = |sections: &[u64], room: usize| {
+        let done = typed::read_relocs_x86_64(&contents, &records, sections, OWN, &mut slots[..room]);
+        (done, slots)
+    };
+    assert_eq!(read(&SECTIONS, 1), (Err(Refusal::Slots), [fill; 3]));
+    assert_eq!(read(&[], 3), (Err(Refusal::NoSection), [fill; 3]));
+    let (done, entries) = read(&SECTIONS, 3);
+    let mut as_bytes = [FILL; 72];
+    assert_eq!(hauklivo::read_relocs_x86_64(&contents, MachRel::bytes(&records), &SECTIONS, OWN, &mut as_bytes), done);
+    assert_eq!((done, entries[0].addend, Reloc::bytes(&entries)), (Ok(2), 0x601c, &as_bytes[..]));
+}
+
 /// The functions over records answer as those over bytes, and leave what those leave.
 #[test]
 fn typed_calls() {
@@ -481,6 +651,9 @@ fn refused_calls_leave_numbers() {
         let s = none.as_ptr();
         let number = raw::hauklivo_read_relocs(s, 0, [0; 7].as_ptr(), 7, sections.as_ptr(), 0, p, 24, &mut count);
         assert_eq!((number, count), (1, 77));
+        let number =
+            raw::hauklivo_read_relocs_x86_64(s, 0, [0xff; 8].as_ptr(), 8, sections.as_ptr(), 0, 0, p, 24, &mut count);
+        assert_eq!((number, count), (5, 77));
         let mut b = none;
         let b = b.as_mut_ptr();
         let number = raw::hauklivo_apply_reloc_alloc(b, 0, 0, 0, [0; 7].as_ptr(), 7, s, 0, p, 24, &mut count);

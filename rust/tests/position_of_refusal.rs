@@ -104,6 +104,27 @@ fn scan_records(contents: &[u8], records: &[MachRel]) -> Option<(usize, Refusal)
     None
 }
 
+/// Tables of records of `good` and `bad`: `read` refuses what `scan` finds, and `find` finds where.
+fn tables(
+    [good, bad]: [&[MachRel]; 2],
+    scan: impl Fn(&[MachRel]) -> Option<(usize, Refusal)>,
+    read: impl Fn(&[MachRel], &mut [Reloc]) -> Result<usize, Refusal>,
+    find: impl Fn(Refusal, &[u8]) -> Option<usize>,
+) -> Met {
+    let mut met = Met::default();
+    lists(good, bad, |list| {
+        let due = scan(list);
+        let done = read(list, &mut vec![Reloc::default(); list.len()]);
+        assert_eq!(done.err(), due.map(|(_, refusal)| refusal), "{list:x?}");
+        for refusal in Refusal::ALL {
+            let found = find(*refusal, MachRel::bytes(list));
+            assert_eq!(found, due.filter(|due| due.1 == *refusal).map(|due| due.0), "{refusal}: {list:x?}");
+        }
+        met.note(list.len(), due);
+    });
+    met
+}
+
 #[test]
 fn records() {
     let contents = [LDR_X, NOP, 0, 0].map(u32::to_le_bytes).concat();
@@ -129,18 +150,64 @@ fn records() {
         record(0, 0x06000000),
         record(0, 0x06000003),
     ];
-    let mut met = Met::default();
-    lists(&good, &bad, |list| {
-        let due = scan_records(&contents, list);
-        let done = typed::read_relocs(&contents, list, &SECTIONS, &mut vec![Reloc::default(); list.len()]);
-        assert_eq!(done.err(), due.map(|(_, refusal)| refusal), "{list:x?}");
-        for refusal in Refusal::ALL {
-            let found = position_of_refusal::in_records(*refusal, &contents, MachRel::bytes(list), &SECTIONS);
-            assert_eq!(found, due.filter(|due| due.1 == *refusal).map(|due| due.0), "{refusal}: {list:x?}");
-        }
-        met.note(list.len(), due);
-    });
+    let met = tables(
+        [&good, &bad],
+        |list| scan_records(&contents, list),
+        |list, slots| typed::read_relocs(&contents, list, &SECTIONS, slots),
+        |refusal, list| position_of_refusal::in_records(refusal, &contents, list, &SECTIONS),
+    );
     met.everywhere(&[3, 4, 5, 6, 7]);
+}
+
+/// The first refusal among records of an x86_64 object, in a section of 16 bytes.
+fn scan_records_x86_64(records: &[MachRel]) -> Option<(usize, Refusal)> {
+    let forms = [4, 6, 0xc, 0xe, 0x15, 0x1d, 0x25, 0x29, 0x2d, 0x3d, 0x4d, 0x5c, 0x5e, 0x9d];
+    records.iter().enumerate().find_map(|(i, record)| {
+        // the three SIGNED_n have SIGNED's forms
+        let form = record.bits >> 24;
+        let is_supported = forms.contains(&form) || (6..9).contains(&record.ty()) && [5, 0xd].contains(&(form & 15));
+        if !is_supported {
+            Some((i, Refusal::Unsupported))
+        } else if record.offset > 16 - (1 << record.p2size()) {
+            Some((i, Refusal::Bounds))
+        } else if !record.is_extern() && !(1..=SECTIONS.len() as u32).contains(&record.idx()) {
+            Some((i, Refusal::NoSection))
+        } else {
+            None
+        }
+    })
+}
+
+#[test]
+fn records_x86_64() {
+    let contents = [0x5a; 16];
+    let record = |offset, bits| MachRel { offset, bits };
+    let good = [
+        record(12, 0x1d000005),
+        record(8, 0x06000002),
+        record(15, 0x29000005),
+        record(12, 0x5c000005), // SUBTRACTOR, which no record need follow
+        record(12, 0x85000001),
+        record(0, 0x04000001),
+    ];
+    let bad = [
+        record(17, 0xa4000001), // no type of x86_64
+        record(0, 0x21000001),  // a short jump to a section
+        record(0, 0x36000003),
+        record(17, 0x29000005),
+        record(16, 0x29000005),
+        record(13, 0x15000003),
+        record(9, 0x0e000005),
+        record(0, 0x04000000),
+        record(12, 0x85000003),
+    ];
+    let met = tables(
+        [&good, &bad],
+        scan_records_x86_64,
+        |list, slots| typed::read_relocs_x86_64(&contents, list, &SECTIONS, 0x6000, slots),
+        |refusal, list| position_of_refusal::in_records_x86_64(refusal, &contents, list, &SECTIONS),
+    );
+    met.everywhere(&[3, 5, 7]);
 }
 
 /// The first refusal among entries of a section of 16 bytes, by docs/RULES.md, 5.6.
@@ -309,6 +376,9 @@ fn whole_lists() {
     assert_eq!(position_of_refusal::in_records(Refusal::Slots, &[], &bad[..8], &[]), None);
     assert_eq!(position_of_refusal::in_records(Refusal::Bounds, &[], &bad[..7], &[]), None);
     assert_eq!(position_of_refusal::in_records(Refusal::Bounds, &[], &bad[..8], &[]), Some(0));
+    assert_eq!(position_of_refusal::in_records_x86_64(Refusal::Lengths, &[], &bad[..7], &[]), None);
+    assert_eq!(position_of_refusal::in_records_x86_64(Refusal::Unsupported, &[], &bad[..7], &[]), None);
+    assert_eq!(position_of_refusal::in_records_x86_64(Refusal::Unsupported, &[], &bad[..8], &[]), Some(0));
     assert_eq!(position_of_refusal::in_entries(Refusal::Bounds, &[], 0, &bad[..48], &bad[..48]), None);
     assert_eq!(position_of_refusal::in_entries(Refusal::Bounds, &[], 0, &bad[..24], &bad[..48]), Some(0));
     assert_eq!(position_of_refusal::in_entries(Refusal::Bounds, &[], 0, &bad[..25], &bad[..48]), None);

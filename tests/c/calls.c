@@ -104,6 +104,118 @@ static void reader(void)
     refused_reading(HAUKLIVO_NO_SECTION, contents, 16, ordinal0, 8, sizeof slots);
 }
 
+/* Sections of an x86_64 object, and the second one's bytes: -2, 0x4010, 0x2004 and -1 in 4 bytes each. */
+static const uint64_t x86_64_sections[3] = {0x4000, 0x6000, 0x8000};
+static const uint8_t x86_64_code[16] = {0xfe, 0xff, 0xff, 0xff, 0x10, 0x40, 0, 0,
+                                        4,    0x20, 0,    0,    0xff, 0xff, 0xff, 0xff};
+
+/* A call of the x86_64 reader that must answer `number` and leave slots and count. */
+static void refused_reading_x86_64(uint8_t number, const struct hauklivo_mach_rel *records, size_t records_len,
+                                   size_t slots_len)
+{
+    struct hauklivo_reloc slots[4];
+    size_t count = UNTOUCHED;
+    memset(slots, FILL, sizeof slots);
+    CHECK(hauklivo_read_relocs_x86_64(x86_64_code, sizeof x86_64_code, records, records_len, x86_64_sections, 3,
+                                      0x6000, slots, slots_len, &count) == number);
+    CHECK(filled(slots, sizeof slots));
+    CHECK(count == UNTOUCHED);
+}
+
+/* A record of a symbol, or of a section by its ordinal, and the entry that it must come to, at the same offset. */
+struct x86_64_row {
+    struct hauklivo_mach_rel record;
+    uint8_t type, size, is_pcrel, is_subtracted;
+    uint32_t target;
+    int64_t addend;
+};
+
+/* Every type and width, extern and of a section. */
+static const struct x86_64_row x86_64_rows[] = {
+    {{0, 0x29000005}, HAUKLIVO_X86_64_BRANCH, 1, 1, 0, 5, -2},
+    {{0, 0x2d000005}, HAUKLIVO_X86_64_BRANCH, 4, 1, 0, 5, -2},
+    {{0, 0x1d000005}, HAUKLIVO_X86_64_SIGNED, 4, 1, 0, 5, -2},
+    {{0, 0x6d000005}, HAUKLIVO_X86_64_SIGNED_1, 4, 1, 0, 5, -1},
+    {{0, 0x7d000005}, HAUKLIVO_X86_64_SIGNED_2, 4, 1, 0, 5, 0},
+    {{0, 0x8d000005}, HAUKLIVO_X86_64_SIGNED_4, 4, 1, 0, 5, 2},
+    {{0, 0x3d000005}, HAUKLIVO_X86_64_GOT_LOAD, 4, 1, 0, 5, -2},
+    {{0, 0x4d000005}, HAUKLIVO_X86_64_GOT, 4, 1, 0, 5, -2},
+    {{0, 0x9d000005}, HAUKLIVO_X86_64_TLV, 4, 1, 0, 5, -2},
+    {{4, 0x5c000005}, HAUKLIVO_X86_64_SUBTRACTOR, 4, 0, 0, 5, 0x4010},
+    {{4, 0x0c000006}, HAUKLIVO_X86_64_UNSIGNED, 4, 0, 1, 6, 0x4010},
+    {{0, 0x5e000005}, HAUKLIVO_X86_64_SUBTRACTOR, 8, 0, 0, 5, 0x4010fffffffe},
+    {{0, 0x0e000006}, HAUKLIVO_X86_64_UNSIGNED, 8, 0, 1, 6, 0x4010fffffffe},
+    {{0, 0x0c000005}, HAUKLIVO_X86_64_UNSIGNED, 4, 0, 0, 5, -2}, /* 4 bytes alone */
+    {{4, 0x04000001}, HAUKLIVO_X86_64_UNSIGNED, 4, 0, 0, HAUKLIVO_SECTION_TARGET, 0x10},
+    {{0, 0x06000003}, HAUKLIVO_X86_64_UNSIGNED, 8, 0, 0, HAUKLIVO_SECTION_TARGET + 2, 0x4010ffff7ffe},
+    /* From 0x600c on 0x2004 and what the type adds, less 0x8000. */
+    {{8, 0x15000003}, HAUKLIVO_X86_64_SIGNED, 4, 1, 0, HAUKLIVO_SECTION_TARGET + 2, 0x10},
+    {{8, 0x65000003}, HAUKLIVO_X86_64_SIGNED_1, 4, 1, 0, HAUKLIVO_SECTION_TARGET + 2, 0x11},
+    {{8, 0x75000003}, HAUKLIVO_X86_64_SIGNED_2, 4, 1, 0, HAUKLIVO_SECTION_TARGET + 2, 0x12},
+    {{8, 0x85000003}, HAUKLIVO_X86_64_SIGNED_4, 4, 1, 0, HAUKLIVO_SECTION_TARGET + 2, 0x14},
+    {{8, 0x25000003}, HAUKLIVO_X86_64_BRANCH, 4, 1, 0, HAUKLIVO_SECTION_TARGET + 2, 0x10},
+};
+enum { X86_64_ROWS = sizeof x86_64_rows / sizeof *x86_64_rows };
+
+static void reader_x86_64(void)
+{
+    struct hauklivo_mach_rel records[X86_64_ROWS];
+    struct hauklivo_reloc slots[X86_64_ROWS + 1];
+    size_t count = UNTOUCHED;
+
+    for (int i = 0; i < X86_64_ROWS; i++)
+        records[i] = x86_64_rows[i].record;
+    memset(slots, FILL, sizeof slots);
+    CHECK(hauklivo_read_relocs_x86_64(x86_64_code, sizeof x86_64_code, records, sizeof records, x86_64_sections, 3,
+                                      0x6000, slots, sizeof slots, &count) == HAUKLIVO_DONE);
+    CHECK(count == X86_64_ROWS && filled(slots + X86_64_ROWS, sizeof *slots));
+    for (int i = 0; i < X86_64_ROWS; i++) {
+        const struct x86_64_row *row = x86_64_rows + i;
+        CHECK(slots[i].offset == row->record.offset && slots[i].type == row->type && slots[i].size == row->size);
+        CHECK(slots[i].is_pcrel == row->is_pcrel && slots[i].is_subtracted == row->is_subtracted);
+        CHECK(slots[i].target == row->target && slots[i].spare == 0 && slots[i].addend == row->addend);
+    }
+
+    /* Sums wrap: 2^64 - 4 and 8, 4, 0x2004, less 0x4000. */
+    const struct hauklivo_mach_rel one[1] = {{8, 0x15000001}};
+    CHECK(hauklivo_read_relocs_x86_64(x86_64_code, sizeof x86_64_code, one, sizeof one, x86_64_sections, 1,
+                                      UINT64_MAX - 3, slots, sizeof slots, &count) == HAUKLIVO_DONE);
+    CHECK(count == 1 && slots[0].addend == 0x200c - 0x4000);
+
+    /* Empty lists succeed, and a count may be uninitialised. */
+    size_t fresh;
+    CHECK(hauklivo_read_relocs_x86_64(x86_64_code, 0, one, 0, x86_64_sections, 0, 0, slots, 0, &fresh)
+          == HAUKLIVO_DONE);
+    CHECK(fresh == 0);
+}
+
+static void refused_x86_64(void)
+{
+    const struct hauklivo_mach_rel type10 = {0, 0xad000005}, far10 = {17, 0xad000005}, jump = {0, 0x21000001};
+    const struct hauklivo_mach_rel got = {0, 0x45000001}, past = {17, 0x1d000005}, both = {13, 0x15000004};
+    const struct hauklivo_mach_rel absent = {0, 0x15000004}, none = {0, 0x06000000}, good = {0, 0x1d000005};
+
+    refused_reading_x86_64(HAUKLIVO_LENGTHS, &good, 7, 0);
+    refused_reading_x86_64(HAUKLIVO_SLOTS, &type10, 8, 23);
+    refused_reading_x86_64(HAUKLIVO_UNSUPPORTED, &type10, 8, 24);
+    refused_reading_x86_64(HAUKLIVO_UNSUPPORTED, &jump, 8, 24); /* a short jump to a section */
+    refused_reading_x86_64(HAUKLIVO_UNSUPPORTED, &got, 8, 24);  /* the GOT slot of a section */
+    refused_reading_x86_64(HAUKLIVO_BOUNDS, &past, 8, 24);
+    for (int i = 0; i < X86_64_ROWS; i++) { /* one byte is missing */
+        const struct hauklivo_mach_rel cut = {17 - x86_64_rows[i].size, x86_64_rows[i].record.bits};
+        refused_reading_x86_64(HAUKLIVO_BOUNDS, &cut, 8, 24);
+    }
+    refused_reading_x86_64(HAUKLIVO_NO_SECTION, &absent, 8, 24);
+    refused_reading_x86_64(HAUKLIVO_NO_SECTION, &none, 8, 24);
+
+    /* In this order: 5, 3, 7; and the first record that is refused. */
+    refused_reading_x86_64(HAUKLIVO_UNSUPPORTED, &far10, 8, 24);
+    refused_reading_x86_64(HAUKLIVO_BOUNDS, &both, 8, 24);
+    const struct hauklivo_mach_rel lists[2][3] = {{good, absent, type10}, {good, past, absent}};
+    refused_reading_x86_64(HAUKLIVO_NO_SECTION, lists[0], 24, 72);
+    refused_reading_x86_64(HAUKLIVO_BOUNDS, lists[1], 24, 72);
+}
+
 /* A fix-up of one or two entries that must answer `number` and leave section, slots and count. */
 static void refused_fixing(uint8_t number, uint64_t base, const struct hauklivo_reloc *entries,
                            size_t entries_len, const struct hauklivo_resolved *targets, size_t targets_len,
@@ -536,6 +648,8 @@ int main(void)
 {
     version();
     reader();
+    reader_x86_64();
+    refused_x86_64();
     fixup();
     stub_and_thunk();
     hints();

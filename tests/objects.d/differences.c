@@ -1,5 +1,12 @@
 /* Differences of addresses and offsets to GOT slots, which C has no words for. */
 
+/* The offset from here to the GOT slot of a symbol, as the assembler of each machine has it. */
+#ifdef __aarch64__
+#define SLOT(symbol) "  .long " symbol "@GOT - .\n"
+#else
+#define SLOT(symbol) "  .long " symbol "@GOTPCREL + 4\n"
+#endif
+
 extern int outside;
 int low = 1, high = 2;
 extern const long spans[];
@@ -19,8 +26,8 @@ __asm__(".section __DATA,__spans\n"
         "_offsets:\n"
         "  .long _cold - _offsets\n"
         "  .long _hot - _offsets + 4\n"
-        "  .long _outside@GOT - .\n"
-        "  .long _low@GOT - .\n"
+        SLOT("_outside")
+        SLOT("_low")
         "  .p2align 3\n"
         "  .quad _low\n"
         "  .quad _high + 24\n");

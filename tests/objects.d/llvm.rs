@@ -33,6 +33,7 @@ pub struct Row {
     pub is_pcrel: bool,
     pub length: u8,
     pub ty: u8,
+    pub type_name: String,
     /// Whether it names a symbol, not a section or a number.
     pub is_symbol: bool,
     pub index: u32,
@@ -57,7 +58,10 @@ pub fn relocations(file: &Path) -> Vec<Vec<Row>> {
             "Offset" => row.offset = number(value) as u32,
             "PCRel" => row.is_pcrel = value == "1",
             "Length" => row.length = number(value) as u8,
-            "Type" => row.ty = named(value).1 as u8,
+            "Type" => {
+                let (name, number) = named(value);
+                (row.type_name, row.ty) = (name.into(), number as u8);
+            }
             "Symbol" | "Section" => {
                 let (name, index) = named(value);
                 (row.is_symbol, row.name, row.index) = (field == "Symbol", name.into(), index as u32);

@@ -12,6 +12,7 @@ use crate::binding::ORACLE;
 
 pub const RUST: Calls = Calls {
     read_relocs,
+    read_relocs_x86_64,
     apply_reloc_alloc,
     write_stub: |bytes, address, pointer| {
         let (stub, reaches) = oracle::stub(address, pointer);
@@ -42,6 +43,19 @@ fn read_relocs(contents: &[u8], records: &[MachRel], sections: &[u64], slots: &m
     match oracle::read_relocs(contents, MachRel::bytes(records), sections) {
         Ok(entries) => Ok(fill(slots, &entries)),
         Err(stop) => Err(refusal(&stop, stop.reader_number())),
+    }
+}
+
+fn read_relocs_x86_64(
+    contents: &[u8],
+    records: &[MachRel],
+    sections: &[u64],
+    address: u64,
+    slots: &mut [Reloc],
+) -> Result<usize, Refusal> {
+    match oracle::read_relocs_x86_64(contents, MachRel::bytes(records), sections, address) {
+        Ok(entries) => Ok(fill(slots, &entries)),
+        Err(stop) => Err(refusal(&stop, stop.reader_x86_64_number())),
     }
 }
 

@@ -3,7 +3,9 @@
 use std::error::Error;
 use std::fmt;
 
-use hauklivo::Refusal;
+use hauklivo::{Refusal, Reloc};
+
+use crate::object::{Object, Section};
 
 /// Why a file cannot be linked, as a sentence.
 #[derive(Clone, Debug, PartialEq, Eq)]
@@ -19,6 +21,13 @@ impl Fault {
     pub fn refused(what: &str, refusal: Refusal, at: Option<String>) -> Self {
         let at = at.map_or(String::new(), |at| format!(": {at}"));
         Self(format!("{what}: number {refusal}{at}"))
+    }
+
+    /// An entry of a section whose symbol is not there.
+    pub fn no_symbol(object: &Object, section: &Section, entry: &Reloc) -> Self {
+        let (name, Reloc { offset, target, .. }) = (&section.name, entry);
+        let count = object.symbols.len();
+        Self(format!("section {name}: the entry at offset {offset:x} names symbol {target}, and there are {count}"))
     }
 }
 

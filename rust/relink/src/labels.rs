@@ -87,10 +87,7 @@ impl<'a> Labels<'a> {
 
     /// The symbol or section of an entry.
     pub fn name(&self, number: usize) -> &'a str {
-        match self.section.entries[number].target() {
-            Target::Symbol(symbol) => &self.object.symbols[symbol as usize].name,
-            Target::Section(section) => &self.object.sections[section as usize].name,
-        }
+        self.object.name(self.section.entries[number].target()).expect("the target is resolved")
     }
 
     /// A text and the addend of an entry.

@@ -1,13 +1,14 @@
-//! The whole work on one object: records into entries, layout, targets, fix-up, hints.
+//! The whole work on one arm64 object: records into entries, layout, targets, fix-up, hints.
 
 use hauklivo::{Reloc, Report, Resolved};
 
 use crate::Fault;
 use crate::calls::Calls;
+use crate::entries;
 use crate::hints::{self, HintRun};
 use crate::layout::{Holds, Layout, Options};
 use crate::needs::Needs;
-use crate::object::{Object, Section};
+use crate::object::{Machine, Object};
 use crate::refused;
 use crate::targets::Laid;
 
@@ -51,9 +52,15 @@ pub struct LinkedSection {
 ///
 /// # Errors
 ///
-/// A sentence for a layout that does not fit, for an entry of no symbol, and for a refused call.
+/// A sentence for an object that is not for arm64, for a layout that does not fit, for an entry of no symbol, and for a
+/// refused call.
 pub fn link(object: &Object, options: &Options, calls: &Calls) -> Result<Linked, Fault> {
-    let lists = entries(object, options, calls)?;
+    if object.machine != Machine::Arm64 {
+        return Err(Fault::new(
+            "this is an x86_64 object, and only arm64 objects are laid out; --entries lists its entries",
+        ));
+    }
+    let lists = entries::chosen(object, calls, |section| options.debug || !section.is_debug())?;
     let layout = lay_out(object, options, &lists)?;
     let laid = Laid { object, layout: &layout };
     let (before, far_stubs) = unfixed_image(laid, calls)?;
@@ -75,16 +82,6 @@ pub fn link(object: &Object, options: &Options, calls: &Calls) -> Result<Linked,
     let mut image = fixed.clone();
     let hints = hints::run(object, &sections, calls, &mut image)?;
     Ok(Linked { layout, sections, far_stubs, before, fixed, image, hints })
-}
-
-/// The entries of each section that goes into the image.
-fn entries(object: &Object, options: &Options, calls: &Calls) -> Result<Vec<Vec<Reloc>>, Fault> {
-    let addresses: Vec<u64> = object.sections.iter().map(|s| s.address).collect();
-    let read = |s: &Section| match s.is_debug() && !options.debug {
-        true => Ok(Vec::new()),
-        false => calls.entries(s.contents, &s.records, &addresses).map_err(|r| refused::reading(s, &addresses, r)),
-    };
-    object.sections.iter().map(read).collect()
 }
 
 /// The layout, with thunk entries for the branches that do not reach without them.
@@ -149,7 +146,7 @@ fn fix_up(laid: Laid, calls: &Calls, linked: &mut LinkedSection, bytes: &mut [u8
     for entry in &linked.entries {
         let place = linked.address.wrapping_add(entry.offset.into());
         let target = laid.resolve(entry, place);
-        linked.targets.push(target.map_err(|f| Fault::new(format!("section {}: {f}", section.name)))?);
+        linked.targets.push(target.ok_or_else(|| Fault::no_symbol(laid.object, section, entry))?);
     }
     let (base, tls_begin) = (linked.address, laid.layout.tls_begin);
     let mut reports = vec![Report::default(); linked.entries.len()];

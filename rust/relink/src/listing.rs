@@ -4,12 +4,14 @@ use std::fmt::Write;
 
 use hauklivo::{Reloc, flag, ty};
 
+use crate::Fault;
 use crate::hints::{HintRun, LinkedHint, Outcome, Rewrite, kind_name};
 use crate::labels::Labels;
 use crate::layout::{Holds, Part};
 use crate::link::{Linked, LinkedSection};
-use crate::object::Object;
+use crate::object::{Object, Section};
 use crate::reports::reports;
+use crate::types::type_name;
 use crate::words::{text, word_at};
 
 /// The listing of a linked object.
@@ -88,26 +90,56 @@ fn part_name(object: &Object, linked: &Linked, holds: Holds) -> String {
     }
 }
 
-/// The name of a relocation type.
-pub fn type_name(number: u8) -> &'static str {
-    match number {
-        ty::UNSIGNED => "UNSIGNED",
-        ty::SUBTRACTOR => "SUBTRACTOR",
-        ty::BRANCH26 => "BRANCH26",
-        ty::PAGE21 => "PAGE21",
-        ty::PAGEOFF12 => "PAGEOFF12",
-        ty::GOT_LOAD_PAGE21 => "GOT_LOAD_PAGE21",
-        ty::GOT_LOAD_PAGEOFF12 => "GOT_LOAD_PAGEOFF12",
-        ty::POINTER_TO_GOT => "POINTER_TO_GOT",
-        ty::TLVP_LOAD_PAGE21 => "TLVP_LOAD_PAGE21",
-        ty::TLVP_LOAD_PAGEOFF12 => "TLVP_LOAD_PAGEOFF12",
-        ty::ADDEND => "ADDEND",
-        _ => "unknown",
+/// Adds the entries of a section, each with its offset, by rising offset.
+fn entry_table<const N: usize>(
+    out: &mut String,
+    section: &Section,
+    head: [&str; N],
+    mut rows: Vec<(u32, [String; N])>,
+) {
+    line!(out, "Entries of {}", section.name);
+    rows.sort_by_key(|&(offset, _)| offset);
+    let rows: Vec<_> = [head.map(String::from)].into_iter().chain(rows.into_iter().map(|(_, row)| row)).collect();
+    table(out, &rows);
+    line!(out, "");
+}
+
+/// The listing of the entries of each section of an object, as they were read.
+///
+/// # Errors
+///
+/// A sentence for an entry of no symbol.
+pub fn entry_listing(object: &Object, lists: &[Vec<Reloc>]) -> Result<String, Fault> {
+    let mut out = String::new();
+    let head = ["no", "address", "type", "size", "pc-relative", "subtracted", "target", "addend"];
+    for (section, list) in object.sections.iter().zip(lists).filter(|(_, list)| !list.is_empty()) {
+        let row = |(number, entry): (usize, &Reloc)| Ok((entry.offset, entry_row(object, section, number, entry)?));
+        let rows: Result<_, Fault> = list.iter().enumerate().map(row).collect();
+        entry_table(&mut out, section, head, rows?);
     }
+    let records: usize = object.sections.iter().map(|section| section.records.len()).sum();
+    let entries: usize = lists.iter().map(Vec::len).sum();
+    line!(out, "{}: {entries} entries of {records} relocation records.", object.machine.name());
+    Ok(out)
+}
+
+fn entry_row(object: &Object, section: &Section, number: usize, entry: &Reloc) -> Result<[String; 8], Fault> {
+    let mark = |field: u8| if field == 0 { "-" } else { "yes" }.into();
+    let sign = if entry.addend < 0 { "-" } else { "" };
+    let name = object.name(entry.target()).ok_or_else(|| Fault::no_symbol(object, section, entry))?;
+    Ok([
+        number.to_string(),
+        format!("{:x}", section.address.wrapping_add(entry.offset.into())),
+        type_name(object.machine, entry.ty).into(),
+        entry.size.to_string(),
+        mark(entry.is_pcrel),
+        mark(entry.is_subtracted),
+        name.into(),
+        format!("{sign}{:#x}", entry.addend.unsigned_abs()),
+    ])
 }
 
 fn entries(out: &mut String, object: &Object, linked: &Linked, section: &LinkedSection) {
-    line!(out, "Entries of {}", object.sections[section.section].name);
     let bytes = section.start..section.start + object.sections[section.section].contents.len();
     let labels = Labels::new(object, linked, section);
     let mut rows = Vec::new();
@@ -122,13 +154,11 @@ fn entries(out: &mut String, object: &Object, linked: &Linked, section: &LinkedS
             _ => (before, after),
         };
         let (label, place) = (labels.label(number), format!("{:x}", labels.place(number)));
-        rows.push((entry.offset, [number.to_string(), place, type_name(entry.ty).into(), label, before, after]));
+        let ty = type_name(object.machine, entry.ty).into();
+        rows.push((entry.offset, [number.to_string(), place, ty, label, before, after]));
     }
-    rows.sort_by_key(|&(offset, _)| offset);
-    let head = ["no", "address", "type", "target", "before", "after"].map(String::from);
-    let rows: Vec<_> = [head].into_iter().chain(rows.into_iter().map(|(_, row)| row)).collect();
-    table(out, &rows);
-    line!(out, "");
+    let head = ["no", "address", "type", "target", "before", "after"];
+    entry_table(out, &object.sections[section.section], head, rows);
 }
 
 /// The bytes of an entry's place as a pointer, or as a word with its text; those that the section has.

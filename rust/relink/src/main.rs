@@ -1,4 +1,4 @@
-//! `relink [FILE.o] [--text ADDRESS] [--data ADDRESS] [-o OUT]`
+//! `relink [FILE.o] [--text ADDRESS] [--data ADDRESS] [-o OUT]`, `relink --entries [FILE.o]`
 
 use std::ffi::{OsStr, OsString};
 use std::fs::{self, File};
@@ -6,7 +6,7 @@ use std::io::{self, Read, Write};
 use std::path::{Path, PathBuf};
 use std::process::ExitCode;
 
-use relink::{Fault, Object, Options, PORT, link, listing, reports};
+use relink::{Fault, Object, Options, PORT, entries, entry_listing, link, listing, reports};
 
 /// Which ./relink prints, too, before anything is built.
 const USAGE: &str = include_str!("usage.txt");
@@ -17,7 +17,7 @@ const EXAMPLE: &[u8] = include_bytes!("../example/thermo.o");
 const LARGEST: u64 = 16 << 20;
 
 /// The exit statuses.
-const LINKED: u8 = 0;
+const DONE: u8 = 0;
 const FAILED: u8 = 1;
 const WRONG_ARGUMENTS: u8 = 2;
 const BROKEN: u8 = 3;
@@ -26,14 +26,17 @@ const BROKEN: u8 = 3;
 #[derive(Default)]
 struct Asked {
     file: Option<PathBuf>,
-    options: Options,
+    /// Whether entries are listed, and nothing is laid out.
+    entries: bool,
+    text: Option<u64>,
+    data: Option<u64>,
     out: Option<PathBuf>,
 }
 
 fn main() -> ExitCode {
     let asked = match arguments(std::env::args_os().skip(1)) {
         Ok(Some(asked)) => asked,
-        Ok(None) => return print(USAGE, LINKED),
+        Ok(None) => return print(USAGE, DONE),
         Err(fault) => {
             eprint!("relink: {fault}\n\n{USAGE}");
             return ExitCode::from(WRONG_ARGUMENTS);
@@ -44,7 +47,7 @@ fn main() -> ExitCode {
         None => "the example, rust/relink/example/thermo.o".into(),
     };
     match work(&name, &asked) {
-        Ok((text, 0)) => print(&text, LINKED),
+        Ok((text, 0)) => print(&text, DONE),
         Ok((text, reports)) => {
             let status = print(&text, BROKEN);
             eprintln!("relink: {name}: the link is broken: {reports} in Reports");
@@ -75,8 +78,9 @@ fn arguments(mut words: impl Iterator<Item = OsString>) -> Result<Option<Asked>,
         let mut value = || words.next().ok_or_else(|| Fault::new(format!("{} needs a value", plain(&word))));
         match word.to_str() {
             Some("--help" | "-h") => return Ok(None),
-            Some("--text") => asked.options.text = address(&value()?)?,
-            Some("--data") => asked.options.data = Some(address(&value()?)?),
+            Some("--entries") => asked.entries = true,
+            Some("--text") => asked.text = Some(address(&value()?)?),
+            Some("--data") => asked.data = Some(address(&value()?)?),
             Some("-o") => asked.out = Some(value()?.into()),
             _ if word.as_encoded_bytes().starts_with(b"-") => {
                 return Err(Fault::new(format!("no such option: {}", plain(&word))));
@@ -85,7 +89,11 @@ fn arguments(mut words: impl Iterator<Item = OsString>) -> Result<Option<Asked>,
             _ => asked.file = Some(word.into()),
         }
     }
-    Ok(Some(asked))
+    let lays_out = asked.text.is_some() || asked.data.is_some() || asked.out.is_some();
+    match asked.entries && lays_out {
+        true => Err(Fault::new("with --entries nothing is laid out: it goes with none of --text, --data and -o")),
+        false => Ok(Some(asked)),
+    }
 }
 
 /// An argument as text, whatever its bytes.
@@ -114,7 +122,12 @@ fn work(name: &str, asked: &Asked) -> Result<(String, usize), Fault> {
         return Err(Fault::new("it is larger than 16 MiB"));
     }
     let object = Object::parse(&bytes)?;
-    let linked = link(&object, &asked.options, &PORT)?;
+    if asked.entries {
+        let listing = entry_listing(&object, &entries(&object, &PORT)?)?;
+        return Ok((format!("{name}\n\n{listing}"), 0));
+    }
+    let text = asked.text.unwrap_or(Options::default().text);
+    let linked = link(&object, &Options { text, data: asked.data, ..Options::default() }, &PORT)?;
     if let Some(out) = &asked.out {
         let fault = |error| Fault::new(format!("{} cannot be written: {error}", out.display()));
         fs::write(out, &linked.image).map_err(fault)?;

@@ -4,12 +4,15 @@ use hauklivo::{HintRecord, MachRel, Record, Refusal, Reloc, Resolved, position_o
 
 use crate::Fault;
 use crate::link::LinkedSection;
-use crate::object::Section;
+use crate::object::{Machine, Section};
 
 /// The reader's, of a section's records, with the addresses of all sections.
-pub fn reading(section: &Section, addresses: &[u64], refusal: Refusal) -> Fault {
-    let records = MachRel::bytes(&section.records);
-    let at = position_of_refusal::in_records(refusal, section.contents, records, addresses);
+pub fn reading(machine: Machine, section: &Section, addresses: &[u64], refusal: Refusal) -> Fault {
+    let find = match machine {
+        Machine::Arm64 => position_of_refusal::in_records,
+        Machine::X86_64 => position_of_refusal::in_records_x86_64,
+    };
+    let at = find(refusal, section.contents, MachRel::bytes(&section.records), addresses);
     let what = format!("the relocation records of section {}", section.name);
     Fault::refused(&what, refusal, at.and_then(|number| record(section, number)))
 }

@@ -4,8 +4,8 @@ use hauklivo::{Report, ReportKind, Target, ty};
 
 use crate::labels::{Labels, Way};
 use crate::link::Linked;
-use crate::listing::type_name;
 use crate::object::{Object, SymbolPlace};
+use crate::types::type_name;
 
 /// What is wrong with a linked object, in sentences; none where the link is good.
 pub fn reports(object: &Object, linked: &Linked) -> Vec<String> {
@@ -23,7 +23,7 @@ pub fn reports(object: &Object, linked: &Linked) -> Vec<String> {
             let called = report.map(|report| said(&labels, report));
             let faults = [left_out(object, linked, entry.target()), called.or_else(|| seen(&labels, number))];
             sentences.extend(faults.into_iter().flatten().map(|fault| {
-                let (ty, reference) = (type_name(entry.ty), labels.reference(number));
+                let (ty, reference) = (type_name(object.machine, entry.ty), labels.reference(number));
                 format!("Entry {number} of {name}, {ty} of {reference}: {fault}.")
             }));
         }

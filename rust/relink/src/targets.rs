@@ -2,7 +2,6 @@
 
 use hauklivo::{Reloc, Resolved, Target, flag, ty};
 
-use crate::Fault;
 use crate::layout::Layout;
 use crate::object::{Object, SymbolPlace};
 
@@ -43,18 +42,14 @@ impl Laid<'_> {
         self.symbol_address(number).or(stub).unwrap_or(0)
     }
 
-    /// The target of an entry at `place`.
-    pub fn resolve(self, entry: &Reloc, place: u64) -> Result<Resolved, Fault> {
+    /// The target of an entry at `place`; None where its symbol is not there.
+    pub fn resolve(self, entry: &Reloc, place: u64) -> Option<Resolved> {
         match entry.target() {
-            Target::Section(number) => Ok(self.resolve_section(number as usize)),
-            Target::Symbol(number) if (number as usize) < self.object.symbols.len() => {
-                Ok(self.resolve_symbol(number, place))
+            Target::Section(number) => Some(self.resolve_section(number as usize)),
+            Target::Symbol(number) => {
+                let is_there = (number as usize) < self.object.symbols.len();
+                is_there.then(|| self.resolve_symbol(number, place))
             }
-            Target::Symbol(number) => Err(Fault::new(format!(
-                "the entry at offset {:x} names symbol {number}, and there are {}",
-                entry.offset,
-                self.object.symbols.len()
-            ))),
         }
     }
 

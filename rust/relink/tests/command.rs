@@ -10,6 +10,7 @@ use relink::hauklivo::Record;
 use relink::{Object, Options, PORT, link};
 
 const EXAMPLE: &[u8] = include_bytes!("../example/thermo.o");
+const X86_64: &[u8] = include_bytes!("../example/thermo-x86_64.o");
 
 fn relink(words: &[&str]) -> Output {
     Command::new(env!("CARGO_BIN_EXE_relink")).args(words).output().unwrap()
@@ -40,6 +41,9 @@ fn usage() {
         (&["--text", "here"], "here is no address"),
         (&["--odd"], "no such option: --odd"),
         (&["a.o", "b.o"], "only one file can be given"),
+        (&["--entries", "a.o", "-o", "b"], "with --entries nothing is laid out"),
+        (&["--text", "0x100004000", "--entries"], "with --entries nothing is laid out"),
+        (&["--data", "1", "a.o", "--entries"], "with --entries nothing is laid out"),
     ] {
         assert!(error(words, 2).contains(expected), "{words:?}");
     }
@@ -105,15 +109,59 @@ fn example_listing() {
     assert!(beyond.contains(", PAGE21 of _newest: ADRP does not reach 300000010; the word is written all the same.\n"));
 }
 
+/// What `--entries` lists of a file.
+fn listed(words: &[&str]) -> String {
+    let done = relink(&[&["--entries"], words].concat());
+    assert!(done.status.success() && done.stderr.is_empty());
+    String::from_utf8(done.stdout).unwrap()
+}
+
+#[test]
+fn example_entries() {
+    let arm = listed(&[]);
+    assert!(arm.starts_with("the example, rust/relink/example/thermo.o\n\nEntries of __TEXT,__text\n"));
+    assert!(arm.contains(
+        "
+  9   b4       GOT_LOAD_PAGEOFF12   4     -            -           _alarms  0x0
+  8   c4       PAGE21               4     yes          -           _newest  0x4\n"
+    ));
+    assert!(arm.ends_with("\narm64: 36 entries of 38 relocation records.\n"));
+
+    let file = written("x86_64", X86_64);
+    let x86_64 = listed(&[&file]);
+    assert!(x86_64.starts_with(&format!(
+        "{file}
+
+Entries of __TEXT,__text
+  no  address  type      size  pc-relative  subtracted  target              addend
+  15  8        SIGNED    4     yes          -           __TEXT,__literal16  0x0
+  14  1a       SIGNED    4     yes          -           _type_k             0x0
+  13  27       SIGNED    4     yes          -           _ice                0x0
+  12  36       SIGNED_1  4     yes          -           _count              0x0\n"
+    )));
+    assert!(x86_64.contains(
+        "
+Entries of __DATA,__const
+  no  address  type      size  pc-relative  subtracted  target            addend
+  1   150      UNSIGNED  8     -            -           __TEXT,__cstring  0x0
+  0   158      UNSIGNED  8     -            -           __TEXT,__cstring  0x7\n"
+    ));
+    assert!(x86_64.ends_with("\nx86_64: 20 entries of 20 relocation records.\n"));
+}
+
 /// The lines that the README shows are the program's.
 #[test]
 fn readme_listing() {
     let readme = include_str!("../../../README.md");
-    let shown = readme.split("```text\n").nth(1).and_then(|rest| rest.split("```").next()).unwrap();
-    let listing = String::from_utf8(relink(&[]).stdout).unwrap();
-    let mut lines = listing.lines();
-    for line in shown.lines() {
-        assert!(lines.any(|l| l == line), "{line}");
+    let mut blocks = readme.split("```text\n").skip(1).map(|rest| rest.split("```").next().unwrap());
+    let listings = [&[][..], &["--entries", &written("readme", X86_64)]].map(|words| relink(words).stdout);
+    for listing in listings {
+        let shown = blocks.next().expect("a listing in the README");
+        let listing = String::from_utf8(listing).unwrap();
+        let mut lines = listing.lines();
+        for line in shown.lines() {
+            assert!(lines.any(|l| l == line), "{line}");
+        }
     }
 }
 
@@ -127,9 +175,17 @@ fn refusals() {
 
     assert!(error(&[&written("large", &vec![0; (16 << 20) + 1])], 1).contains("it is larger than 16 MiB"));
 
-    let mut other = EXAMPLE.to_vec();
-    other[4] = 7;
-    assert!(error(&[&written("x86", &other)], 1).contains("another processor than arm64"));
+    // 32-bit ARM and x86, and PowerPC with 64 bits.
+    for (cpu, high) in [(12, 0), (7, 0), (18, 1)] {
+        let mut other = EXAMPLE.to_vec();
+        (other[4], other[7]) = (cpu, high);
+        let file = written(&format!("other{cpu}"), &other);
+        for words in [&[&*file][..], &["--entries", &file]] {
+            assert!(error(words, 1).contains("another processor than arm64 or x86_64 (cpu type "));
+        }
+    }
+    let due = "this is an x86_64 object, and only arm64 objects are laid out; --entries lists its entries\n";
+    assert!(error(&[&written("not-laid-out", X86_64)], 1).ends_with(due));
 
     // A record of the file made one of a type that there is none of.
     let object = Object::parse(EXAMPLE).unwrap();

@@ -1,12 +1,14 @@
-//! Damaged copies of the example: each is linked or refused in a sentence, and nothing else happens.
+//! Damaged copies of the examples: each is linked, its entries are listed, or it is refused in a sentence, and nothing
+//! else happens.
 
 use std::fs;
 use std::path::PathBuf;
 use std::process::Command;
 
-use relink::{Fault, Object, Options, PORT, link, listing};
+use relink::{Fault, Object, Options, PORT, entries, entry_listing, link, listing};
 
 const EXAMPLE: &[u8] = include_bytes!("../example/thermo.o");
+const X86_64: &[u8] = include_bytes!("../example/thermo-x86_64.o");
 
 /// Numbers that are the same in every run.
 struct Numbers(u64);
@@ -23,10 +25,10 @@ impl Numbers {
         (self.next() % limit as u64) as usize
     }
 
-    /// The example with one to four spots changed: a bit, a byte, or four bytes of a number that
+    /// An example with one to four spots changed: a bit, a byte, or four bytes of a number that
     /// is likely to be taken for an offset or a count.
-    fn damaged(&mut self) -> Vec<u8> {
-        let mut bytes = EXAMPLE.to_vec();
+    fn damaged(&mut self, example: &[u8]) -> Vec<u8> {
+        let mut bytes = example.to_vec();
         for _ in 0..=self.below(4) {
             // Half of the spots are in the header and the load commands.
             let end = if self.below(2) == 0 { bytes.len() } else { 0x500.min(bytes.len()) };
@@ -46,19 +48,22 @@ impl Numbers {
     }
 }
 
-/// Whether `bytes` are linked; a refusal says something.
+/// What a piece of work lists of `bytes`; a refusal says something.
+fn worked(bytes: &[u8], work: impl FnOnce(&Object) -> Result<String, Fault>) -> Option<String> {
+    let done = Object::parse(bytes).and_then(|object| work(&object));
+    done.map_err(|fault| assert!(fault.to_string().len() > 10)).ok()
+}
+
+/// Whether `bytes` are linked.
 fn links(bytes: &[u8], options: &Options) -> bool {
-    let done = Object::parse(bytes).and_then(|object| {
-        let linked = link(&object, options, &PORT)?;
-        Ok(listing(&object, &linked))
-    });
-    match done {
-        Ok(text) => text.starts_with("Layout\n"),
-        Err(fault) => {
-            assert!(fault.to_string().len() > 10);
-            false
-        }
-    }
+    let listing = worked(bytes, |object| Ok(listing(object, &link(object, options, &PORT)?)));
+    listing.is_some_and(|text| text.starts_with("Layout\n"))
+}
+
+/// Whether the entries of `bytes` are listed.
+fn lists(bytes: &[u8]) -> bool {
+    let listing = worked(bytes, |object| entry_listing(object, &entries(object, &PORT)?));
+    listing.is_some_and(|text| text.ends_with(" relocation records.\n"))
 }
 
 const LAYOUTS: [Options; 4] = [
@@ -77,8 +82,21 @@ fn in_this_process() {
     }
     let mut numbers = Numbers(0x9e37_79b9_7f4a_7c15);
     let cases = 60_000;
-    let linked = (0..cases).filter(|i| links(&numbers.damaged(), &LAYOUTS[i % 4])).count();
+    let linked = (0..cases).filter(|i| links(&numbers.damaged(EXAMPLE), &LAYOUTS[i % 4])).count();
     assert!(linked > cases / 20 && linked < cases / 20 * 19, "both ends are reached: {linked} of {cases}");
+}
+
+/// The same, of the listing of entries, for both machines.
+#[test]
+fn entries_in_this_process() {
+    let mut numbers = Numbers(0x2545_f491_4f6c_dd1d);
+    for (example, cases) in [(EXAMPLE, 20_000), (X86_64, 60_000)] {
+        assert!(lists(example));
+        let cut = (0..example.len()).filter(|&end| lists(&example[..end])).count();
+        assert!(cut < 16, "only padding can be missing: {cut}");
+        let listed = (0..cases).filter(|_| lists(&numbers.damaged(example))).count();
+        assert!(listed > cases / 20 && listed < cases / 20 * 19, "both ends are reached: {listed} of {cases}");
+    }
 }
 
 /// An object with one segment of `headers` sections, which all have the same `count` records, and with `tail` after the
@@ -110,15 +128,14 @@ fn one_list_for_many_sections() {
     assert_eq!(most(1, 262_145, 9 << 18), Err(Fault::new("there are more than 262144 relocation records")));
 }
 
-#[test]
-fn as_a_program() {
-    let folder = PathBuf::from(env!("CARGO_TARGET_TMPDIR"));
-    let (file, out) = (folder.join("hostile.o"), folder.join("hostile.out"));
+/// How often the program ends with each status: on an example, on its beginnings, and on 2,000 damaged copies.
+fn statuses(example: &[u8], name: &str, options: &[&str]) -> [usize; 4] {
+    let file = PathBuf::from(env!("CARGO_TARGET_TMPDIR")).join(name);
     let mut statuses = [0; 4];
     let mut run = |bytes: &[u8]| {
         fs::write(&file, bytes).unwrap();
         let mut command = Command::new(env!("CARGO_BIN_EXE_relink"));
-        let done = command.arg(&file).arg("-o").arg(&out).output().unwrap();
+        let done = command.arg(&file).args(options).output().unwrap();
         let status = done.status.code().expect("no signal");
         assert!([0, 1, 3].contains(&status), "{status}: {}", String::from_utf8_lossy(&done.stderr));
         assert_eq!(done.stderr.is_empty(), status == 0);
@@ -127,13 +144,26 @@ fn as_a_program() {
         assert_eq!(has_reports, status == 3);
         statuses[status as usize] += 1;
     };
-    run(EXAMPLE);
-    for end in 0..EXAMPLE.len() {
-        run(&EXAMPLE[..end]);
+    run(example);
+    for end in 0..example.len() {
+        run(&example[..end]);
     }
     let mut numbers = Numbers(0x0123_4567_89ab_cdef);
     for _ in 0..2_000 {
-        run(&numbers.damaged());
+        run(&numbers.damaged(example));
     }
+    statuses
+}
+
+#[test]
+fn as_a_program() {
+    let out = concat!(env!("CARGO_TARGET_TMPDIR"), "/hostile.out");
+    let statuses = statuses(EXAMPLE, "hostile.o", &["-o", out]);
     assert!([0, 1, 3].iter().all(|&status| statuses[status] > 30), "{statuses:?}");
+}
+
+#[test]
+fn entries_as_a_program() {
+    let statuses = statuses(X86_64, "hostile-x86_64.o", &["--entries"]);
+    assert!(statuses[0] > 30 && statuses[1] > 30 && statuses[3] == 0, "{statuses:?}");
 }

@@ -1,17 +1,21 @@
-//! Small objects that are made here: what a refusal names, what a branch goes to, what makes a link a broken one.
+//! Small objects that are made here: what a refusal names, what a branch goes to, what makes a link a broken one, and
+//! the entries of x86_64 records.
 
 use std::fs;
 use std::process::Command;
 
-use relink::hauklivo::{MachRel, Record, ty};
+use relink::hauklivo::{MachRel, Record, ty, ty_x86_64};
 use relink::words::word_at;
-use relink::{Object, Options, PORT, link, listing};
+use relink::{Object, Options, PORT, entries, entry_listing, link, listing};
 
 /// A symbol's place: a section, counted from 0, and an offset in it.
 type Place = Option<(usize, u64)>;
 
-/// An object of sections (segment, name, words, records) and symbols.
-fn object(sections: &[(&str, &str, &[u32], &[MachRel])], symbols: &[(&str, Place)]) -> Vec<u8> {
+/// A section: segment, name, words, records.
+type Part<'a> = (&'a str, &'a str, &'a [u32], &'a [MachRel]);
+
+/// An arm64 object of sections and symbols.
+fn object(sections: &[Part], symbols: &[(&str, Place)]) -> Vec<u8> {
     let commands = 72 + 80 * sections.len() as u32 + 24;
     let mut tail = Vec::new();
     let mut put = |bytes: &[u8]| {
@@ -274,4 +278,79 @@ fn broken_links() {
     let due = "Entry 1 of __TEXT,__text, BRANCH26 of _b + 0x4: the branch does not reach 120004008; \
                the word is written all the same, and goes to 100004008.";
     assert_eq!((status, reports), (Some(3), vec![due.into()]));
+}
+
+/// An x86_64 object of sections and symbols.
+fn object_x86_64(sections: &[Part], symbols: &[(&str, Place)]) -> Vec<u8> {
+    let mut bytes = object(sections, symbols);
+    bytes[4] = 7; // CPU_TYPE_X86_64
+    bytes
+}
+
+const X86_64_SYMBOLS: [(&str, Place); 2] = [("_a", Some((0, 4))), ("_b", Some((1, 0)))];
+
+/// What `--entries` lists of an x86_64 object with these records in its second section, which is at 16.
+fn listed_x86_64(records: &[MachRel]) -> Result<String, String> {
+    let first = ("__TEXT", "__text", &[NOP; 4][..], &[][..]);
+    let second = ("__DATA", "__data", &[-8_i32 as u32, 0xffff_ffff, 0x20, 0][..], records);
+    let bytes = object_x86_64(&[first, second], &X86_64_SYMBOLS);
+    let object = Object::parse(&bytes).unwrap();
+    let listed = entries(&object, &PORT).and_then(|lists| entry_listing(&object, &lists));
+    listed.map_err(|fault| fault.to_string())
+}
+
+/// Every field of an entry is listed, the rows by rising offset; entries of one offset are in the order of their records.
+#[test]
+fn entries_of_x86_64() {
+    use ty_x86_64::*;
+    let record = MachRel::new;
+    let records = [
+        record(8, 0, false, 3, true, SUBTRACTOR),
+        record(8, 1, false, 3, true, UNSIGNED),
+        record(8, 1, false, 2, false, UNSIGNED), // the first section, at 0
+        record(0, 1, true, 2, true, SIGNED_4),
+        record(0, 2, true, 2, false, SIGNED_1), // 16 + 0 + 4 - 8 + 1 - 16
+        record(0, 0, true, 0, true, BRANCH),
+        record(4, 0, true, 2, true, TLV),
+    ];
+    let due = "\
+Entries of __DATA,__data
+  no  address  type        size  pc-relative  subtracted  target         addend
+  3   10       SIGNED_4    4     yes          -           _b             -0x4
+  4   10       SIGNED_1    4     yes          -           __DATA,__data  -0x3
+  5   10       BRANCH      1     yes          -           _a             -0x8
+  6   14       TLV         4     yes          -           _a             -0x1
+  0   18       SUBTRACTOR  8     -            -           _a             0x20
+  1   18       UNSIGNED    8     -            yes         _b             0x20
+  2   18       UNSIGNED    4     -            -           __TEXT,__text  0x20
+
+x86_64: 7 entries of 7 relocation records.
+";
+    assert_eq!(listed_x86_64(&records).as_deref(), Ok(due));
+    assert_eq!(listed_x86_64(&[]).as_deref(), Ok("x86_64: 0 entries of 0 relocation records.\n"));
+}
+
+#[test]
+fn refusals_of_x86_64() {
+    let good = MachRel::new(0, 0, true, 2, true, ty_x86_64::BRANCH);
+    let reading = "the relocation records of section __DATA,__data: number";
+    for (bad, expected) in [
+        (
+            MachRel::new(99, 0, true, 2, true, 10),
+            "5: a relocation's type or form is not supported: record 2, offset 0x63, bits 0xad000000",
+        ),
+        (
+            MachRel::new(13, 9, true, 2, false, ty_x86_64::SIGNED),
+            "3: a place is past its bytes, a word past its part, or a part past the image: record 2, offset 0xd, bits 0x15000009",
+        ),
+        (
+            MachRel::new(12, 3, true, 2, false, ty_x86_64::SIGNED),
+            "7: a record names a section that is not there: record 2, offset 0xc, bits 0x15000003",
+        ),
+    ] {
+        assert_eq!(listed_x86_64(&[good, good, bad, good]), Err(format!("{reading} {expected}")));
+    }
+    let absent = MachRel::new(4, 2, true, 2, true, ty_x86_64::GOT);
+    let due = "section __DATA,__data: the entry at offset 4 names symbol 2, and there are 2";
+    assert_eq!(listed_x86_64(&[good, absent]), Err(due.into()));
 }

@@ -1,7 +1,8 @@
 //! The sketches of docs/INTEGRATION.md, against small stand-ins for mold-macho's types. Each block of code there stands
-//! here as it is.
+//! here as it is, or in x86_64.rs.
 
 mod linker;
+mod x86_64;
 
 use std::collections::BTreeMap;
 use std::ops::Range;
@@ -229,15 +230,15 @@ fn apply_hints(ctx: &Context<Arm64>, buf: &mut [u8]) {
     }
 }
 
-/// Each block of Rust in the document stands in this file.
+/// Each block of Rust in the document stands in these files.
 #[test]
 fn sketches_are_these() {
-    let here = include_str!("main.rs");
+    let here = concat!(include_str!("main.rs"), include_str!("x86_64.rs"));
     let document = include_str!("../../../docs/INTEGRATION.md");
     let blocks: Vec<_> = document.split("```rust\n").skip(1).map(|rest| rest.split("```").next().unwrap()).collect();
     assert!(blocks.len() >= 6);
     for block in blocks {
-        assert!(here.contains(block), "not in main.rs:\n{block}");
+        assert!(here.contains(block), "not here:\n{block}");
     }
 }
 

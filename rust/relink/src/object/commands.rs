@@ -4,11 +4,12 @@ use hauklivo::{MachRel, Record};
 
 use super::bytes::{File, name, u32_at, u64_at};
 use super::symbols::Table;
-use super::{MOST, Section, too_many};
+use super::{MOST, Machine, Section, too_many};
 use crate::Fault;
 
 const MAGIC_64: u32 = 0xfeed_facf;
 const CPU_TYPE_ARM64: u32 = 0x0100_000c;
+const CPU_TYPE_X86_64: u32 = 0x0100_0007;
 const FILE_TYPE_OBJECT: u32 = 1;
 
 const HEADER: u64 = 32;
@@ -32,18 +33,24 @@ pub struct Parts<'a> {
     pub hints: Option<(u64, u64)>,
 }
 
+/// The machine that a header names.
+fn machine(header: &[u8]) -> Result<Machine, Fault> {
+    match u32_at(header, 4) {
+        CPU_TYPE_ARM64 => Ok(Machine::Arm64),
+        CPU_TYPE_X86_64 => Ok(Machine::X86_64),
+        cpu => Err(Fault::new(format!("this file is for another processor than arm64 or x86_64 (cpu type {cpu:#x})"))),
+    }
+}
+
 /// Reads the header and the load commands.
-pub fn read(file: File) -> Result<Parts, Fault> {
+pub fn read(file: File) -> Result<(Machine, Parts), Fault> {
     if file.0.len() < 4 || u32_at(file.0, 0) != MAGIC_64 {
         let universal = file.0.starts_with(&[0xca, 0xfe, 0xba, 0xbe]);
-        let first = if universal { " but a universal one: take its arm64 part out first" } else { "" };
+        let first = if universal { " but a universal one: take the part of one machine out first" } else { "" };
         return Err(Fault::new(format!("this is no 64-bit Mach-O file{first}")));
     }
     let header = file.range(0, HEADER, "the header")?;
-    if u32_at(header, 4) != CPU_TYPE_ARM64 {
-        let cpu = u32_at(header, 4);
-        return Err(Fault::new(format!("this file is for another processor than arm64 (cpu type {cpu:#x})")));
-    }
+    let machine = machine(header)?;
     if u32_at(header, 12) != FILE_TYPE_OBJECT {
         let ty = u32_at(header, 12);
         return Err(Fault::new(format!("this Mach-O file is no object file (file type {ty})")));
@@ -59,7 +66,7 @@ pub fn read(file: File) -> Result<Parts, Fault> {
         parts.take(command, number)?;
         rest = after;
     }
-    Ok(parts)
+    Ok((machine, parts))
 }
 
 impl<'a> Parts<'a> {

@@ -5,7 +5,7 @@ mod commands;
 mod hints;
 mod symbols;
 
-use hauklivo::MachRel;
+use hauklivo::{MachRel, Target};
 
 use crate::Fault;
 use bytes::File;
@@ -29,9 +29,30 @@ fn too_many(what: &str) -> Fault {
     Fault::new(format!("there are more than {MOST} {what}"))
 }
 
+/// The machine that an object is for.
+#[derive(Clone, Copy, Debug, PartialEq, Eq)]
+pub enum Machine {
+    /// Its objects are laid out.
+    Arm64,
+    /// Of its objects the entries are read, and no more.
+    X86_64,
+}
+
+impl Machine {
+    /// Its name.
+    pub fn name(self) -> &'static str {
+        match self {
+            Self::Arm64 => "arm64",
+            Self::X86_64 => "x86_64",
+        }
+    }
+}
+
 /// An object file.
 #[derive(Clone, Debug)]
 pub struct Object<'a> {
+    /// What its header says.
+    pub machine: Machine,
     /// By ordinal less 1.
     pub sections: Vec<Section<'a>>,
     /// By number.
@@ -130,10 +151,10 @@ impl<'a> Object<'a> {
     ///
     /// # Errors
     ///
-    /// A sentence for a file that is no arm64 Mach-O object, a damaged one, or one with too much in it.
+    /// A sentence for a file that is no Mach-O object of a [`Machine`], a damaged one, or one with too much in it.
     pub fn parse(bytes: &'a [u8]) -> Result<Self, Fault> {
         let file = File(bytes);
-        let parts = commands::read(file)?;
+        let (machine, parts) = commands::read(file)?;
         let sections = parts.sections(file)?;
         let symbols = match parts.symbols {
             Some(table) => symbols::read(file, &table, sections.len())?,
@@ -143,6 +164,14 @@ impl<'a> Object<'a> {
             Some((offset, size)) => hints::read(file.range(offset, size, "the list of hints")?)?,
             None => Vec::new(),
         };
-        Ok(Self { sections, symbols, hints })
+        Ok(Self { machine, sections, symbols, hints })
+    }
+
+    /// The name of a symbol or section; None where there is none of that number.
+    pub fn name(&self, target: Target) -> Option<&str> {
+        match target {
+            Target::Symbol(number) => self.symbols.get(number as usize).map(|symbol| &*symbol.name),
+            Target::Section(number) => self.sections.get(number as usize).map(|section| &*section.name),
+        }
     }
 }
