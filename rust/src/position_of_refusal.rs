@@ -7,7 +7,7 @@
 //! [`Lengths`](Refusal::Lengths) and [`Slots`](Refusal::Slots) are of whole lists and have no position.
 //! [`LoneAddend`](Refusal::LoneAddend) and [`LoneSubtractor`](Refusal::LoneSubtractor) are of the last
 //! record. For any other number let record k be the one that the list is refused for. Of the records of
-//! an x86_64 object none asks for another, and no prefix without record k is refused. Elsewhere:
+//! an x86_64 object none asks whether another follows, and no prefix without record k is refused. Elsewhere:
 //!
 //! - What a call says of a record depends on no record after it, save that ADDEND and SUBTRACTOR ask
 //!   whether one follows. So a prefix without record k is accepted, or ends in an ADDEND or SUBTRACTOR

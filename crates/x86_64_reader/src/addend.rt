@@ -1,5 +1,8 @@
 // What a relocation record adds: on x86_64 every record has its addend in the bytes that it relocates.
 use macho::byte::read8;
+use macho::consts::X86_64_RELOC_SIGNED_1;
+use macho::consts::X86_64_RELOC_SIGNED_2;
+use macho::consts::X86_64_RELOC_SIGNED_4;
 use macho::mach_rel::MachRel;
 use util::read32;
 use util::read64;
@@ -22,14 +25,16 @@ pub fn width(p2size: u32) -> usize
     }
 }
 
-// For each type the bytes of the instruction that it counts after its field: of SIGNED_1, SIGNED_2 and SIGNED_4.
-const BIAS: [u64; 16] = [0, 0, 0, 0, 0, 0, 1, 2, 4, 0, 0, 0, 0, 0, 0, 0];
+// The bytes of the instruction that a type counts after its field, four bits for each type.
+const BIAS: u64 = (1 << (4 * X86_64_RELOC_SIGNED_1))
+    + (2 << (4 * X86_64_RELOC_SIGNED_2))
+    + (4 << (4 * X86_64_RELOC_SIGNED_4));
 
 // The bias of a record, by its type.
 fn reloc_bias(r: MachRel) -> u64
     ensures { λ n. ⌜ n ≡ biasOf (typeOf (r .bits)) ⌝ }
 {
-    BIAS[r.ty() as usize]
+    (BIAS >> (4 * r.ty())) % 16
 }
 
 // The signed number in the bytes at `at`.
