@@ -1,4 +1,4 @@
-# Every form of relocation record that an x86_64 object can have: each type, of a symbol and of a section, each width.
+# Every form of relocation record that the x86_64 reader takes.
 
 .text
 .globl _code
@@ -61,4 +61,5 @@ _data:
     # differences
     .quad _data - _code + 9
     .long _code - _data - 9
+    # the distance to a GOT slot
     .long _undefined@GOTPCREL + 4

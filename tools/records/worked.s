@@ -1,5 +1,4 @@
-# After the samples of Apple's mach-o/x86_64/reloc.h, in LLVM's syntax: an instruction or a pointer for each form of
-# record that the reader takes.
+# In LLVM's syntax: an instruction or a pointer for each form of record that the x86_64 reader takes.
 .text
 _code:
     callq _foo

@@ -1,4 +1,4 @@
--- The entry of a record (RULES 4.11, 2.15; input_sections.rs, `Reloc`).
+-- The entry of a record (RULES 4.11, 15.8, 2.15; input_sections.rs, `Reloc`).
 use Prim.Native.Nat.{ℕ, _^_}
 use mathlib.Core.Bool.{Bool}
 use mathlib.Core.List.{List}

@@ -1,4 +1,4 @@
--- What two tables, one after the other, read to (RULES 4.15), and sections with their tables (RULES 4.23).
+-- What two tables, one after the other, read to (RULES 4.15, 15.10), and sections with their tables (RULES 4.23).
 use Prim.Native.Nat.{ℕ, _+_, _%_, _^_}
 use mathlib.Core.List.{_++_, map}
 use Rattle.macho.specs.declared.mach_rel.MachRel.{MachRel}

@@ -1,4 +1,4 @@
--- What a relocation record refers to (RULES 4.10; Apple's reloc.h, r_symbolnum).
+-- What a relocation record refers to (RULES 4.10, 15.3, 15.7; Apple's reloc.h, r_symbolnum).
 use Prim.Native.Nat.{ℕ, zero, suc, _+_, _-_}
 use mathlib.Core.Bool.{Bool, not, _&&_, _||_}
 use mathlib.Core.List.{List}

@@ -1,5 +1,5 @@
 -- The reader of x86_64: the laws of its crate, and those of `arch` of its lengths.
-use mathlib.Core.Path.{refl, ap}
+use mathlib.Core.Path.{refl}
 use mathlib.Core.List.{[]}
 use Prim.Native.Nat.{zero-le, _-_}
 use native.Mathlib.Omega.{arith}

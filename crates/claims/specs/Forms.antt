@@ -42,7 +42,7 @@ pub record Forms : Type 0 where
       → hasBit (bitsOf (formsIn table (typeOf (r .bits)))) (formOf (r .bits)) ≡ supportedIn table r
   -- a type past the table's end takes no form
   pub past-table : (table : List (List Form)) (r : MachRel) → length table ≤ typeOf (r .bits) → supportedIn table r ≡ false
-  -- a record is about 1, 4 or 8 bytes; 8 where it is not pc-relative, 1 where it is, and names a symbol
+  -- a record is about 1, 4 or 8 bytes; 8 only where it is not pc-relative, 1 only where it is and names a symbol
   pub sizes : (m : Machine) (r : MachRel) → supportedIn (tableOf m) r ≡ true
       → (p2sizeOf (r .bits) ≡ 0) ⊎ ((p2sizeOf (r .bits) ≡ 2) ⊎ (p2sizeOf (r .bits) ≡ 3))
   pub eight-bytes : (m : Machine) (r : MachRel) → supportedIn (tableOf m) r ≡ true → p2sizeOf (r .bits) ≡ 3 → pcrelOf (r .bits) ≡ 0

@@ -4,18 +4,17 @@ use mathlib.Core.Path.{_≡_}
 use mathlib.Core.Bool.{Bool, true, false}
 use mathlib.Core.List.{List, [], _∷_, _++_}
 use Prim.Native.Nat.{ℕ, _+_, _*_, _-_, _/_, _%_, _^_, _≤_, _<_}
-use lib.Dec.{eqb, ltb}
+use lib.Dec.{ltb}
 use lib.ListN.{length, getD, replicate}
 use Rattle.util.specs.Choice.{choose}
 use Rattle.util.specs.Wrap.{sum}
-use Rattle.util.specs.Word.{le}
 use Rattle.macho.specs.MachRel.{machRelSize, idxOf, pcrelOf, p2sizeOf, externOf, typeOf}
 use Rattle.macho.specs.Reloc.{relocSize}
 use Rattle.macho.specs.Types.{X86-64-RELOC-SUBTRACTOR, X86-64-RELOC-SIGNED-1, X86-64-RELOC-SIGNED-2, X86-64-RELOC-SIGNED-4}
 use Rattle.macho.specs.declared.mach_rel.MachRel.{MachRel}
 use Rattle.macho.specs.declared.reloc.Reloc.{Reloc}
 use Rattle.macho.specs.declared.refusal.Refusal.{Refusal}
-use Rattle.macho.specs.declared.refusal.Refusal.the-variants.{Lengths, Slots, Unsupported, Bounds}
+use Rattle.macho.specs.declared.refusal.Refusal.the-variants.{Unsupported, Bounds}
 use Rattle.macho.specs.declared.refusal.Check.the-variants as C
 use Rattle.arch.specs.Entry.{targeted}
 use Rattle.arch.specs.Form.{appliedBelow}
@@ -36,7 +35,7 @@ use Rattle.claims.specs.Lent.{machRel}
 
 -- the number that the call returns to one record, in a section at 0x1000, with one section in the list
 abbrev pub one : List ℕ → List ℕ → ℕ
-one contents bits = ReaderX86.numberTo contents bits (0x1000 ∷ []) 0x1000 (replicate 24 0)
+one contents table = ReaderX86.numberTo contents table (0x1000 ∷ []) 0x1000 (replicate 24 0)
 
 -- the reader of x86_64
 pub record X86 : Type 0 where

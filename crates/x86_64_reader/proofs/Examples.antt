@@ -24,7 +24,7 @@ number contents records sections address slots = answerNumber (answerTo contents
 
 -- of one record, in a section at 0x1000, with one section in the list
 abbrev one : List ℕ → List ℕ → ℕ
-one contents bits = number contents bits (0x1000 ∷ []) 0x1000 (replicate 24 0)
+one contents table = number contents table (0x1000 ∷ []) 0x1000 (replicate 24 0)
 
 -- each number: 7 bytes of records; one record, 23 bytes of slots; an 8-byte pointer at 1 of 8, a displacement at 1 of 4, a short branch at 4 of 4, an offset of
 -- 2^32 - 1; type 10, a pointer of 2 bytes, a short branch of a section, GOT_LOAD of a section, a SIGNED that is not pc-relative, a SUBTRACTOR of a section;

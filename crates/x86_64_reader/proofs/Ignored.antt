@@ -5,11 +5,11 @@ use mathlib.Core.Bool.{Bool, true, false}
 use mathlib.Core.List.{List}
 use Prim.Native.Nat.{ℕ, zero-le, _+_, _-_, _<_}
 use lib.Dec.{eqb}
-use lib.ListN.{length, getD}
+use lib.ListN.{length}
 use Rattle.util.specs.Choice.{choose}
 use Rattle.util.specs.Wrap.{sum, diff}
 use Rattle.util.specs.Word.{le}
-use Rattle.macho.specs.MachRel.{idxOf, pcrelOf, p2sizeOf, externOf, typeOf}
+use Rattle.macho.specs.MachRel.{pcrelOf, p2sizeOf, externOf, typeOf}
 use Rattle.macho.specs.declared.mach_rel.MachRel.{MachRel}
 use Rattle.arch.specs.Entry.{entryOf}
 use Rattle.arch.specs.Table.{recordAt}

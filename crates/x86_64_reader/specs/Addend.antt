@@ -1,4 +1,4 @@
--- What a relocation record adds (Apple's mach-o/x86_64/reloc.h; arch/x86_64.rs, `read_relocs` and `reloc_bias`; RULES 15.5 to 15.7).
+-- What a relocation record adds (arch/x86_64.rs, `read_relocs` and `reloc_bias`; RULES 15.5 to 15.7).
 use Prim.Native.Nat.{ℕ, _+_}
 use mathlib.Core.List.{List}
 use lib.Dec.{eqb}

@@ -60,7 +60,7 @@ fn own_addend(contents: &[u8], r: MachRel) -> u64
     )
 }
 
-// The same for a symbol; for a section the address that is meant, which a pc-relative field counts from its own end.
+// What a record adds: for a symbol that number; for a section the address that is meant, which a pc-relative field counts from its own end.
 pub fn added_by(contents: &[u8], address: u64, r: MachRel) -> u64
     requires { ⌜ r .offset + widthOf (p2sizeOf (r .bits)) ≤ length (now contents) ⌝ }
     ensures { λ v. ⌜ v ≡ addedBy (now (contents .entry)) address r ⌝ }

@@ -1,7 +1,6 @@
 -- `read_relocs` meets its contract: lengths and first walk decide the case (Lengths); a walk that counts is one that fills (Walk).
 use mathlib.Core.Path.{sym, ap, _∙_}
 use denote.Ref.{now}
-use lib.ListN.{length}
 use Rattle.arch.specs.Walk.{Reading, answerOf, slotsAfter}
 use Rattle.arch.proofs.Walk.{fills-of, kept-of, fit-room}
 use Rattle.arch.proofs.Lengths.{lengths-refuse, lengths-fit}
