@@ -4,7 +4,7 @@ use mathlib.Core.List.{List, [], _∷_}
 use mathlib.Core.Bool.{Bool, true, false}
 use Prim.Native.Nat.{ℕ, zero, suc, zero-le, _+_, _-_, _*_, _/_, _%_, _^_, _<_, _≤_}
 use native.Mathlib.Omega.{arith}
-use lib.ListN.{length, length-append}
+use lib.ListN.{length, getD, length-append}
 use lib.Seq.{sets}
 use lib.Dec.{ltb, eqb}
 use borrow.Author.Tests.{lt-ltb, le-ltb, ltb-false}
@@ -14,13 +14,14 @@ use Rattle.util.proofs.Puts.{put-front}
 use Rattle.macho.specs.Reloc.{relocBytes}
 use Rattle.util.specs.Word.{bytes}
 use Rattle.macho.specs.Record as Record
+use Rattle.macho.specs.Record.{listBytes}
 use Rattle.macho.specs.declared.refusal.Refusal.{Refusal}
 use Rattle.macho.specs.declared.mach_rel.MachRel.{MachRel}
 use Rattle.macho.specs.declared.reloc.Reloc.{Reloc}
 use Rattle.arch.specs.Entry.{enter, targeted}
 use Rattle.arch.specs.Table.{lengthsOf}
 use Rattle.arch.specs.Target.{targetOf}
-use Rattle.arch.specs.Walk.{Reading, refused, entries, before, after, more, readFrom, readAll, Fills, answerOf, bytesOf, slotsAfter}
+use Rattle.arch.specs.Walk.{Reading, refused, entries, before, after, more, readFrom, readAll, Fills, answerOf, slotsAfter}
 use Rattle.arch.specs.Walk.{passing, Reads}
 use Rattle.macho.specs.declared.refusal.Check.{Check}
 use Rattle.macho.specs.declared.refusal.Check.the-variants as C
@@ -188,30 +189,30 @@ few step n es e = subst (AtMost n) e (few-steps step n n 0)
 
 abbrev pub stored : ℕ → Reading → List ℕ → List ℕ
 stored c (refused x) s = s
-stored c (entries es) s = sets s (24 * c) (bytesOf es)
+stored c (entries es) s = sets s (24 * c) (listBytes relocBytes es)
 
 -- an entry has 24 bytes
 pub length-relocBytes : (e : Reloc) → length (relocBytes e) ≡ 24
 unfolding relocBytes Record.bytesOf bytes
 length-relocBytes e = refl
 
-pub length-bytesOf : (es : List Reloc) → length (bytesOf es) ≡ 24 * length es
-unfolding bytesOf
-length-bytesOf [] = refl
-length-bytesOf (e ∷ es) = simp length-append (omega (arith, length-relocBytes e, length-bytesOf es))
+pub length-entries : (es : List Reloc) → length (listBytes relocBytes es) ≡ 24 * length es
+unfolding listBytes
+length-entries [] = refl
+length-entries (e ∷ es) = simp length-append (omega (arith, length-relocBytes e, length-entries es))
 
 stored-all : (k : ℕ) (a : Reading) (s : List ℕ) → AtMost k a → 24 * k ≤ length s → stored 0 a s ≡ slotsAfter a s
 unfolding AtMost
 stored-all k (refused x) s f h = refl
 stored-all k (entries es) s f h =
-    put-front (bytesOf es) s (24 * length es) (length-bytesOf es) (omega arith)
+    put-front (listBytes relocBytes es) s (24 * length es) (length-entries es) (omega arith)
 
 stored-before : (c : ℕ) (e : Reloc) (a : Reading) (s : List ℕ) → Fills a
     → stored (c + 1) a (sets s (24 * c) (relocBytes e)) ≡ stored c (before e a) s
-unfolding bytesOf
+unfolding listBytes
 stored-before c e (refused x) s f = absurd f
 stored-before c e (entries es) s f =
-    sym (sets-append (relocBytes e) (bytesOf es) s (24 * c) (24 * (c + 1)) (omega (arith, length-relocBytes e)))
+    sym (sets-append (relocBytes e) (listBytes relocBytes es) s (24 * c) (24 * (c + 1)) (omega (arith, length-relocBytes e)))
 
 fills-rest : (e : Reloc) (a : Reading) → Fills (before e a) → Fills a
 fills-rest e (refused x) f = f
@@ -250,7 +251,7 @@ module _ (step : ℕ → Step) (n : ℕ) where
       go (S.Read r next) e = tt
 
   pub fill-done : (count i : ℕ) (l : List ℕ) → n ≤ i → stored count (Rest step n count i) l ≡ l
-  unfolding bytesOf
+  unfolding listBytes
   fill-done count i l h = ap (λ (a : Reading). stored count a l) (done step n count i h)
 
 -- ---- from what is returned to the answer
@@ -288,3 +289,39 @@ room records sections slots =
 pub fit-room : (records sections slots : ℕ) → lengthsOf records sections slots ≡ C.Fit → 24 * (records / 8) ≤ slots
 unfolding Room
 fit-room records sections slots e = subst (Room records slots) e (room records sections slots)
+
+-- ---- what holds of the entry that each step reads holds of each entry of the walk
+
+module _ (P : Reloc → Type 0) (none : Reloc) where
+  -- of the entry that a step reads, and of each that a walk reads
+  unfoldable pub Gives : Step → Type 0
+  Gives (S.Refused x) = Unit {0}
+  Gives (S.Read e next) = P e
+
+  pub gives-refused : (x : Refusal) → Gives (S.Refused x)
+  unfolding Gives
+  gives-refused x = tt
+
+  unfoldable pub Each : Reading → Type 0
+  Each (refused x) = Unit {0}
+  Each (entries es) = (k : ℕ) → k < length es → P (getD es k none)
+
+  each-before : (e : Reloc) (a : Reading) → P e → Each a → Each (before e a)
+  unfolding Each
+  each-before e (refused x) p f = tt
+  each-before e (entries es) p f = at
+    where
+      at : (k : ℕ) → k < suc (length es) → P (getD (e ∷ es) k none)
+      at zero l = p
+      at (suc k) l = f k (omega arith)
+
+  each-more : (b : Bool) (s : Step) (rest : ℕ → Reading) → Gives s → ((next : ℕ) → Each (rest next)) → Each (more b s rest)
+  unfolding Gives Each
+  each-more false s rest p f = λ k l. absurd (omega arith)
+  each-more true (S.Refused x) rest p f = tt
+  each-more true (S.Read e next) rest p f = each-before e (rest next) p (f next)
+
+  pub each-from : (step : ℕ → Step) → ((i : ℕ) → Gives (step i)) → (n k i : ℕ) → Each (readFrom step n k i)
+  unfolding readFrom Each
+  each-from step h n zero i = λ k l. absurd (omega arith)
+  each-from step h n (suc k) i = each-more (ltb i n) (step i) (readFrom step n k) (h i) (λ next. each-from step h n k next)

@@ -22,7 +22,7 @@ entryOf r subtracted offset target addend =
       «is_pcrel» = pcrelOf (r .bits);
       «is_subtracted» = flag subtracted;
       target = target;
-      spare = 0;
+      signing = 0;
       addend = addend;
     }
 

@@ -37,6 +37,6 @@ entryLater d e =
       «is_pcrel» = e .«is_pcrel»;
       «is_subtracted» = e .«is_subtracted»;
       target = e .target;
-      spare = e .spare;
+      signing = e .signing;
       addend = e .addend;
     }

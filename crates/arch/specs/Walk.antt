@@ -4,6 +4,7 @@ use mathlib.Core.Bool.{Bool, true, false}
 use mathlib.Core.List.{List, [], _∷_, _++_}
 use lib.ListN.{length, drop}
 use lib.Dec.{ltb}
+use Rattle.macho.specs.Record.{listBytes}
 use Rattle.macho.specs.Reloc.{relocSize, relocBytes}
 use Rattle.macho.specs.declared.refusal.Refusal.{Refusal}
 use Rattle.macho.specs.declared.reloc.Reloc.{Reloc}
@@ -68,12 +69,7 @@ abbrev pub answerOf : Reading → Answer
 answerOf (refused x) = A.Refused x
 answerOf (entries es) = A.Filled (length es)
 
--- the bytes of a list of entries
-unfoldable pub bytesOf : List Reloc → List ℕ
-bytesOf [] = []
-bytesOf (e ∷ es) = relocBytes e ++ bytesOf es
-
 -- the slots at its end: the entries, then the bytes that were there; a refusal leaves all
 abbrev pub slotsAfter : Reading → List ℕ → List ℕ
 slotsAfter (refused x) slots = slots
-slotsAfter (entries es) slots = bytesOf es ++ drop (relocSize * length es) slots
+slotsAfter (entries es) slots = listBytes relocBytes es ++ drop (relocSize * length es) slots

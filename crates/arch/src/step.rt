@@ -24,7 +24,7 @@ pub fn entry_of(r: MachRel, subtracted: bool, offset: u32, target: u32, addend: 
         is_pcrel: r.is_pcrel() as u8,
         is_subtracted: subtracted as u8,
         target,
-        spare: 0,
+        signing: 0,
         addend,
     }
 }

@@ -52,7 +52,7 @@ single kind p n = hintIn kind 0 0 (4 * n) (place 0 0 p) (place 4 1 (p + 4)) (pla
 
 -- a half of one reference, as an entry
 abbrev pub half : ℕ → List ℕ
-half ty = relocBytes (record { offset = 0; ty = ty; size = 4; «is_pcrel» = 1; «is_subtracted» = 0; target = 5; spare = 0; addend = 0 })
+half ty = relocBytes (record { offset = 0; ty = ty; size = 4; «is_pcrel» = 1; «is_subtracted» = 0; target = 5; signing = 0; addend = 0 })
 
 -- both of them
 abbrev pub pair : List ℕ

@@ -41,7 +41,7 @@ use Rattle.arm64_hint_terms.specs.declared.rels.Rels.{Rels}
 abbrev added : ℕ → ℕ → ℕ → Rel
 added ty target addend =
     Entry
-    (record { offset = 0; ty = ty; size = 4; «is_pcrel» = 0; «is_subtracted» = 0; target = target; spare = 0; addend = addend })
+    (record { offset = 0; ty = ty; size = 4; «is_pcrel» = 0; «is_subtracted» = 0; target = target; signing = 0; addend = addend })
 
 -- an entry of a type and a target, with one addend for all
 abbrev entry : ℕ → ℕ → Rel

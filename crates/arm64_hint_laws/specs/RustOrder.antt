@@ -76,7 +76,7 @@ pub record AdrFits (s : Insns) (r : Rels) (d : Add) (addr : ℕ) (ls : LoadStore
 
 -- an entry of a type, of one target
 abbrev half : ℕ → Rel
-half ty = Entry (record { offset = 0; ty = ty; size = 4; «is_pcrel» = 0; «is_subtracted» = 0; target = 5; spare = 0; addend = 16 })
+half ty = Entry (record { offset = 0; ty = ty; size = 4; «is_pcrel» = 0; «is_subtracted» = 0; target = 5; signing = 0; addend = 16 })
 
 -- the halves of one reference on the first two places
 abbrev pub halves : Rels

@@ -52,7 +52,7 @@ plain kind n object start p = hint kind n object start (4 * n) (place 0 0 p) (pl
 
 -- an entry of a type
 abbrev pub entry : ℕ → List ℕ
-entry ty = relocBytes (record { offset = 0; ty = ty; size = 4; «is_pcrel» = 1; «is_subtracted» = 0; target = 5; spare = 0; addend = 0 })
+entry ty = relocBytes (record { offset = 0; ty = ty; size = 4; «is_pcrel» = 1; «is_subtracted» = 0; target = 5; signing = 0; addend = 0 })
 
 -- the halves of one reference
 abbrev pub pair : List ℕ

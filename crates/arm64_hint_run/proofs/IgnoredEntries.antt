@@ -1,5 +1,5 @@
--- Of an entry a run takes type, target and addend: lists of entries that agree in these have the same run, whatever the other bytes hold, the spare
--- ones too. Carried by equal decisions; a hint that is not turned down names entries that are there.
+-- Of an entry a run takes type, target and addend: lists of entries that agree in these have the same run, whatever the other bytes hold,
+-- how a pointer is signed among them. Carried by equal decisions; a hint that is not turned down names entries that are there.
 use mathlib.Core.Path.{_≡_, refl, sym, ap, _∙_}
 use mathlib.Core.Logic.{inl, inr}
 use mathlib.Core.Bool.{Bool, true, false}
@@ -116,13 +116,13 @@ module _ (entries entries′ : List ℕ) (sized : length entries ≡ length entr
             ap (λ (w : Work Tally). imageBy (checkAll (length image) hints (length entries)) image (w .image)) q,
           )
 
--- ---- one byte: the spare ones of an entry
+-- ---- one byte of how an entry's pointer is signed
 
-pub spare-bytes : (entries : List ℕ) (k i v : ℕ) → 12 ≤ i → i < 16 → (image hints : List ℕ)
+pub signing-bytes : (entries : List ℕ) (k i v : ℕ) → 12 ≤ i → i < 16 → (image hints : List ℕ)
     → (runOf image hints (set entries (relocSize * k + i) v) ≡ runOf image hints entries)
     × (imageOf image hints (set entries (relocSize * k + i) v) ≡ imageOf image hints entries)
 unfolding relocAt
-spare-bytes entries k i v h l =
+signing-bytes entries k i v h l =
     run-alike-entries (set entries (relocSize * k + i) v) entries (length-set entries (relocSize * k + i) v)
     (λ j b. record {
       type = beside j 1 4 (lit≤ tt);

@@ -3,3 +3,4 @@ pub mod Record
 pub mod RoundTrip
 pub mod Packed
 pub mod Numbered
+pub mod Signing

@@ -13,7 +13,7 @@ use Rattle.util.specs.Word.{le, put}
 use Rattle.util.proofs.Word.{le-put, le-put-other}
 use Rattle.macho.specs.Record.{Field, _of_, unused, sizeOf, bytesOf, Fits, Zeros, listBytes}
 use Rattle.macho.specs.MachRel.{machRelSize, machRelAt, machRelFields, machRelBytes}
-use Rattle.macho.specs.Reloc.{relocSize, relocAt, relocFields, relocBytes}
+use Rattle.macho.specs.Reloc.{relocSize, relocAt, relocFields, relocBytes, withSigning}
 use Rattle.macho.specs.Resolved.{resolvedSize, resolvedAt, resolvedFields, resolvedBytes}
 use Rattle.macho.specs.Report.{reportSize, reportAt, reportFields, reportBytes}
 use Rattle.macho.specs.Hint.{hintSize, insnAt, hintAt, hintFields, hintBytes}
@@ -147,24 +147,10 @@ hint-ignores s at u v =
     value-ignores hint (1 of _ ∷ 1 of _ ∷ unused ∷ []) _ _ at v refl
     ∙ value-ignores hint (1 of _ ∷ 1 of _ ∷ []) _ s at u refl
 
--- an entry with other spare bytes
-abbrev pub withSpare : Reloc → ℕ → Reloc
-withSpare r x =
-    record {
-      offset = r .offset;
-      ty = r .ty;
-      size = r .size;
-      «is_pcrel» = r .«is_pcrel»;
-      «is_subtracted» = r .«is_subtracted»;
-      target = r .target;
-      spare = x;
-      addend = r .addend;
-    }
-
--- an entry's spare bytes are its spare field and nothing else
-pub reloc-spare : (s : List ℕ) (at v : ℕ) → at + 16 ≤ length s → relocAt (put 4 s (at + 12) v) at ≡ withSpare (relocAt s at) (v % 2 ^ 32)
+-- bytes 12 to 15 of an entry are its field `signing` and nothing else
+pub reloc-signing : (s : List ℕ) (at v : ℕ) → at + 16 ≤ length s → relocAt (put 4 s (at + 12) v) at ≡ withSigning (relocAt s at) (v % 2 ^ 32)
 unfolding relocAt
-reloc-spare s at v l =
+reloc-signing s at v l =
     simp (le-put-other 4 4 s (at + 12) v at (inr (omega arith)), before 1 4 (lit≤ tt), before 1 5 (lit≤ tt), before 1 6 (lit≤ tt), before 1 7 (lit≤ tt))
     (simp (before 4 8 (lit≤ tt), le-put 4 s (at + 12) v (omega arith), le-put-other 8 4 s (at + 12) v (at + 16) (inl (omega arith))))
   where

@@ -3,6 +3,7 @@ pub mod Types
 pub mod Record
 pub mod MachRel
 pub mod Reloc
+pub mod Authenticated
 pub mod Resolved
 pub mod Report
 pub mod Hint

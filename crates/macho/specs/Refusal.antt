@@ -5,6 +5,7 @@ use lib.Seq.{sets}
 use Rattle.macho.specs.declared.refusal.Refusal.{Refusal}
 use Rattle.macho.specs.declared.refusal.Refusal.the-variants.{Lengths, Slots, Bounds, LoneAddend, Unsupported, Unfit}
 use Rattle.macho.specs.declared.refusal.Refusal.the-variants.{NoSection, LoneSubtractor, Overflow, NeedsSymbol, Flags, NoEntry, Malformed, Trailing}
+use Rattle.macho.specs.declared.refusal.Refusal.the-variants.{NotAuthenticated, FarFromImage}
 use Rattle.macho.specs.declared.refusal.Check.{Check}
 use Rattle.macho.specs.declared.refusal.Check.the-variants as C
 use Rattle.macho.specs.declared.refusal.Answer.{Answer}
@@ -26,6 +27,8 @@ numberOf Flags = 11
 numberOf NoEntry = 12
 numberOf Malformed = 13
 numberOf Trailing = 14
+numberOf NotAuthenticated = 15
+numberOf FarFromImage = 16
 
 -- the number of a check: 0 where it is fit
 abbrev pub checkNumber : Check → ℕ

@@ -46,7 +46,7 @@ ARM64-RELOC-TLVP-LOAD-PAGEOFF12 = 9
 abbrev pub ARM64-RELOC-ADDEND : ℕ
 ARM64-RELOC-ADDEND = 10
 
--- a signed pointer, in newer headers
+-- an authenticated pointer of arm64e, in newer headers
 abbrev pub ARM64-RELOC-AUTHENTICATED-POINTER : ℕ
 ARM64-RELOC-AUTHENTICATED-POINTER = 11
 

@@ -23,6 +23,9 @@ pub const ARM64_RELOC_TLVP_LOAD_PAGEOFF12: u8 = 9;
 
 pub const ARM64_RELOC_ADDEND: u8 = 10;
 
+// of newer headers: macho_consts.rs does not have it
+pub const ARM64_RELOC_AUTHENTICATED_POINTER: u8 = 11;
+
 // arm64 linker optimization hint kinds
 pub const LOH_ARM64_ADRP_ADRP: u8 = 1;
 

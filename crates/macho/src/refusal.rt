@@ -2,7 +2,7 @@
 ghost use mathlib.Core.Path.{_≡_};
 ghost use Rattle.macho.specs.Refusal.{numberOf, checkNumber, answerNumber};
 
-// The table's rows, 1 to 14.
+// The table's rows, 1 to 16.
 pub enum Refusal {
     Lengths,
     Slots,
@@ -18,6 +18,8 @@ pub enum Refusal {
     NoEntry,
     Malformed,
     Trailing,
+    NotAuthenticated,
+    FarFromImage,
 }
 
 // What a check says.
@@ -52,6 +54,8 @@ impl Refusal {
             Refusal::NoEntry => 12,
             Refusal::Malformed => 13,
             Refusal::Trailing => 14,
+            Refusal::NotAuthenticated => 15,
+            Refusal::FarFromImage => 16,
         }
     }
 }

@@ -14,7 +14,7 @@ ghost use Rattle.macho.specs.Reloc.{relocSize, relocAt, relocBytes, isSe
 // The bit of a target that names a section.
 pub const TARGET_SECTION: u32 = 0x8000_0000;
 
-// An entry, 24 bytes.
+// An entry, 24 bytes. `signing` is how an authenticated pointer is signed (`authenticated`), and 0 for every other type.
 pub struct Reloc {
     pub offset: u32,
     pub ty: u8,
@@ -22,7 +22,7 @@ pub struct Reloc {
     pub is_pcrel: u8,
     pub is_subtracted: u8,
     pub target: u32,
-    pub spare: u32,
+    pub signing: u32,
     pub addend: u64,
 }
 
@@ -41,7 +41,7 @@ impl Reloc {
             is_pcrel: read8(s, at + 6),
             is_subtracted: read8(s, at + 7),
             target: read32(s, at + 8),
-            spare: read32(s, at + 12),
+            signing: read32(s, at + 12),
             addend: read64(s, at + 16),
         }
     }
@@ -61,7 +61,7 @@ impl Reloc {
             self.is_subtracted,
         );
         write32(s, at + 8, self.target);
-        write32(s, at + 12, self.spare);
+        write32(s, at + 12, self.signing);
         write64(s, at + 16, self.addend);
     }
 

@@ -2,7 +2,7 @@
 use mathlib.Core.Path.{_≡_, refl, sym, ap, _∙_}
 use mathlib.Core.Bool.{Bool, true, false}
 use Prim.Native.Nat.{ℕ, zero, suc, _+_, _-_, _*_, _%_, _^_, _<_, _≤_}
-use native.Mathlib.Nat.{mod-eq-of-lt, mod-mod, suc-mul}
+use native.Mathlib.Nat.{mod-eq-of-lt, mod-lt, mod-mod, suc-mul}
 use native.Mathlib.Omega.{arith}
 use borrow.Author.Tests.{le-ltb, ltb-true, ltb-false}
 use lib.Arith.{digits-mod}
@@ -11,11 +11,19 @@ use lib.Pow.{pow-pos, pow-add, pow-mono, suc-ones}
 use Rattle.util.specs.Choice.{choose}
 use Rattle.util.specs.Bits.{extend}
 use Rattle.util.specs.Wrap.{sum, diff, inRange}
+use Rattle.util.proofs.Choice.{chosen}
 use Rattle.util.proofs.Range.{range-pos}
 
 -- only the n low bits count
 pub extend-low : (x n : ℕ) → extend (x % 2 ^ n) n ≡ extend x n
 extend-low x n = rw (mod-mod x (2 ^ n))
+
+-- it has 64 bits
+pub extend-lt : (x n : ℕ) → n ≤ 64 → extend x n < 2 ^ 64
+extend-lt x n h =
+    let m : 2 ^ n ≤ 2 ^ 64 = pow-mono {j = 64} h in
+    let l : x % 2 ^ n < 2 ^ n = mod-lt x (pow-pos n) in
+    chosen (λ (v : ℕ). v < 2 ^ 64) (ltb (x % 2 ^ n) (2 ^ (n - 1))) _ _ (omega arith) (omega arith)
 
 -- over k words of m, half of which is h
 fits : (d m h k : ℕ) → 0 < h → m ≡ h + h → k * m + m ≡ 2 ^ 64 → d < 2 ^ 64 → (d + h) % 2 ^ 64 < h + h

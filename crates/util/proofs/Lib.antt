@@ -5,6 +5,7 @@ pub mod Word
 pub mod Part
 pub mod Diagram
 pub mod Flags
+pub mod Wrap
 pub mod Range
 pub mod Extend
 pub mod Bytes

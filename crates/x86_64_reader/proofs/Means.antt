@@ -14,6 +14,8 @@ use Rattle.util.specs.Wrap.{sum, diff}
 use Rattle.util.proofs.Below.{every}
 use Rattle.util.proofs.Word.{le-lt}
 use Rattle.util.proofs.Choice.{chosen}
+use Rattle.util.proofs.Extend.{extend-lt}
+use Rattle.util.proofs.Wrap.{sum-lt, sum-diff, diff-sum}
 use Rattle.macho.specs.MachRel.{idxOf, pcrelOf, p2sizeOf, externOf, typeOf}
 use Rattle.macho.specs.Types.{X86-64-RELOC-SIGNED-1, X86-64-RELOC-SIGNED-2, X86-64-RELOC-SIGNED-4}
 use Rattle.macho.specs.declared.mach_rel.MachRel.{MachRel}
@@ -31,14 +33,11 @@ width-is r h =
     (implied _ _ (each-form (λ ty p s e. not (member (form p s e) (formsIn forms ty)) || eqb (widthOf s) (2 ^ s)) refl r) h)
 
 -- what stands in a place has 64 bits
-extend-lt : (x n : ℕ) → 2 ^ n ≤ 2 ^ 64 → x % 2 ^ n < 2 ^ n → extend x n < 2 ^ 64
-extend-lt x n h l = chosen (λ (v : ℕ). v < 2 ^ 64) (ltb (x % 2 ^ n) (2 ^ (n - 1))) _ _ (omega arith) (omega arith)
-
 embedded-lt : (s : List ℕ) (at p : ℕ) → embeddedAt s at p < 2 ^ 64
 unfolding embeddedAt
 embedded-lt s at p =
-    chosen (λ (v : ℕ). v < 2 ^ 64) (eqb p 0) _ _ (extend-lt (le 1 s at) 8 (lit≤ tt) (omega arith))
-    (chosen (λ (v : ℕ). v < 2 ^ 64) (eqb p 2) _ _ (extend-lt (le 4 s at) 32 (lit≤ tt) (omega arith)) (le-lt 8 s at))
+    chosen (λ (v : ℕ). v < 2 ^ 64) (eqb p 0) _ _ (extend-lt (le 1 s at) 8 (lit≤ tt))
+    (chosen (λ (v : ℕ). v < 2 ^ 64) (eqb p 2) _ _ (extend-lt (le 4 s at) 32 (lit≤ tt)) (le-lt 8 s at))
 
 -- the bias of each type
 pub biased : biasOf X86-64-RELOC-SIGNED-1 ∷ biasOf X86-64-RELOC-SIGNED-2 ∷ biasOf X86-64-RELOC-SIGNED-4 ∷ [] ≡ 1 ∷ 2 ∷ 4 ∷ []
@@ -49,18 +48,8 @@ pub unbiased : (ty : ℕ) → (ty ≡ X86-64-RELOC-SIGNED-1 → ⊥) → (ty ≡
 unfolding biasOf choose
 unbiased ty a b c = rw (ne-eqb ty X86-64-RELOC-SIGNED-1 a, ne-eqb ty X86-64-RELOC-SIGNED-2 b, ne-eqb ty X86-64-RELOC-SIGNED-4 c)
 
--- sums and differences that take each other back
-sum-diff : (x y : ℕ) → x < 2 ^ 64 → y < 2 ^ 64 → sum y (diff x y) ≡ x
-sum-diff x y hx hy = omega arith
-
-diff-sum : (x y : ℕ) → x < 2 ^ 64 → y < 2 ^ 64 → diff (sum x y) x ≡ y
-diff-sum x y hx hy = omega arith
-
 sum-four : (a o : ℕ) → sum (sum a o) 4 ≡ sum a (o + 4)
 sum-four a o = omega arith
-
-sum-lt : (a b : ℕ) → sum a b < 2 ^ 64
-sum-lt a b = omega arith
 
 sum-comm : (a b : ℕ) → sum a b ≡ sum b a
 sum-comm a b = ap (λ (n : ℕ). n % 2 ^ 64) {x = a + b} {y = b + a} (omega arith)

@@ -13,7 +13,7 @@ entry offset ty size pcrel subtracted target addend =
       «is_pcrel» = pcrel;
       «is_subtracted» = subtracted;
       target = target;
-      spare = 0;
+      signing = 0;
       addend = addend;
     }
 
