@@ -15,11 +15,11 @@ use Rattle.arm64_insn.specs.LoadStore.{loadStoreOf}
 use Rattle.arm64_insn.specs.LoadStoreTable.{rowOf}
 use Rattle.arm64_reader.specs.Support.{formsOf, supportedOf}
 use Rattle.arm64_reader.specs.Check.{loadedBytes, gotFits, tlvpFits, pointer32, wordCheck, checkReloc}
-use Rattle.arm64_reader.specs.Record.{addendOf, recordOf, stepAt}
+use Rattle.arm64_reader.specs.Record.{addendOf, authenticatedRecord, recordOf, stepAt}
 use Rattle.arm64_reader.specs.Read.{readRecords, readRelocs}
-use Rattle.arm64_reader.specs.Header.{symbol, nothing, isDefined, Meaning, undefined, relocations, meaningFrom, meaningOf}
+use Rattle.arm64_reader.specs.Header.{symbol, not-signed, nothing, isDefined, Meaning, undefined, relocations, meaningFrom, meaningOf}
 use Rattle.arm64_reader.specs.Header.{not-in-header, not-applied, subtractor-last, subtractor-type, subtractor-place, subtractor-size}
-use Rattle.arm64_reader.specs.Header.{addend-form, addend-last, addend-type, addend-place}
+use Rattle.arm64_reader.specs.Header.{addend-form, addend-last, addend-type, addend-place, not-authenticated}
 use Rattle.arm64_reader.specs.Header.{turnAlone, turnMinus, turnPlus}
 
 -- a record's bytes
@@ -35,7 +35,7 @@ pub piece12 : readRelocs (replicate 4 0) (record-of 0 0xa4ffffff ++ record-of 0 
       «is_pcrel» = 1;
       «is_subtracted» = 0;
       target = 5;
-      spare = 0;
+      signing = 0;
       addend = 2 ^ 64 - 1;
     } ∷ [])
 unfolding readRelocs readRecords readAll readFrom choose lengthsOf recordsOf recordsFrom machRelAt le bytes subtractedAt stepAt recordOf checkReloc
@@ -43,11 +43,11 @@ unfolding readRelocs readRecords readAll readFrom choose lengthsOf recordsOf rec
 piece12 = refl
 
 -- the number that a call returns
-abbrev number : List ℕ → List ℕ → List ℕ → List ℕ → ℕ
+abbrev pub number : List ℕ → List ℕ → List ℕ → List ℕ → ℕ
 number contents records sections slots = answerNumber (answerOf (readRelocs contents records sections slots))
 
 -- slots for one record, and a NOP
-abbrev slot : List ℕ
+abbrev pub slot : List ℕ
 slot = replicate 24 0
 
 abbrev nop : List ℕ
@@ -107,7 +107,7 @@ first-number = refl
 -- ---- tables that are not defined, one for each reason
 
 -- what a table means, and how many entries are filled
-abbrev reads : List ℕ → List ℕ → Meaning × ℕ
+abbrev pub reads : List ℕ → List ℕ → Meaning × ℕ
 reads contents records = (meaningOf contents [] (recordsOf records), filledOf (answerOf (readRelocs contents records [] (replicate 48 0))))
 
 -- read all the same: SUBTRACTOR alone; before BRANCH26; before UNSIGNED at another place; before UNSIGNED of another size; ADDEND with the fields of another
@@ -138,16 +138,18 @@ undefined-read = refl
 abbrev refuses : List ℕ → List ℕ → Meaning × ℕ
 refuses contents records = (meaningOf contents [] (recordsOf records), number contents records [] slot)
 
--- refused, by 5 and by 4: PAGE21 that is not pc-relative, and type 12, which the headers do not have; POINTER_TO_GOT of 8 bytes (`.quad _g@GOT`), UNSIGNED of
--- 2, PAGEOFF12 scaled by 8, type 11, which they have and the linker does not apply; ADDEND the last record
+-- refused, by 5, 4 and 15: PAGE21 that is not pc-relative, and type 12, which the headers do not have; POINTER_TO_GOT of 8 bytes (`.quad _g@GOT`), UNSIGNED
+-- of 2, PAGEOFF12 scaled by 8, an authenticated pointer of 4, which they have and the linker does not apply; ADDEND the last record; an authenticated
+-- pointer on zeros
 pub undefined-refused :
     refuses (replicate 8 0) (record-of 0 0x3c000000)
     ∷ refuses (replicate 8 0) (record-of 0 0xcc000000)
     ∷ refuses (replicate 8 0) (record-of 0 0x7e000000)
     ∷ refuses (replicate 8 0) (record-of 0 0x0a000000)
     ∷ refuses (replicate 8 0) (record-of 0 0x4e000000)
-    ∷ refuses (replicate 8 0) (record-of 0 0xbe000000)
+    ∷ refuses (replicate 8 0) (record-of 0 0xbc000000)
     ∷ refuses (replicate 8 0) (record-of 0 0xa4000000)
+    ∷ refuses (replicate 8 0) (record-of 0 0xbe000000)
     ∷ []
     ≡ (undefined not-in-header, 5)
     ∷ (undefined not-in-header, 5)
@@ -156,9 +158,10 @@ pub undefined-refused :
     ∷ (undefined not-applied, 5)
     ∷ (undefined not-applied, 5)
     ∷ (undefined addend-last, 4)
+    ∷ (undefined not-authenticated, 15)
     ∷ []
 unfolding readRelocs readRecords readAll readFrom choose lengthsOf recordsOf recordsFrom machRelAt le bytes subtractedAt stepAt recordOf checkReloc
-    supportedOf formsOf meaningFrom turnAlone isDefined
+    supportedOf formsOf pointer32 authenticatedRecord meaningFrom turnAlone isDefined
 undefined-refused = refl
 
 -- ---- tables that are defined and refused, by 6 and by 5: a TLVP page offset on NOP, a pointer of 4 bytes alone
@@ -166,8 +169,8 @@ pub defined-refused :
     refuses nop (record-of 0 0x9c000000)
     ∷ refuses nop (record-of 0 0x0c000000)
     ∷ []
-    ≡ (relocations (record { ty = 9; place = 0; size = 4; target = symbol 0; addend = 0; minus = nothing } ∷ []), 6)
-    ∷ (relocations (record { ty = 0; place = 0; size = 4; target = symbol 0; addend = 0xffffffff_d503201f; minus = nothing } ∷ []), 5)
+    ≡ (relocations (record { ty = 9; place = 0; size = 4; target = symbol 0; addend = 0; minus = nothing; signing = not-signed } ∷ []), 6)
+    ∷ (relocations (record { ty = 0; place = 0; size = 4; target = symbol 0; addend = 0xffffffff_d503201f; minus = nothing; signing = not-signed } ∷ []), 5)
     ∷ []
 unfolding readRelocs readRecords readAll readFrom choose lengthsOf recordsOf recordsFrom machRelAt le bytes subtractedAt stepAt recordOf checkReloc
     supportedOf formsOf pointer32 addendOf targeted targetOf sectionTarget wordCheck gotFits tlvpFits loadedBytes loadStoreOf

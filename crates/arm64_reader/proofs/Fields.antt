@@ -5,17 +5,20 @@ use mathlib.Core.Bool.{Bool, true, false}
 use mathlib.Core.List.{List, [], _∷_, map}
 use Prim.Native.Nat.{ℕ, zero, suc, _+_, _-_, _<_, _≤_}
 use native.Mathlib.Omega.{arith}
-use borrow.Author.Tests.{ltb-true, ltb-false}
+use borrow.Author.Tests.{ne-eqb, eqb-true, ltb-true, ltb-false}
 use native.Mathlib.Numerals.{add-one}
 use lib.ListN.{length, drop, length-map, drop-of-length-le}
 use lib.Seq.{drop-cons}
 use lib.Dec.{eqb, ltb}
 use Rattle.util.specs.Choice.{choose}
+use Rattle.util.specs.Diagram.{matches}
 use Rattle.util.specs.Word.{le}
 use Rattle.util.proofs.Choice.{split, chosen}
 use Rattle.util.proofs.Bytes.{le-drop}
-use Rattle.macho.specs.MachRel.{typeOf, p2sizeOf}
-use Rattle.macho.specs.Types.{ARM64-RELOC-UNSIGNED}
+use Rattle.macho.specs.Authenticated.{authenticated}
+use Rattle.macho.specs.MachRel.{typeOf, p2sizeOf, externOf}
+use Rattle.macho.specs.Reloc.{withSigning}
+use Rattle.macho.specs.Types.{ARM64-RELOC-UNSIGNED, ARM64-RELOC-AUTHENTICATED-POINTER}
 use Rattle.macho.specs.declared.mach_rel.MachRel.{MachRel}
 use Rattle.macho.specs.declared.reloc.Reloc.{Reloc}
 use Rattle.arch.specs.Entry.{entryOf, enter, targeted}
@@ -25,19 +28,16 @@ use Rattle.arch.proofs.Targets.{target-is}
 use Rattle.arch.specs.Walk.{Reading, refused, entries, before, after, readFrom, readAll}
 use Rattle.arch.specs.declared.target.Target.{Target}
 use Rattle.arch.specs.declared.target.Target.the-variants as T
-use Rattle.macho.specs.declared.refusal.Check.{Check}
-use Rattle.macho.specs.declared.refusal.Check.the-variants as C
 use Rattle.arch.specs.declared.step.Step.{Step}
 use Rattle.arch.specs.declared.step.Step.the-variants as S
 use Rattle.arm64_reader.specs.declared.record.Addend.{Addend}
 use Rattle.arm64_reader.specs.declared.record.Addend.the-variants.{Held, Refused}
-use Rattle.arm64_reader.specs.Check.{checkReloc}
-use Rattle.arch.specs.Walk.{passing}
-use Rattle.arm64_reader.specs.Record.{addendOf, adding, recordOf, stepAt}
+use Rattle.arm64_reader.specs.Record.{addendOf, adding, authenticatedRecord, entered, recordOf, stepAt}
 use Rattle.arm64_reader.specs.Read.{readRecords}
 use Rattle.arch.proofs.Walk.{Within, Later, done-any, turn-suc}
+use Rattle.arm64_reader.proofs.AuthenticatedRecords.{authenticated-symbol, check-passing}
 use Rattle.arm64_reader.proofs.Steps.{step-within, step-onward}
-use Rattle.arm64_reader.specs.Fields.{isAddend, starts, pairs, ownOf, heldIn, entryFrom}
+use Rattle.arm64_reader.specs.Fields.{isAddend, starts, pairs, ownOf, heldIn, signedBy, entryFrom}
 
 -- ---- one step
 
@@ -55,15 +55,16 @@ Names : ℕ → ℕ → Target → Type 0
 Names t a (T.Named u b) = (u ≡ t) × (b ≡ a)
 Names t a (T.Refused x) = Unit {0}
 
-addend-holds : (r : MachRel) (loc : List ℕ) (given : ℕ) → Holds (heldIn r (le 4 loc 0) (le 8 loc 0) given) (addendOf r loc given)
+addend-holds : (r : MachRel) (loc : List ℕ) (given : ℕ) → eqb (typeOf (r .bits)) ARM64-RELOC-AUTHENTICATED-POINTER ≡ false
+    → Holds (heldIn r (le 4 loc 0) (le 8 loc 0) given) (addendOf r loc given)
 unfolding addendOf heldIn Holds choose
-addend-holds r loc given =
+addend-holds r loc given n =
     split P (eqb (typeOf (r .bits)) ARM64-RELOC-UNSIGNED) _ _
     (λ e.
     split P (eqb (p2sizeOf (r .bits)) 2) _ _
     (λ f. chosen P (ltb (length loc) 4) _ _ tt (rw (e, f)))
     (λ f. chosen P (ltb (length loc) 8) _ _ tt (rw (e, f))))
-    (λ e. rw e)
+    (λ e. rw (e, n))
   where
     P : Addend → Type 0
     P = Holds (heldIn r (le 4 loc 0) (le 8 loc 0) given)
@@ -75,32 +76,50 @@ target-names sections r held =
     (chosen (Names (targetIn r) (addendIn sections r held)) (isThere (length sections) r) _ _ (refl, refl) tt)
 
 module _ (sections : List ℕ) (r : MachRel) (subtracted : Bool) (offset next : ℕ) where
-  -- the entry with what it holds
-  abbrev pub entry : ℕ → Reloc
-  entry held = entryOf r subtracted offset (targetIn r) (addendIn sections r held)
+  -- the entry with what it holds, and how its pointer is signed
+  abbrev pub entry : ℕ → ℕ → Reloc
+  entry held signing = withSigning (entryOf r subtracted offset (targetIn r) (addendIn sections r held)) signing
 
-  enter-says : (held : ℕ) (t : Target) → Names (targetIn r) (addendIn sections r held) t → Says (entry held) next (enter r subtracted offset next t)
+  enter-says : (held : ℕ) (t : Target) → Names (targetIn r) (addendIn sections r held) t → Says (entry held 0) next (enter r subtracted offset next t)
   unfolding Says Names
   enter-says held (T.Named u b) n = (ap₂ (entryOf r subtracted offset) (n .0) (n .1), refl)
   enter-says held (T.Refused x) n = tt
 
-  adding-says : (held : ℕ) (a : Addend) → Holds held a → Says (entry held) next (adding sections r subtracted offset next a)
+  adding-says : (held : ℕ) (a : Addend) → Holds held a → Says (entry held 0) next (adding sections r subtracted offset next a)
   unfolding Says Holds targeted
   adding-says held (Held a) h =
-      subst (λ (v : ℕ). Says (entry v) next (targeted sections r subtracted offset a next)) h (enter-says a (targetOf sections r a) (target-names sections r a))
+      subst (λ (v : ℕ). Says (entry v 0) next (targeted sections r subtracted offset a next)) h
+      (enter-says a (targetOf sections r a) (target-names sections r a))
   adding-says held (Refused x) h = tt
 
-  passing-says : (e : Reloc) (c : Check) (s : Step) → Says e next s → Says e next (passing c s)
-  unfolding Says
-  passing-says e C.Fit s h = h
-  passing-says e (C.Refused x) s h = tt
+  authenticated-says : (loc : List ℕ) (given : ℕ) → eqb (typeOf (r .bits)) ARM64-RELOC-AUTHENTICATED-POINTER ≡ true → eqb (externOf (r .bits)) 1 ≡ true
+      → Says (entry (heldIn r (le 4 loc 0) (le 8 loc 0) given) (signedBy r (le 8 loc 0))) next (authenticatedRecord loc r subtracted offset next)
+  unfolding authenticatedRecord heldIn signedBy Says choose
+  authenticated-says loc given t x =
+      let ty = eqb-true (typeOf (r .bits)) ARM64-RELOC-AUTHENTICATED-POINTER t in
+      let u : eqb (typeOf (r .bits)) ARM64-RELOC-UNSIGNED ≡ false = ne-eqb (typeOf (r .bits)) ARM64-RELOC-UNSIGNED (λ e. omega (arith, ty)) in
+      chosen P (ltb (length loc) 8) _ _ tt (chosen P (matches authenticated (le 8 loc 0)) _ _ (rw (t, x, u), refl) tt)
+    where
+      P : Step → Type 0
+      P = Says (entry (heldIn r (le 4 loc 0) (le 8 loc 0) given) (signedBy r (le 8 loc 0))) next
+
+  other-says : (loc : List ℕ) (given : ℕ) → eqb (typeOf (r .bits)) ARM64-RELOC-AUTHENTICATED-POINTER ≡ false
+      → Says (entry (heldIn r (le 4 loc 0) (le 8 loc 0) given) (signedBy r (le 8 loc 0))) next (adding sections r subtracted offset next (addendOf r loc given))
+  unfolding signedBy choose
+  other-says loc given n = rw n (adding-says (heldIn r (le 4 loc 0) (le 8 loc 0) given) (addendOf r loc given) (addend-holds r loc given n))
 
   pub record-says : (loc : List ℕ) (given word pointer : ℕ) → le 4 loc 0 ≡ word → le 8 loc 0 ≡ pointer
-      → Says (entry (heldIn r word pointer given)) next (recordOf loc sections r subtracted offset given next)
-  unfolding recordOf
+      → Says (entry (heldIn r word pointer given) (signedBy r pointer)) next (recordOf loc sections r subtracted offset given next)
+  unfolding recordOf Says
   record-says loc given word pointer ew ep =
-      passing-says (entry (heldIn r word pointer given)) (checkReloc r subtracted loc) _
-      (adding-says (heldIn r word pointer given) (addendOf r loc given) (rw (← ew, ← ep) (addend-holds r loc given)))
+      rw (← ew, ← ep)
+      (check-passing loc r subtracted P (entered loc sections r subtracted offset given next) (λ _. tt)
+      (λ s.
+      split P (eqb (typeOf (r .bits)) ARM64-RELOC-AUTHENTICATED-POINTER) _ _ (λ t. authenticated-says loc given t (authenticated-symbol r s t))
+      (λ n. other-says loc given n)))
+    where
+      P : Step → Type 0
+      P = Says (entry (heldIn r (le 4 loc 0) (le 8 loc 0) given) (signedBy r (le 8 loc 0))) next
 
 -- a step reads the entry that starts at its record, and ends after that entry's own record
 step-says : (contents sections : List ℕ) (first : Bool) (rs : List MachRel) (i : ℕ)

@@ -12,9 +12,13 @@ use lib.ListN.{length, drop, length-drop}
 use lib.Dec.{eqb, ltb}
 use Rattle.util.specs.Bits.{extend}
 use Rattle.util.specs.Choice.{choose}
+use Rattle.util.specs.Diagram.{matches}
+use Rattle.util.specs.Word.{le}
+use Rattle.util.proofs.Bytes.{le-drop}
 use Rattle.util.proofs.Choice.{both, choose-true}
+use Rattle.macho.specs.Authenticated.{authenticated}
 use Rattle.macho.specs.MachRel.{idxOf, p2sizeOf, externOf, typeOf}
-use Rattle.macho.specs.Types.{ARM64-RELOC-UNSIGNED, ARM64-RELOC-SUBTRACTOR, ARM64-RELOC-ADDEND}
+use Rattle.macho.specs.Types.{ARM64-RELOC-UNSIGNED, ARM64-RELOC-SUBTRACTOR, ARM64-RELOC-ADDEND, ARM64-RELOC-AUTHENTICATED-POINTER}
 use Rattle.macho.specs.declared.mach_rel.MachRel.{MachRel}
 use Rattle.macho.specs.declared.reloc.Reloc.{Reloc}
 use Rattle.macho.specs.declared.refusal.Refusal.{Refusal}
@@ -26,6 +30,7 @@ use Rattle.arm64_reader.specs.Check.{pointer32}
 use Rattle.arm64_reader.specs.Record.{recordOf}
 use Rattle.arm64_reader.specs.Read.{readRecords, readRelocs}
 use Rattle.arm64_reader.specs.Header.{Referent, symbol, section, Less, nothing, less, Relocation, isDefined, takesAddend, referentOf, pointerOf, wordOf}
+use Rattle.arm64_reader.specs.Header.{authenticatedOf, not-authenticated}
 use Rattle.arm64_reader.specs.Header.{Reason, lackOf, subtractor-last, subtractor-type, subtractor-place, subtractor-size}
 use Rattle.arm64_reader.specs.Header.{addend-form, addend-last, addend-type, addend-place}
 use Rattle.arm64_reader.specs.Header.{isTolerated, Pending, none, minus, plus, Turn, give, Meaning, undefined, relocations}
@@ -34,7 +39,8 @@ use Rattle.arm64_reader.specs.Said.{namedBy, sayOne, saidFrom, said}
 use Rattle.arm64_reader.proofs.Lengths.{enough}
 use Rattle.arm64_reader.proofs.Lists.{isSubtractor, read-nil, read-past, read-lone, plain-cases, pair-cases}
 use Rattle.arm64_reader.proofs.HeaderForms.{names-symbol}
-use Rattle.arm64_reader.proofs.HeaderRecords.{read-entry, read-formed, read-named, refused-left, named-is, own, say-pointer, say-word}
+use Rattle.arm64_reader.proofs.HeaderRecords.{read-entry, read-formed, read-named, read-authenticated, refused-left, named-is, own, say-pointer}
+use Rattle.arm64_reader.proofs.HeaderRecords.{say-authenticated, say-word}
 use Rattle.arm64_reader.proofs.HeaderTurns as View
 
 -- the refusals that a table of these relocations may meet
@@ -123,18 +129,24 @@ module _ (contents sections : List ℕ) where
   abbrev Ok : Less → Meaning → Reading → Type 0
   Ok = Consistent (length contents) (length sections)
 
+  -- the 8 bytes at a record's place, from there on
+  stored-at : (r : MachRel) → le 8 (drop (r .offset) contents) 0 ≡ le 8 contents (r .offset)
+  stored-at r = le-drop 8 contents (r .offset) 0 ∙ ap (le 8 contents) (omega arith)
+
   -- a record that gives a relocation of its own
   single : (m : Less) (b : Bool) (r : MachRel) (rs : List MachRel) (g : Relocation) (w : Meaning)
       → (typeOf (r .bits) ≡ ARM64-RELOC-ADDEND → ⊥) → (typeOf (r .bits) ≡ ARM64-RELOC-SUBTRACTOR → ⊥) → isDefined r ≡ true
       → g .place ≡ r .offset → g .size ≡ 2 ^ p2sizeOf (r .bits) → g .target ≡ referentOf r
       → ((o : eqb (externOf (r .bits)) 1 ≡ false → idxOf (r .bits) ≡ 0 → ⊥) → sayOne m (own contents sections r b 0 m o) ≡ g)
       → (pointer32 r b ≡ true → isLonePointer32 g ≡ true)
+      → (typeOf (r .bits) ≡ ARM64-RELOC-AUTHENTICATED-POINTER → matches authenticated (le 8 contents (r .offset)) ≡ true)
       → Ok nothing w (readRecords contents sections false rs) → Ok m (withFirst g w) (readRecords contents sections b (r ∷ rs))
-  single m b r rs g w na ns f gp gs gt says lone rest =
+  single m b r rs g w na ns f gp gs gt says lone stored rest =
       plain-cases contents sections b (Ok m (withFirst g w)) r rs na
       (λ h. give-refused _ _ m g w Bounds (λ i. absurd (past h (i .0))))
       (λ h x e. give-refused _ _ m g w x (λ i. ⊎-elim (λ u. inl u) (λ u. inr (u .0, lone (u .1)))
-      (refused-left (drop (r .offset) contents) sections r b (r .offset) 0 1 f (room (i .0)) (subst (Known (length sections)) gt (i .1)) e)))
+      (refused-left (drop (r .offset) contents) sections r b (r .offset) 0 1 f (room (i .0)) (subst (Known (length sections)) gt (i .1))
+      (λ t. ap (matches authenticated) (stored-at r) ∙ stored t) e)))
       (λ h e k q. give-read _ _ m g e w (readRecords contents sections (isSubtractor r) rs)
       (ap (sayOne m) (read-entry _ sections r b _ 0 1 q) ∙ says (read-named _ sections r b _ 0 1 q))
       (λ t. ns (ap (λ (d : Reloc). d .ty) (sym (read-entry _ sections r b _ 0 1 q)) ∙ t))
@@ -154,11 +166,11 @@ module _ (contents sections : List ℕ) where
       pair-cases contents sections false (Ok nothing (withFirst g w)) a r rs t
       (λ h. give-refused _ _ nothing g w Bounds (λ i. absurd (past h (i .0))))
       (λ h x e. give-refused _ _ nothing g w x (λ i. ⊎-elim (λ u. inl u) (λ u. absurd (none-of 0 refl (lone-type r false (u .1))))
-      (refused-left (drop (r .offset) contents) sections r false (r .offset) given 2 f (room (i .0)) (i .1) (here e))))
+      (refused-left (drop (r .offset) contents) sections r false (r .offset) given 2 f (room (i .0)) (i .1) (λ t. absurd (none-of 11 refl t)) (here e))))
       (λ h e k q. give-read _ _ nothing g e w (readRecords contents sections (isSubtractor r) rs)
       (ap (sayOne nothing) (read-entry _ sections r false _ given 2 (here q))
       ∙ say-word contents sections r false given nothing (read-named _ sections r false _ given 2 (here q)) (none-of 0 refl)
-      (names-symbol r f (none-of 0 refl) (none-of 10 refl)))
+      (none-of 11 refl) (names-symbol r f (none-of 0 refl) (none-of 10 refl)))
       (λ u. none-of 1 refl (ap (λ (d : Reloc). d .ty) (sym (read-entry _ sections r false _ given 2 (here q))) ∙ u))
       (rw (ne-eqb (typeOf (r .bits)) ARM64-RELOC-SUBTRACTOR (none-of 1 refl)) rest))
     where
@@ -189,6 +201,16 @@ module _ (contents sections : List ℕ) where
       (λ h. turned-down _ _ m (lackOf r) Bounds)
       (λ h x e. turned-down _ _ m (lackOf r) x)
       (λ h e k q. absurd (true≢false (sym (read-formed _ sections r b _ 0 1 q) ∙ f)))
+
+  -- an authenticated pointer whose stored word is none is refused
+  unauthentic : (r : MachRel) (rs : List MachRel) → typeOf (r .bits) ≡ ARM64-RELOC-AUTHENTICATED-POINTER
+      → matches authenticated (le 8 contents (r .offset)) ≡ false → Ok nothing (undefined not-authenticated) (readRecords contents sections false (r ∷ rs))
+  unauthentic r rs t f =
+      plain-cases contents sections false (Ok nothing (undefined not-authenticated)) r rs (λ a. omega arith)
+      (λ h. turned-down _ _ nothing not-authenticated Bounds)
+      (λ h x e. turned-down _ _ nothing not-authenticated x)
+      (λ h e k q.
+      absurd (true≢false (sym (read-authenticated _ sections r false _ 0 1 q t) ∙ ap (matches authenticated) (stored-at r) ∙ f)))
 
   unformed-pair : (a r : MachRel) (rs : List MachRel) → typeOf (a .bits) ≡ ARM64-RELOC-ADDEND → isDefined r ≡ false
       → Ok nothing (undefined (lackOf r)) (readRecords contents sections false (a ∷ (r ∷ rs)))
@@ -235,7 +257,7 @@ module _ (contents sections : List ℕ) where
       plain-cases contents sections false (Ok nothing w) r rs (λ a. omega arith)
       (λ h. minus-refused _ _ w Bounds (λ ms e i. absurd (past h (minus-inside r rs ms e i))))
       (λ h x e. minus-refused _ _ w x (λ ms d i. ⊎-elim (λ u. inl u) (λ u. absurd (not-unsigned (lone-type r false (u .1))))
-      (refused-left (drop (r .offset) contents) sections r false (r .offset) 0 1 f (room (minus-inside r rs ms d i)) known e)))
+      (refused-left (drop (r .offset) contents) sections r false (r .offset) 0 1 f (room (minus-inside r rs ms d i)) known (λ a. absurd (other-type a)) e)))
       (λ h e k q. minus-read _ _ (referentOf r) e w (readRecords contents sections (isSubtractor r) rs)
       (ap (λ (d : Reloc). d .ty) (read-entry _ sections r false _ 0 1 q) ∙ t)
       (ap (λ (d : Reloc). namedBy (d .target)) (read-entry _ sections r false _ 0 1 q) ∙ named-is r (read-named _ sections r false _ 0 1 q))
@@ -246,6 +268,9 @@ module _ (contents sections : List ℕ) where
 
       not-unsigned : typeOf (r .bits) ≡ ARM64-RELOC-UNSIGNED → ⊥
       not-unsigned u = omega arith
+
+      other-type : typeOf (r .bits) ≡ ARM64-RELOC-AUTHENTICATED-POINTER → ⊥
+      other-type a = omega arith
 
       known : Known (length sections) (referentOf r)
       known = subst (Known (length sections)) (sym (choose-true _ _ _ (names-symbol r f not-unsigned (λ a. omega arith)))) tt
@@ -292,10 +317,16 @@ module _ (contents sections : List ℕ) where
       go (View.subtractor t f) n m p = subtracted r rs t f m
       go (View.pointer t f) n m p =
           single nothing false r rs (pointerOf contents sections r nothing) _ (λ a. omega arith) (λ s. omega arith) f refl refl refl
-          (λ o. say-pointer contents sections r false 0 nothing o t) (lone-says contents sections r false) n
-      go (View.word a s u f) n m p =
+          (λ o. say-pointer contents sections r false 0 nothing o t) (lone-says contents sections r false)
+          (λ a. absurd (omega arith)) n
+      go (View.authenticated-pointer t f w) n m p =
+          single nothing false r rs (authenticatedOf contents r) _ (λ a. omega arith) (λ s. omega arith) f refl refl refl
+          (λ o. say-authenticated contents sections r false 0 nothing o t (names-symbol r f (λ u. omega arith) (λ a. omega arith)))
+          (λ l. let u = lone-type r false l in absurd (omega arith)) (λ _. w) n
+      go (View.other-bits t f w) n m p = unauthentic r rs t w
+      go (View.word a s u t f) n m p =
           single nothing false r rs (wordOf r 0) _ a s f refl refl refl
-          (λ o. say-word contents sections r false 0 nothing o u (names-symbol r f u a)) (λ l. absurd (u (lone-type r false l))) n
+          (λ o. say-word contents sections r false 0 nothing o u t (names-symbol r f u a)) (λ l. absurd (u (lone-type r false l))) (λ e. absurd (t e)) n
   good (r ∷ rs) (minus q) = go (View.after-minus contents sections q r) (good rs none)
     where
       A : Reading
@@ -309,7 +340,7 @@ module _ (contents sections : List ℕ) where
       go View.other-size n = tolerated _ _ (less (referentOf q)) subtractor-size refl A
       go (View.difference u f o z) n =
           single (less (referentOf q)) true r rs (pointerOf contents sections r (less (referentOf q))) _ (λ a. omega arith) (λ s. omega arith) f refl refl refl
-          (λ d. say-pointer contents sections r true 0 (less (referentOf q)) d u) (λ l. absurd (not-lone r l)) n
+          (λ d. say-pointer contents sections r true 0 (less (referentOf q)) d u) (λ l. absurd (not-lone r l)) (λ a. absurd (omega arith)) n
   good (r ∷ rs) (plus a) = λ t. go t (View.after-plus a r) (good rs none)
     where
       A : Reading

@@ -6,13 +6,16 @@ use Prim.Native.Nat.{ℕ}
 use borrow.Author.Tests.{eqb-true, eqb-false}
 use lib.Dec.{eqb}
 use Rattle.util.specs.Bits.{extend}
+use Rattle.util.specs.Diagram.{matches}
+use Rattle.util.specs.Word.{le}
 use Rattle.util.proofs.Choice.{split}
+use Rattle.macho.specs.Authenticated.{authenticated}
 use Rattle.macho.specs.MachRel.{idxOf, p2sizeOf, typeOf}
-use Rattle.macho.specs.Types.{ARM64-RELOC-UNSIGNED, ARM64-RELOC-SUBTRACTOR, ARM64-RELOC-ADDEND}
+use Rattle.macho.specs.Types.{ARM64-RELOC-UNSIGNED, ARM64-RELOC-SUBTRACTOR, ARM64-RELOC-ADDEND, ARM64-RELOC-AUTHENTICATED-POINTER}
 use Rattle.macho.specs.declared.mach_rel.MachRel.{MachRel}
-use Rattle.arm64_reader.specs.Header.{nothing, less, isDefined, takesAddend, referentOf, pointerOf, wordOf, Turn, stop, wait, give}
+use Rattle.arm64_reader.specs.Header.{nothing, less, isDefined, takesAddend, referentOf, pointerOf, authenticatedOf, wordOf, Turn, stop, wait, give}
 use Rattle.arm64_reader.specs.Header.{lackOf, subtractor-type, subtractor-place, subtractor-size, addend-form, addend-type, addend-place}
-use Rattle.arm64_reader.specs.Header.{minus, plus, turnAlone, turnMinus, turnPlus}
+use Rattle.arm64_reader.specs.Header.{not-authenticated, minus, plus, turnAlone, turnMinus, turnPlus}
 
 -- a record that completes nothing
 pub data Alone (contents sections : List ℕ) (r : MachRel) : Turn → Type 0 where
@@ -21,8 +24,12 @@ pub data Alone (contents sections : List ℕ) (r : MachRel) : Turn → Type 0 wh
   unknown : (typeOf (r .bits) ≡ ARM64-RELOC-ADDEND → ⊥) → isDefined r ≡ false → Alone contents sections r (stop (lackOf r))
   subtractor : typeOf (r .bits) ≡ ARM64-RELOC-SUBTRACTOR → isDefined r ≡ true → Alone contents sections r (wait (minus r))
   pointer : typeOf (r .bits) ≡ ARM64-RELOC-UNSIGNED → isDefined r ≡ true → Alone contents sections r (give (pointerOf contents sections r nothing))
+  authenticated-pointer : typeOf (r .bits) ≡ ARM64-RELOC-AUTHENTICATED-POINTER → isDefined r ≡ true
+      → matches authenticated (le 8 contents (r .offset)) ≡ true → Alone contents sections r (give (authenticatedOf contents r))
+  other-bits : typeOf (r .bits) ≡ ARM64-RELOC-AUTHENTICATED-POINTER → isDefined r ≡ true
+      → matches authenticated (le 8 contents (r .offset)) ≡ false → Alone contents sections r (stop not-authenticated)
   word : (typeOf (r .bits) ≡ ARM64-RELOC-ADDEND → ⊥) → (typeOf (r .bits) ≡ ARM64-RELOC-SUBTRACTOR → ⊥) → (typeOf (r .bits) ≡ ARM64-RELOC-UNSIGNED → ⊥)
-      → isDefined r ≡ true → Alone contents sections r (give (wordOf r 0))
+      → (typeOf (r .bits) ≡ ARM64-RELOC-AUTHENTICATED-POINTER → ⊥) → isDefined r ≡ true → Alone contents sections r (give (wordOf r 0))
 
 pub alone : (contents sections : List ℕ) (r : MachRel) → Alone contents sections r (turnAlone contents sections r)
 unfolding turnAlone
@@ -34,8 +41,15 @@ alone contents sections r =
     (λ f.
     split A (eqb ty ARM64-RELOC-SUBTRACTOR) _ _ (λ s. subtractor (eqb-true ty ARM64-RELOC-SUBTRACTOR s) f)
     (λ s.
+    split A (eqb ty ARM64-RELOC-AUTHENTICATED-POINTER) _ _
+    (λ t.
+    let p = eqb-true ty ARM64-RELOC-AUTHENTICATED-POINTER t in
+    split A (matches authenticated (le 8 contents (r .offset))) _ _ (λ m. authenticated-pointer p f m) (λ m. other-bits p f m))
+    (λ t.
     split (λ m. A (give m)) (eqb ty ARM64-RELOC-UNSIGNED) _ _ (λ u. pointer (eqb-true ty ARM64-RELOC-UNSIGNED u) f)
-    (λ u. word (eqb-false ty ARM64-RELOC-ADDEND a) (eqb-false ty ARM64-RELOC-SUBTRACTOR s) (eqb-false ty ARM64-RELOC-UNSIGNED u) f)))
+    (λ u.
+    word (eqb-false ty ARM64-RELOC-ADDEND a) (eqb-false ty ARM64-RELOC-SUBTRACTOR s) (eqb-false ty ARM64-RELOC-UNSIGNED u)
+    (eqb-false ty ARM64-RELOC-AUTHENTICATED-POINTER t) f))))
     (λ f. unknown (eqb-false ty ARM64-RELOC-ADDEND a) f))
   where
     ty : ℕ

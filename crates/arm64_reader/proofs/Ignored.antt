@@ -14,8 +14,9 @@ use Rattle.util.specs.Choice.{choose}
 use Rattle.util.specs.Word.{le}
 use Rattle.util.proofs.Bytes.{le-drop}
 use Rattle.macho.specs.MachRel.{idxOf, typeOf, p2sizeOf, externOf}
+use Rattle.macho.specs.Reloc.{withSigning}
 use Rattle.macho.specs.Types.{ARM64-RELOC-UNSIGNED, ARM64-RELOC-SUBTRACTOR, ARM64-RELOC-GOT-LOAD-PAGEOFF12, ARM64-RELOC-TLVP-LOAD-PAGEOFF12}
-use Rattle.macho.specs.Types.{ARM64-RELOC-ADDEND}
+use Rattle.macho.specs.Types.{ARM64-RELOC-ADDEND, ARM64-RELOC-AUTHENTICATED-POINTER}
 use Rattle.macho.specs.declared.mach_rel.MachRel.{MachRel}
 use Rattle.macho.specs.declared.reloc.Reloc.{Reloc}
 use Rattle.arch.specs.Entry.{entryOf, enter, targeted}
@@ -33,7 +34,7 @@ use Rattle.arm64_reader.specs.declared.record.Addend.{Addend}
 use Rattle.arm64_reader.specs.declared.record.Addend.the-variants.{Held, Refused}
 use Rattle.arm64_reader.specs.Check.{wordCheck, checkReloc}
 use Rattle.arch.specs.Walk.{passing}
-use Rattle.arm64_reader.specs.Record.{addendOf, adding, recordOf, ownAt, stepAt}
+use Rattle.arm64_reader.specs.Record.{addendOf, adding, authenticatedRecord, entered, recordOf, ownAt, stepAt}
 use Rattle.arm64_reader.specs.Read.{readRecords, endsIn, NoLastAddend, readRelocs}
 use Rattle.arm64_reader.specs.Fields.{isAddend, ownOf, lookedAt}
 use Rattle.arm64_reader.proofs.Steps.{past-is, pair-is, pair-ends, step-onward}
@@ -65,6 +66,10 @@ looked-word r e h = rw (e, h)
 looked-pointer : (r : MachRel) → typeOf (r .bits) ≡ ARM64-RELOC-UNSIGNED → eqb (p2sizeOf (r .bits)) 2 ≡ false → lookedAt r ≡ 8
 unfolding lookedAt choose
 looked-pointer r e h = rw (e, h)
+
+looked-authenticated : (r : MachRel) → typeOf (r .bits) ≡ ARM64-RELOC-AUTHENTICATED-POINTER → lookedAt r ≡ 8
+unfolding lookedAt choose
+looked-authenticated r e = rw e
 
 word-same : (ty : ℕ) (loc lac : List ℕ) → length loc ≡ length lac → le 4 loc 0 ≡ le 4 lac 0 → wordCheck ty loc ≡ wordCheck ty lac
 unfolding wordCheck
@@ -129,12 +134,26 @@ module _ (loc lac sections others : List ℕ) (r : MachRel) where
   adding-same subtracted offset next (Held a) m = ap (enter r subtracted offset next) (target-same a m)
   adding-same subtracted offset next (Refused x) m = refl
 
+  authenticated-same : (subtracted : Bool) (offset next : ℕ) → typeOf (r .bits) ≡ ARM64-RELOC-AUTHENTICATED-POINTER → Same
+      → authenticatedRecord loc r subtracted offset next ≡ authenticatedRecord lac r subtracted offset next
+  unfolding authenticatedRecord
+  authenticated-same subtracted offset next t m = rw (m .room, bytes-same 8 m (looked-authenticated r t))
+
+  entered-same : (subtracted : Bool) (offset given next : ℕ) → Same
+      → entered loc sections r subtracted offset given next ≡ entered lac others r subtracted offset given next
+  unfolding choose
+  entered-same subtracted offset given next m = go (eqb (typeOf (r .bits)) ARM64-RELOC-AUTHENTICATED-POINTER) refl
+    where
+      go : (t : Bool) → eqb (typeOf (r .bits)) ARM64-RELOC-AUTHENTICATED-POINTER ≡ t
+          → entered loc sections r subtracted offset given next ≡ entered lac others r subtracted offset given next
+      go true e = rw e (authenticated-same subtracted offset next (eqb-true (typeOf (r .bits)) ARM64-RELOC-AUTHENTICATED-POINTER e) m)
+      go false e = rw (e, addend-same given m) (adding-same subtracted offset next (addendOf r lac given) m)
+
   record-same : (subtracted : Bool) (offset given next : ℕ) → Same
       → recordOf loc sections r subtracted offset given next ≡ recordOf lac others r subtracted offset given next
   unfolding recordOf
   record-same subtracted offset given next m =
-      rw (check-same subtracted m, addend-same given m)
-      (ap (passing (checkReloc r subtracted lac)) (adding-same subtracted offset next (addendOf r lac given) m))
+      rw (check-same subtracted m) (ap (passing (checkReloc r subtracted lac)) (entered-same subtracted offset given next m))
 
 -- two contents and two section lists of the same lengths that agree in the words that entries' own records are read against, and in the addresses of the
 -- sections that they name
@@ -219,7 +238,7 @@ module _ (contents sections : List ℕ) (first : Bool) (ys : List MachRel) (a b 
           past-is contents sections first rs 0 (omega arith) ∙ sym (past-is contents sections first qs 0 h)
       go false e =
           let h = ltb-false (length contents) (b .offset) e in
-          let s = same-record 0 (λ (x : Reloc). x) (b .offset) (a .offset) (λ m s t v. ap (λ (o : ℕ). entryOf m s o t v) (sym offsets))
+          let s = same-record 0 (λ (x : Reloc). x) (b .offset) (a .offset) (λ m s t v x. ap (λ (o : ℕ). withSigning (entryOf m s o t v) x) (sym offsets))
           (drop (a .offset) contents) (drop (b .offset) contents) sections r q false false (extend (idxOf (a .bits)) 24) (extend (idxOf (b .bits)) 24) 2 2
           (ap (λ (o : ℕ). drop o contents) offsets) owns refl (ap (λ (i : ℕ). extend i 24) indices) refl in
           pair-is contents sections first rs 0 (omega arith) ta (omega arith)
@@ -244,7 +263,7 @@ module _ (contents sections : List ℕ) (first : Bool) (ys : List MachRel) (a b 
       step-moved 0 (λ (x : Reloc). x) contents contents sections first first rs qs (suc (suc k)) (suc (suc k))
       (record {
         number = omega arith;
-        shifts = λ m s t v. refl;
+        shifts = λ m s t v x. refl;
         inside = refl;
         loc = refl;
         bits = refl;

@@ -13,7 +13,9 @@ use Rattle.util.specs.Choice.{choose}
 use Rattle.util.specs.Word.{le}
 use Rattle.util.proofs.Bytes.{le-append-left}
 use Rattle.macho.specs.MachRel.{typeOf, p2sizeOf}
+use Rattle.macho.specs.Reloc.{withSigning}
 use Rattle.macho.specs.Types.{ARM64-RELOC-UNSIGNED, ARM64-RELOC-SUBTRACTOR, ARM64-RELOC-ADDEND, ARM64-RELOC-GOT-LOAD-PAGEOFF12, ARM64-RELOC-TLVP-LOAD-PAGEOFF12}
+use Rattle.macho.specs.Types.{ARM64-RELOC-AUTHENTICATED-POINTER}
 use Rattle.macho.specs.declared.mach_rel.MachRel.{MachRel}
 use Rattle.macho.specs.declared.reloc.Reloc.{Reloc}
 use Rattle.macho.specs.declared.refusal.Refusal.the-variants.{Bounds}
@@ -34,7 +36,7 @@ use Rattle.arch.specs.Entry.{targeted}
 use Rattle.arch.specs.Target.{targetOf}
 use Rattle.arm64_reader.specs.Support.{supportedOf, formsOf}
 use Rattle.arch.specs.Walk.{passing, Reads}
-use Rattle.arm64_reader.specs.Record.{addendOf, adding, recordOf, stepAt}
+use Rattle.arm64_reader.specs.Record.{addendOf, adding, authenticatedRecord, entered, recordOf, stepAt}
 use Rattle.arm64_reader.specs.Read.{readRecords, endsIn}
 use Rattle.arm64_reader.proofs.Steps.{past-is, lone-is, pair-is, other-is, step-onward, step-within}
 use Rattle.arm64_reader.proofs.Moves.{step-moved}
@@ -118,13 +120,33 @@ module _ (loc more : List ℕ) where
           let l = ltb-false (length loc) 8 q in
           rw (u, p, q, le-ltb (length (loc ++ more)) 8 (longer 8 l), le-append-left 8 loc more 0 l)
 
+  authenticated-longer : (r : MachRel) (subtracted : Bool) (offset next : ℕ) → Reads (authenticatedRecord loc r subtracted offset next)
+      → authenticatedRecord (loc ++ more) r subtracted offset next ≡ authenticatedRecord loc r subtracted offset next
+  unfolding authenticatedRecord choose
+  authenticated-longer r subtracted offset next h = go (ltb (length loc) 8) refl
+    where
+      go : (t : Bool) → ltb (length loc) 8 ≡ t → authenticatedRecord (loc ++ more) r subtracted offset next ≡ authenticatedRecord loc r subtracted offset next
+      go true e = absurd (rw e at h)
+      go false e =
+          let l = ltb-false (length loc) 8 e in
+          rw (e, le-ltb (length (loc ++ more)) 8 (longer 8 l), le-append-left 8 loc more 0 l)
+
+  entered-longer : (sections : List ℕ) (r : MachRel) (subtracted : Bool) (offset given next : ℕ) → Reads (entered loc sections r subtracted offset given next)
+      → entered (loc ++ more) sections r subtracted offset given next ≡ entered loc sections r subtracted offset given next
+  unfolding choose
+  entered-longer sections r subtracted offset given next h = go (eqb (typeOf (r .bits)) ARM64-RELOC-AUTHENTICATED-POINTER) refl
+    where
+      go : (t : Bool) → eqb (typeOf (r .bits)) ARM64-RELOC-AUTHENTICATED-POINTER ≡ t
+          → entered (loc ++ more) sections r subtracted offset given next ≡ entered loc sections r subtracted offset given next
+      go true e = rw e (authenticated-longer r subtracted offset next (rw e at h))
+      go false e = rw (e, addend-longer r given (reads-kept sections r subtracted offset next (addendOf r loc given) (rw e at h)))
+
   record-longer : (sections : List ℕ) (r : MachRel) (subtracted : Bool) (offset given next : ℕ) → Reads (recordOf loc sections r subtracted offset given next)
       → recordOf (loc ++ more) sections r subtracted offset given next ≡ recordOf loc sections r subtracted offset given next
   unfolding recordOf
   record-longer sections r subtracted offset given next h =
       let p = reads-passed (checkReloc r subtracted loc) _ h in
-      let k = reads-kept sections r subtracted offset next (addendOf r loc given) (p .1) in
-      rw (check-longer r subtracted (p .0), addend-longer r given k)
+      rw (check-longer r subtracted (p .0), entered-longer sections r subtracted offset given next (p .1))
 
 module _ (c more sections : List ℕ) (first : Bool) (rs : List MachRel) (i : ℕ) where
   abbrev off : ℕ
@@ -229,7 +251,7 @@ module _ (c pad e sections : List ℕ) (first : Bool) (xs ys : List MachRel) (fi
       step-moved 0 (entryLater d) whole e sections last last zs ys j j
       (record {
         number = omega arith;
-        shifts = λ r s t a. ap (λ (q : ℕ). entryOf r s q t a) (sym o);
+        shifts = λ r s t a x. ap (λ (q : ℕ). withSigning (entryOf r s q t a) x) (sym o);
         inside = le-ltb (length whole) (recordAt zs j .offset) (omega arith) ∙ sym (le-ltb (length e) (recordAt ys j .offset) i);
         loc = drop-in j o;
         bits = move-bits d ys j;
@@ -286,6 +308,6 @@ wrapping = record { offset = 0; bits = 0xa4000001 } ∷ (record { offset = 0xfff
 -- that asked for agreement there would not speak of this table
 pub untaken : (stepAt (replicate 4 0) [] false wrapping 1 ≡ S.Refused Bounds)
     × (stepAt (replicate 8 0) [] false (map (recordLater 4) wrapping) 1
-    ≡ S.Read (record { offset = 3; ty = 3; size = 4; «is_pcrel» = 1; «is_subtracted» = 0; target = 5; spare = 0; addend = 0 }) 2)
+    ≡ S.Read (record { offset = 3; ty = 3; size = 4; «is_pcrel» = 1; «is_subtracted» = 0; target = 5; signing = 0; addend = 0 }) 2)
 unfolding stepAt recordOf checkReloc wordCheck supportedOf formsOf pointer32 addendOf targeted targetOf subtractedAt choose
 untaken = (refl, refl)

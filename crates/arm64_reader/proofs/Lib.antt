@@ -1,5 +1,6 @@
 -- Laws that belong to no one function, and the theorems on reading.
 pub mod PlainRecords
+pub mod AuthenticatedRecords
 pub mod Steps
 pub mod Moves
 pub mod Tables
@@ -7,6 +8,8 @@ pub mod Joins
 pub mod Lists
 pub mod Lengths
 pub mod Fields
+pub mod Slots
+pub mod AuthenticatedTables
 pub mod Ignored
 pub mod Words
 pub mod HeaderForms
@@ -14,3 +17,4 @@ pub mod HeaderRecords
 pub mod HeaderTurns
 pub mod HeaderTables
 pub mod Examples
+pub mod AuthenticatedExamples

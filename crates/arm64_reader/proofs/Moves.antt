@@ -1,5 +1,5 @@
 -- A step depends on its records' bits, on the contents from its offset on and on where the list stands: what agrees in these reads alike.
-use mathlib.Core.Path.{_≡_, refl, sym, ap, _∙_}
+use mathlib.Core.Path.{_≡_, refl, sym, ap, ap₂, _∙_}
 use mathlib.Core.Bool.{Bool, true, false}
 use mathlib.Core.List.{List}
 use Prim.Native.Nat.{ℕ, _+_, _<_}
@@ -8,10 +8,17 @@ use borrow.Author.Tests.{ltb-true, ltb-false, eqb-true, eqb-false}
 use lib.ListN.{length, drop}
 use lib.Dec.{eqb, ltb}
 use Rattle.util.specs.Bits.{extend}
+use Rattle.util.specs.Choice.{choose}
+use Rattle.util.specs.Diagram.{matches}
+use Rattle.util.specs.Word.{le}
+use Rattle.util.proofs.Choice.{choose-ap}
+use Rattle.macho.specs.Authenticated.{authenticated, signingIn}
 use Rattle.macho.specs.MachRel.{idxOf, typeOf}
-use Rattle.macho.specs.Types.{ARM64-RELOC-SUBTRACTOR, ARM64-RELOC-ADDEND}
+use Rattle.macho.specs.Reloc.{withSigning}
+use Rattle.macho.specs.Types.{ARM64-RELOC-SUBTRACTOR, ARM64-RELOC-ADDEND, ARM64-RELOC-AUTHENTICATED-POINTER}
 use Rattle.macho.specs.declared.mach_rel.MachRel.{MachRel}
 use Rattle.macho.specs.declared.reloc.Reloc.{Reloc}
+use Rattle.macho.specs.declared.refusal.Refusal.the-variants.{Bounds, NotAuthenticated}
 use Rattle.arch.specs.Entry.{entryOf, enter, targeted}
 use Rattle.arch.specs.Join.{moved}
 use Rattle.arch.specs.Table.{recordAt, subtractedAt}
@@ -27,7 +34,7 @@ use Rattle.arm64_reader.specs.declared.record.Addend.the-variants.{Held,
 use Rattle.arm64_reader.specs.Support.{supportedOf}
 use Rattle.arm64_reader.specs.Check.{pointer32, checkReloc}
 use Rattle.arch.specs.Walk.{passing}
-use Rattle.arm64_reader.specs.Record.{addendOf, adding, recordOf, stepAt}
+use Rattle.arm64_reader.specs.Record.{addendOf, adding, authenticatedRecord, entered, recordOf, stepAt}
 use Rattle.arm64_reader.proofs.Steps.{past-is, lone-is, pair-is, other-is}
 
 -- a record counts by its bits alone
@@ -46,16 +53,21 @@ module _ (sections : List ℕ) (r : MachRel) (subtracted : Bool) (offset next : 
 
   by-bits : (loc : List ℕ) (addend : ℕ)
       → recordOf loc sections r subtracted offset addend next ≡ recordOf loc sections (bare (r .bits)) subtracted offset addend next
-  unfolding recordOf checkReloc supportedOf pointer32 addendOf
-  by-bits loc addend = ap (passing (checkReloc r subtracted loc)) (addend-bits (addendOf r loc addend))
+  unfolding recordOf checkReloc supportedOf pointer32 addendOf authenticatedRecord
+  by-bits loc addend =
+      ap (λ (s : Step). passing (checkReloc r subtracted loc)
+      (choose (eqb (typeOf (r .bits)) ARM64-RELOC-AUTHENTICATED-POINTER) (authenticatedRecord loc r subtracted offset next) s))
+      (addend-bits (addendOf r loc addend))
 
--- f takes an entry at one offset to the same entry at another
+-- f takes an entry at one offset to the same entry at another, however its pointer is signed
 abbrev pub Shifts : (Reloc → Reloc) → ℕ → ℕ → Type 0
-Shifts f from to = (r : MachRel) (subtracted : Bool) (target addend : ℕ) → f (entryOf r subtracted from target addend) ≡ entryOf r subtracted to target addend
+Shifts f from to =
+    (r : MachRel) (subtracted : Bool) (target addend signing : ℕ)
+    → f (withSigning (entryOf r subtracted from target addend) signing) ≡ withSigning (entryOf r subtracted to target addend) signing
 
 module _ (d : ℕ) (f : Reloc → Reloc) (from to : ℕ) (shifts : Shifts f from to) where
   target-moved : (r : MachRel) (subtracted : Bool) (next : ℕ) (t : Target) → enter r subtracted to (d + next) t ≡ moved d f (enter r subtracted from next t)
-  target-moved r subtracted next (T.Named target addend) = ap (λ (e : Reloc). S.Read e (d + next)) (sym (shifts r subtracted target addend))
+  target-moved r subtracted next (T.Named target addend) = ap (λ (e : Reloc). S.Read e (d + next)) (sym (shifts r subtracted target addend 0))
   target-moved r subtracted next (T.Refused x) = refl
 
   addend-moved : (sections : List ℕ) (r : MachRel) (subtracted : Bool) (next : ℕ) (a : Addend)
@@ -63,6 +75,24 @@ module _ (d : ℕ) (f : Reloc → Reloc) (from to : ℕ) (shifts : Shifts f from
   unfolding targeted
   addend-moved sections r subtracted next (Held addend) = target-moved r subtracted next (targetOf sections r addend)
   addend-moved sections r subtracted next (Refused x) = refl
+
+  authenticated-moved : (loc : List ℕ) (r : MachRel) (subtracted : Bool) (next : ℕ)
+      → authenticatedRecord loc r subtracted to (d + next) ≡ moved d f (authenticatedRecord loc r subtracted from next)
+  unfolding authenticatedRecord
+  authenticated-moved loc r subtracted next =
+      let word = le 8 loc 0 in
+      ap (choose (ltb (length loc) 8) (S.Refused Bounds))
+      (ap (λ (e : Reloc). choose (matches authenticated word) (S.Read e (d + next)) (S.Refused NotAuthenticated))
+      (sym (shifts r subtracted (idxOf (r .bits)) (extend word 32) (signingIn word)))
+      ∙ sym (choose-ap (moved d f) (matches authenticated word) _ _))
+      ∙ sym (choose-ap (moved d f) (ltb (length loc) 8) _ _)
+
+  entered-moved : (loc sections : List ℕ) (r : MachRel) (subtracted : Bool) (addend next : ℕ)
+      → entered loc sections r subtracted to addend (d + next) ≡ moved d f (entered loc sections r subtracted from addend next)
+  entered-moved loc sections r subtracted addend next =
+      ap₂ (choose (eqb (typeOf (r .bits)) ARM64-RELOC-AUTHENTICATED-POINTER)) (authenticated-moved loc r subtracted next)
+      (addend-moved sections r subtracted next (addendOf r loc addend))
+      ∙ sym (choose-ap (moved d f) (eqb (typeOf (r .bits)) ARM64-RELOC-AUTHENTICATED-POINTER) _ _)
 
   check-moved : (c : Check) (s t : Step) → s ≡ moved d f t → passing c s ≡ moved d f (passing c t)
   check-moved C.Fit s t e = e
@@ -73,7 +103,7 @@ module _ (d : ℕ) (f : Reloc → Reloc) (from to : ℕ) (shifts : Shifts f from
       → recordOf loc sections r subtracted to addend (d + next) ≡ moved d f (recordOf loc sections r subtracted from addend next)
   unfolding recordOf
   record-moved loc sections r subtracted addend next =
-      check-moved (checkReloc r subtracted loc) _ _ (addend-moved sections r subtracted next (addendOf r loc addend))
+      check-moved (checkReloc r subtracted loc) _ _ (entered-moved loc sections r subtracted addend next)
 
   pub same-record : (l k sections : List ℕ) (r q : MachRel) (s t : Bool) (a b m n : ℕ) → l ≡ k → r .bits ≡ q .bits → s ≡ t → a ≡ b → m ≡ d + n
       → recordOf l sections r s to a m ≡ moved d f (recordOf k sections q t from b n)

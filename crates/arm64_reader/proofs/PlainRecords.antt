@@ -13,6 +13,7 @@ use Rattle.util.proofs.Below.{every, every-at}
 use Rattle.util.proofs.Choice.{both}
 use Rattle.macho.specs.MachRel.{idxOf, p2sizeOf, externOf, typeOf}
 use Rattle.macho.specs.Types.{ARM64-RELOC-UNSIGNED, ARM64-RELOC-GOT-LOAD-PAGEOFF12, ARM64-RELOC-TLVP-LOAD-PAGEOFF12, ARM64-RELOC-ADDEND}
+use Rattle.macho.specs.Types.{ARM64-RELOC-AUTHENTICATED-POINTER}
 use Rattle.macho.specs.declared.mach_rel.MachRel.{MachRel}
 use Rattle.arch.specs.Entry.{entryOf, targeted}
 use Rattle.arch.specs.Form.{form, member}
@@ -35,9 +36,9 @@ Plain r =
 module _ (r : MachRel) where
   by-tests : supportedOf r ≡ true → eqb (externOf (r .bits)) 1 ≡ true → eqb (typeOf (r .bits)) ARM64-RELOC-UNSIGNED ≡ false
       → eqb (typeOf (r .bits)) ARM64-RELOC-GOT-LOAD-PAGEOFF12 ≡ false → eqb (typeOf (r .bits)) ARM64-RELOC-TLVP-LOAD-PAGEOFF12 ≡ false
-      → eqb (typeOf (r .bits)) ARM64-RELOC-ADDEND ≡ false → Plain r
+      → eqb (typeOf (r .bits)) ARM64-RELOC-ADDEND ≡ false → eqb (typeOf (r .bits)) ARM64-RELOC-AUTHENTICATED-POINTER ≡ false → Plain r
   unfolding recordOf checkReloc pointer32 addendOf targeted targetOf choose
-  by-tests s x u g t a = (eqb-false _ _ a, λ loc sections subtracted offset next. simp (s, x, u, g, t))
+  by-tests s x u g t a n = (eqb-false _ _ a, λ loc sections subtracted offset next. simp (s, x, u, g, t, n))
 
   -- and what a plain one has
   tests : plainOf r ≡ true → supportedOf r ≡ true
@@ -48,7 +49,8 @@ module _ (r : MachRel) where
   unlooked ty ext =
       eqb ext 1
       && (not (eqb ty ARM64-RELOC-UNSIGNED)
-      && (not (eqb ty ARM64-RELOC-GOT-LOAD-PAGEOFF12) && (not (eqb ty ARM64-RELOC-TLVP-LOAD-PAGEOFF12) && not (eqb ty ARM64-RELOC-ADDEND))))
+      && (not (eqb ty ARM64-RELOC-GOT-LOAD-PAGEOFF12)
+      && (not (eqb ty ARM64-RELOC-TLVP-LOAD-PAGEOFF12) && (not (eqb ty ARM64-RELOC-ADDEND) && not (eqb ty ARM64-RELOC-AUTHENTICATED-POINTER)))))
 
   fields : plainOf r ≡ true → unlooked (typeOf (r .bits)) (externOf (r .bits)) ≡ true
   unfolding plainOf plainForms every choose
@@ -59,12 +61,14 @@ plain-reads r h =
     let x = both (eqb (externOf (r .bits)) 1) _ (fields r h) in
     let u = both (not (eqb (typeOf (r .bits)) ARM64-RELOC-UNSIGNED)) _ (x .1) in
     let g = both (not (eqb (typeOf (r .bits)) ARM64-RELOC-GOT-LOAD-PAGEOFF12)) _ (u .1) in
-    let t = both (not (eqb (typeOf (r .bits)) ARM64-RELOC-TLVP-LOAD-PAGEOFF12)) (not (eqb (typeOf (r .bits)) ARM64-RELOC-ADDEND)) (g .1) in
+    let t = both (not (eqb (typeOf (r .bits)) ARM64-RELOC-TLVP-LOAD-PAGEOFF12)) _ (g .1) in
+    let a = both (not (eqb (typeOf (r .bits)) ARM64-RELOC-ADDEND)) (not (eqb (typeOf (r .bits)) ARM64-RELOC-AUTHENTICATED-POINTER)) (t .1) in
     by-tests r (tests r h) (x .0)
     (not-true (eqb (typeOf (r .bits)) ARM64-RELOC-UNSIGNED) (u .0))
     (not-true (eqb (typeOf (r .bits)) ARM64-RELOC-GOT-LOAD-PAGEOFF12) (g .0))
     (not-true (eqb (typeOf (r .bits)) ARM64-RELOC-TLVP-LOAD-PAGEOFF12) (t .0))
-    (not-true (eqb (typeOf (r .bits)) ARM64-RELOC-ADDEND) (t .1))
+    (not-true (eqb (typeOf (r .bits)) ARM64-RELOC-ADDEND) (a .0))
+    (not-true (eqb (typeOf (r .bits)) ARM64-RELOC-AUTHENTICATED-POINTER) (a .1))
 
 -- ---- type and form as one number, bits 24 to 31 of a record
 

@@ -28,7 +28,7 @@ use Rattle.arm64_reader.specs.declared.record.Addend.{Addend}
 use Rattle.arm64_reader.specs.declared.record.Addend.the-variants.{Held, Refused}
 use Rattle.arm64_reader.specs.Check.{checkReloc}
 use Rattle.arch.specs.Walk.{passing, Reads}
-use Rattle.arm64_reader.specs.Record.{addendOf, adding, recordOf, ownAt, stepAt}
+use Rattle.arm64_reader.specs.Record.{addendOf, adding, authenticatedRecord, entered, recordOf, ownAt, stepAt}
 use Rattle.arm64_reader.specs.Plain.{plainOf}
 use Rattle.arm64_reader.proofs.PlainRecords.{plain-reads}
 use Rattle.arm64_reader.specs.Fields.{isAddend, ownOf, givenOf}
@@ -123,8 +123,8 @@ own-missing contents records sections i f h k e l =
 pub entered-is : (contents sections : List ℕ) (before : Bool) (rs : List MachRel) (i : ℕ)
     → recordAt rs i .offset ≤ length contents → ownOf rs i < length rs
     → Reads (stepAt contents sections before rs i)
-    → adding sections (recordAt rs (ownOf rs i)) (subtractedAt ARM64-RELOC-SUBTRACTOR before rs (ownOf rs i)) (recordAt rs i .offset) (ownOf rs i + 1)
-    (addendOf (recordAt rs (ownOf rs i)) (drop (recordAt rs i .offset) contents) (givenOf rs i))
+    → entered (drop (recordAt rs i .offset) contents) sections (recordAt rs (ownOf rs i)) (subtractedAt ARM64-RELOC-SUBTRACTOR before rs (ownOf rs i))
+    (recordAt rs i .offset) (givenOf rs i) (ownOf rs i + 1)
     ≡ stepAt contents sections before rs i
 unfolding recordOf
 entered-is contents sections before rs i h l r =
@@ -140,11 +140,16 @@ unfolding Ends
 adding-ends sections r subtracted offset next (Held addend) = targeted-ends sections r subtracted offset addend next
 adding-ends sections r subtracted offset next (Refused x) = tt
 
+authenticated-ends : (loc : List ℕ) (r : MachRel) (subtracted : Bool) (offset next : ℕ) → Ends next (authenticatedRecord loc r subtracted offset next)
+unfolding authenticatedRecord Ends
+authenticated-ends loc r subtracted offset next = chosen (Ends next) _ _ _ tt (chosen (Ends next) _ _ _ refl tt)
+
 pub record-ends : (loc sections : List ℕ) (r : MachRel) (subtracted : Bool) (offset addend next : ℕ)
     → Ends next (recordOf loc sections r subtracted offset addend next)
 unfolding recordOf
 record-ends loc sections r subtracted offset addend next =
-    passing-ends next (checkReloc r subtracted loc) _ (adding-ends sections r subtracted offset next (addendOf r loc addend))
+    passing-ends next (checkReloc r subtracted loc) _
+    (chosen (Ends next) _ _ _ (authenticated-ends loc r subtracted offset next) (adding-ends sections r subtracted offset next (addendOf r loc addend)))
 
 module _ (contents sections : List ℕ) (before : Bool) (rs : List MachRel) where
   -- each step goes on

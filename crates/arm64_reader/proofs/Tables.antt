@@ -9,6 +9,7 @@ use borrow.Author.Tests.{lt-ltb, le-ltb, ltb-true, ltb-false, eqb-true, eqb-fals
 use lib.ListN.{length, drop, length-append}
 use lib.Dec.{eqb, ltb}
 use Rattle.macho.specs.MachRel.{typeOf}
+use Rattle.macho.specs.Reloc.{withSigning}
 use Rattle.macho.specs.Types.{ARM64-RELOC-SUBTRACTOR, ARM64-RELOC-ADDEND}
 use Rattle.macho.specs.declared.mach_rel.MachRel.{MachRel}
 use Rattle.macho.specs.declared.reloc.Reloc.{Reloc}
@@ -36,7 +37,7 @@ module _ (contents sections : List ℕ) (before : Bool) (xs ys : List MachRel) w
       step-moved 0 (λ (x : Reloc). x) contents contents sections before before (xs ++ ys) xs i i
       (record {
         number = omega arith;
-        shifts = λ r s t a. ap (λ (q : MachRel). entryOf r s (q .offset) t a) (sym e);
+        shifts = λ r s t a x. ap (λ (q : MachRel). withSigning (entryOf r s (q .offset) t a) x) (sym e);
         inside = ap (λ (q : MachRel). ltb (length contents) (q .offset)) e;
         loc = ap (λ (q : MachRel). drop (q .offset) contents) e;
         bits = ap (λ (q : MachRel). q .bits) e;
@@ -87,7 +88,7 @@ module _ (contents sections : List ℕ) (before : Bool) (xs ys : List MachRel) w
       step-moved (length xs) (λ (x : Reloc). x) contents contents sections before (endsIn before xs) (xs ++ ys) ys (length xs + j) j
       (record {
         number = refl;
-        shifts = λ r s t a. ap (λ (q : MachRel). entryOf r s (q .offset) t a) (sym e);
+        shifts = λ r s t a x. ap (λ (q : MachRel). withSigning (entryOf r s (q .offset) t a) x) (sym e);
         inside = ap (λ (q : MachRel). ltb (length contents) (q .offset)) e;
         loc = ap (λ (q : MachRel). drop (q .offset) contents) e;
         bits = ap (λ (q : MachRel). q .bits) e;

@@ -6,9 +6,11 @@ use lib.Dec.{eqb}
 use Rattle.util.specs.Bits.{extend}
 use Rattle.util.specs.Choice.{choose}
 use Rattle.util.specs.Word.{le}
+use Rattle.macho.specs.Authenticated.{signingIn}
 use Rattle.macho.specs.MachRel.{idxOf, p2sizeOf, typeOf}
+use Rattle.macho.specs.Reloc.{withSigning}
 use Rattle.macho.specs.Types.{ARM64-RELOC-UNSIGNED, ARM64-RELOC-SUBTRACTOR, ARM64-RELOC-GOT-LOAD-PAGEOFF12, ARM64-RELOC-TLVP-LOAD-PAGEOFF12}
-use Rattle.macho.specs.Types.{ARM64-RELOC-ADDEND}
+use Rattle.macho.specs.Types.{ARM64-RELOC-ADDEND, ARM64-RELOC-AUTHENTICATED-POINTER}
 use Rattle.macho.specs.declared.mach_rel.MachRel.{MachRel}
 use Rattle.macho.specs.declared.reloc.Reloc.{Reloc}
 use Rattle.arch.specs.Entry.{entryOf}
@@ -40,22 +42,30 @@ ownOf rs i = choose (isAddend (recordAt rs i)) (i + 1) i
 abbrev pub givenOf : List MachRel → ℕ → ℕ
 givenOf rs i = choose (isAddend (recordAt rs i)) (extend (idxOf (recordAt rs i .bits)) 24) 0
 
--- how many bytes of the contents, from the entry's offset on, an own record is read against: the pointer of an UNSIGNED, the word under a GOT or
--- TLVP page offset
+-- how many bytes of the contents, from the entry's offset on, an own record is read against: the pointer of an UNSIGNED, an authenticated one, the
+-- word under a GOT or TLVP page offset
 unfoldable pub lookedAt : MachRel → ℕ
 lookedAt r =
     choose (eqb (typeOf (r .bits)) ARM64-RELOC-UNSIGNED) (choose (eqb (p2sizeOf (r .bits)) 2) 4 8)
-    (choose (eqb (typeOf (r .bits)) ARM64-RELOC-GOT-LOAD-PAGEOFF12) 4 (choose (eqb (typeOf (r .bits)) ARM64-RELOC-TLVP-LOAD-PAGEOFF12) 4 0))
+    (choose (eqb (typeOf (r .bits)) ARM64-RELOC-AUTHENTICATED-POINTER) 8
+    (choose (eqb (typeOf (r .bits)) ARM64-RELOC-GOT-LOAD-PAGEOFF12) 4 (choose (eqb (typeOf (r .bits)) ARM64-RELOC-TLVP-LOAD-PAGEOFF12) 4 0)))
 
--- what a record adds: an UNSIGNED what stands at the place, any other what the ADDEND record gave
+-- what a record adds: an UNSIGNED what stands at the place, an authenticated pointer the low 32 bits of it, any other what the ADDEND record gave
 unfoldable pub heldIn : MachRel → ℕ → ℕ → ℕ → ℕ
 heldIn r word pointer given =
-    choose (eqb (typeOf (r .bits)) ARM64-RELOC-UNSIGNED) (choose (eqb (p2sizeOf (r .bits)) 2) (extend word 32) pointer) given
+    choose (eqb (typeOf (r .bits)) ARM64-RELOC-UNSIGNED) (choose (eqb (p2sizeOf (r .bits)) 2) (extend word 32) pointer)
+    (choose (eqb (typeOf (r .bits)) ARM64-RELOC-AUTHENTICATED-POINTER) (extend pointer 32) given)
+
+-- the four bytes of its entry that say how its pointer is signed: of an authenticated pointer what its stored word says, of any other 0
+unfoldable pub signedBy : MachRel → ℕ → ℕ
+signedBy r pointer = choose (eqb (typeOf (r .bits)) ARM64-RELOC-AUTHENTICATED-POINTER) (signingIn pointer) 0
 
 -- the entry that starts at record i: its offset is of that record, everything else of its own
 unfoldable pub entryFrom : List ℕ → List ℕ → Bool → List MachRel → ℕ → Reloc
 entryFrom contents sections before rs i =
     let offset = recordAt rs i .offset in
     let own = recordAt rs (ownOf rs i) in
-    entryOf own (subtractedAt ARM64-RELOC-SUBTRACTOR before rs (ownOf rs i)) offset (targetIn own)
-    (addendIn sections own (heldIn own (le 4 contents offset) (le 8 contents offset) (givenOf rs i)))
+    withSigning
+    (entryOf own (subtractedAt ARM64-RELOC-SUBTRACTOR before rs (ownOf rs i)) offset (targetIn own)
+    (addendIn sections own (heldIn own (le 4 contents offset) (le 8 contents offset) (givenOf rs i))))
+    (signedBy own (le 8 contents offset))

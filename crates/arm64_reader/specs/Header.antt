@@ -7,8 +7,10 @@ use lib.ListN.{getD}
 use lib.Dec.{eqb, leb}
 use Rattle.util.specs.Bits.{extend}
 use Rattle.util.specs.Choice.{choose}
+use Rattle.util.specs.Diagram.{matches}
 use Rattle.util.specs.Word.{le}
 use Rattle.util.specs.Wrap.{diff}
+use Rattle.macho.specs.Authenticated.{authenticated, diversityIn, addressDiversityIn, keyIn}
 use Rattle.macho.specs.MachRel.{idxOf, pcrelOf, p2sizeOf, externOf, typeOf}
 use Rattle.macho.specs.Types.{ARM64-RELOC-UNSIGNED, ARM64-RELOC-SUBTRACTOR, ARM64-RELOC-PAGE21, ARM64-RELOC-PAGEOFF12, ARM64-RELOC-GOT-LOAD-PAGE21}
 use Rattle.macho.specs.Types.{ARM64-RELOC-TLVP-LOAD-PAGE21, ARM64-RELOC-ADDEND, ARM64-RELOC-AUTHENTICATED-POINTER}
@@ -51,7 +53,13 @@ abbrev pub isNothing : Less → Bool
 isNothing nothing = true
 isNothing (less x) = false
 
--- a relocation: its type, its place as an offset, how many bytes are there, what it refers to, what is added (as 64 bits), what is subtracted
+-- how a pointer is signed: not at all, or with a diversity, an address diversity and a key
+pub data Signing : Type 0 where
+  not-signed : Signing
+  signed : (diversity addressDiversity key : ℕ) → Signing
+
+-- a relocation: its type, its place as an offset, how many bytes are there, what it refers to, what is added (as 64 bits), what is subtracted, and how
+-- its pointer is signed
 pub record Relocation : Type 0 where
   pub ty : ℕ
   pub place : ℕ
@@ -59,6 +67,7 @@ pub record Relocation : Type 0 where
   pub target : Referent
   pub addend : ℕ
   pub minus : Less
+  pub signing : Signing
 
 -- what the fields r_symbolnum and r_extern name
 abbrev pub referentOf : MachRel → Referent
@@ -85,12 +94,35 @@ pointerOf contents sections r minus =
       target = referentOf r;
       addend = addedBy contents sections r;
       minus = minus;
+      signing = not-signed;
+    }
+
+-- the relocation of an authenticated pointer, by its stored word, as LLVM's assembler writes it: the low 32 bits are added, as a signed number
+abbrev pub authenticatedOf : List ℕ → MachRel → Relocation
+authenticatedOf contents r =
+    let stored = le 8 contents (r .offset) in
+    record {
+      ty = typeOf (r .bits);
+      place = r .offset;
+      size = 2 ^ p2sizeOf (r .bits);
+      target = referentOf r;
+      addend = extend stored 32;
+      minus = nothing;
+      signing = signed (diversityIn stored) (addressDiversityIn stored) (keyIn stored);
     }
 
 -- what a record on an instruction says, with an addend
 abbrev pub wordOf : MachRel → ℕ → Relocation
 wordOf r addend =
-    record { ty = typeOf (r .bits); place = r .offset; size = 2 ^ p2sizeOf (r .bits); target = referentOf r; addend = addend; minus = nothing }
+    record {
+      ty = typeOf (r .bits);
+      place = r .offset;
+      size = 2 ^ p2sizeOf (r .bits);
+      target = referentOf r;
+      addend = addend;
+      minus = nothing;
+      signing = not-signed;
+    }
 
 -- ---- a table
 
@@ -104,6 +136,8 @@ pub data Reason : Type 0 where
   subtractor-last subtractor-type subtractor-place subtractor-size : Reason
   -- ADDEND "must be followed by PAGE21 or PAGEOFF12": the same, without size; its form is not that of the linker's table
   addend-form addend-last addend-type addend-place : Reason
+  -- the word stored for an authenticated pointer has other fixed bits than LLVM's assembler writes
+  not-authenticated : Reason
 
 -- which of the first two
 abbrev pub lackOf : MachRel → Reason
@@ -127,7 +161,9 @@ turnAlone contents sections r =
     choose (eqb (typeOf (r .bits)) ARM64-RELOC-ADDEND) (choose (isDefined r) (wait (plus r)) (stop addend-form))
     (choose (isDefined r)
     (choose (eqb (typeOf (r .bits)) ARM64-RELOC-SUBTRACTOR) (wait (minus r))
-    (give (choose (eqb (typeOf (r .bits)) ARM64-RELOC-UNSIGNED) (pointerOf contents sections r nothing) (wordOf r 0))))
+    (choose (eqb (typeOf (r .bits)) ARM64-RELOC-AUTHENTICATED-POINTER)
+    (choose (matches authenticated (le 8 contents (r .offset))) (give (authenticatedOf contents r)) (stop not-authenticated))
+    (give (choose (eqb (typeOf (r .bits)) ARM64-RELOC-UNSIGNED) (pointerOf contents sections r nothing) (wordOf r 0)))))
     (stop (lackOf r)))
 
 -- a record after SUBTRACTOR s
@@ -206,7 +242,8 @@ abbrev pub hasLonePointer32 : List Relocation → Bool
 hasLonePointer32 [] = false
 hasLonePointer32 (m ∷ ms) = isLonePointer32 m || hasLonePointer32 ms
 
--- the reasons in spite of which a table can be read: each but a record that is not in the headers or not applied, and an ADDEND record with none after it
+-- the reasons in spite of which a table can be read: each but a record that is not in the headers or not applied, an ADDEND record with none after it, and
+-- a stored word that is no authenticated pointer's
 abbrev pub isTolerated : Reason → Bool
 isTolerated not-in-header = false
 isTolerated not-applied = false
@@ -218,3 +255,4 @@ isTolerated addend-form = true
 isTolerated addend-last = false
 isTolerated addend-type = true
 isTolerated addend-place = true
+isTolerated not-authenticated = false

@@ -6,12 +6,15 @@ use lib.ListN.{length, drop}
 use lib.Dec.{eqb, ltb}
 use Rattle.util.specs.Bits.{extend}
 use Rattle.util.specs.Choice.{choose}
+use Rattle.util.specs.Diagram.{matches}
 use Rattle.util.specs.Word.{le}
+use Rattle.macho.specs.Authenticated.{authenticated, signingIn}
 use Rattle.macho.specs.MachRel.{idxOf, p2sizeOf, typeOf}
-use Rattle.macho.specs.Types.{ARM64-RELOC-UNSIGNED, ARM64-RELOC-SUBTRACTOR, ARM64-RELOC-ADDEND}
+use Rattle.macho.specs.Reloc.{withSigning}
+use Rattle.macho.specs.Types.{ARM64-RELOC-UNSIGNED, ARM64-RELOC-SUBTRACTOR, ARM64-RELOC-ADDEND, ARM64-RELOC-AUTHENTICATED-POINTER}
 use Rattle.macho.specs.declared.mach_rel.MachRel.{MachRel}
-use Rattle.macho.specs.declared.refusal.Refusal.the-variants.{Bounds, LoneAddend}
-use Rattle.arch.specs.Entry.{targeted}
+use Rattle.macho.specs.declared.refusal.Refusal.the-variants.{Bounds, LoneAddend, NotAuthenticated}
+use Rattle.arch.specs.Entry.{entryOf, targeted}
 use Rattle.arch.specs.Table.{recordAt, subtractedAt}
 use Rattle.arch.specs.Walk.{passing}
 use Rattle.arch.specs.declared.step.Step.{Step}
@@ -34,10 +37,25 @@ abbrev pub adding : List ℕ → MachRel → Bool → ℕ → ℕ → Addend →
 adding sections r subtracted offset next (Held addend) = targeted sections r subtracted offset addend next
 adding sections r subtracted offset next (Refused x) = S.Refused x
 
+-- an authenticated pointer: 3 where its 8 bytes are not there, 15 where the stored word is none; the stored 32 bits, signed, replace an earlier addend,
+-- and the entry keeps how the pointer is signed
+unfoldable pub authenticatedRecord : List ℕ → MachRel → Bool → ℕ → ℕ → Step
+authenticatedRecord loc r subtracted offset next =
+    choose (ltb (length loc) 8) (S.Refused Bounds)
+    (choose (matches authenticated (le 8 loc 0))
+    (S.Read (withSigning (entryOf r subtracted offset (idxOf (r .bits)) (extend (le 8 loc 0) 32)) (signingIn (le 8 loc 0))) next)
+    (S.Refused NotAuthenticated))
+
+-- an entry's own record after its checks, by its type
+abbrev pub entered : List ℕ → List ℕ → MachRel → Bool → ℕ → ℕ → ℕ → Step
+entered loc sections r subtracted offset addend next =
+    choose (eqb (typeOf (r .bits)) ARM64-RELOC-AUTHENTICATED-POINTER) (authenticatedRecord loc r subtracted offset next)
+    (adding sections r subtracted offset next (addendOf r loc addend))
+
 -- an entry's own record r at an offset, with the addend that an ADDEND record gave, or 0; `loc` are the contents from the offset on
 unfoldable pub recordOf : List ℕ → List ℕ → MachRel → Bool → ℕ → ℕ → ℕ → Step
 recordOf loc sections r subtracted offset addend next =
-    passing (checkReloc r subtracted loc) (adding sections r subtracted offset next (addendOf r loc addend))
+    passing (checkReloc r subtracted loc) (entered loc sections r subtracted offset addend next)
 
 -- the entry whose own record is record j of a list; `before` says whether the record before the list is SUBTRACTOR
 abbrev pub ownAt : List ℕ → List ℕ → Bool → List MachRel → ℕ → ℕ → ℕ → Step

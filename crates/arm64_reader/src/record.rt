@@ -6,7 +6,10 @@ use arch::step::entry_of;
 use arch::step::read_target;
 use arch::table::is_subtracted;
 use arch::table::record_at;
+use macho::authenticated::is_authenticated;
+use macho::authenticated::signing_in;
 use macho::consts::ARM64_RELOC_ADDEND;
+use macho::consts::ARM64_RELOC_AUTHENTICATED_POINTER;
 use macho::consts::ARM64_RELOC_SUBTRACTOR;
 use macho::consts::ARM64_RELOC_UNSIGNED;
 use macho::mach_rel::MachRel;
@@ -21,7 +24,7 @@ ghost use Prim.Native.Nat.{_<_, _≤_};
 ghost use lib.ListN.{length, drop};
 ghost use Rattle.arch.specs.Table.{recordCount, recordsOf};
 ghost use Rattle.arch.specs.Walk.{Reads};
-ghost use Rattle.arm64_reader.specs.Record.{addendOf, adding, recordOf, stepAt};
+ghost use Rattle.arm64_reader.specs.Record.{addendOf, authenticatedRecord, entered, recordOf, stepAt};
 ghost use Rattle.arm64_reader.specs.Fields.{ownOf, givenOf};
 
 // The addend of a record.
@@ -49,6 +52,22 @@ fn addend_of(r: MachRel, loc: &[u8], addend: u64) -> Addend
     Addend::Held(read64(loc, 0))
 }
 
+// An authenticated pointer has its addend, and how it is signed, in the place that it relocates. The Rust has no such type.
+fn enter_authenticated(loc: &[u8], r: MachRel, subtracted: bool, offset: u32, next: usize) -> Step
+    ensures { λ s. ⌜ s ≡ authenticatedRecord (now (loc .entry)) r subtracted offset next ⌝ }
+{
+    if loc.len() < 8 {
+        return Step::Refused(Refusal::Bounds);
+    }
+    let word = read64(loc, 0);
+    if is_authenticated(word) {
+        let mut entry = entry_of(r, subtracted, offset, r.idx(), sign_extend(word, 32));
+        entry.signing = signing_in(word);
+        return Step::Read(entry, next);
+    }
+    Step::Refused(Refusal::NotAuthenticated)
+}
+
 // The entry of an own record; `loc` are the contents from the entry's offset on.
 fn enter_record(
     loc: &[u8],
@@ -59,8 +78,11 @@ fn enter_record(
     addend: u64,
     next: usize,
 ) -> Step
-    ensures { λ s. ⌜ s ≡ adding (now (sections .entry)) r subtracted offset next (addendOf r (now (loc .entry)) addend) ⌝ }
+    ensures { λ s. ⌜ s ≡ entered (now (loc .entry)) (now (sections .entry)) r subtracted offset addend next ⌝ }
 {
+    if r.ty() == ARM64_RELOC_AUTHENTICATED_POINTER {
+        return enter_authenticated(loc, r, subtracted, offset, next);
+    }
     match addend_of(r, loc, addend) {
         Addend::Refused(refusal) => Step::Refused(refusal),
         Addend::Held(own) => read_target(sections, r, subtracted, offset, own, next),

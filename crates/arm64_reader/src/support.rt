@@ -2,6 +2,7 @@
 use arch::form::has_reloc_form;
 use arch::form::reloc_form;
 use macho::consts::ARM64_RELOC_ADDEND;
+use macho::consts::ARM64_RELOC_AUTHENTICATED_POINTER;
 use macho::consts::ARM64_RELOC_BRANCH26;
 use macho::consts::ARM64_RELOC_GOT_LOAD_PAGE21;
 use macho::consts::ARM64_RELOC_GOT_LOAD_PAGEOFF12;
@@ -37,6 +38,7 @@ fn forms_of(ty: u8) -> u16
         ARM64_RELOC_PAGEOFF12 | ARM64_RELOC_GOT_LOAD_PAGEOFF12 | ARM64_RELOC_TLVP_LOAD_PAGEOFF12 =>
             { reloc_form(false, 2, true) }
         ARM64_RELOC_ADDEND => reloc_form(false, 2, false),
+        ARM64_RELOC_AUTHENTICATED_POINTER => reloc_form(false, 3, true),
         _ => 0,
     }
 }

@@ -16,10 +16,10 @@ use borrow.Author.Needs.{needs}
 use Rattle.arm64_reader.proofs.support.forms_of.Statement.{statement}
 use Rattle.arm64_reader.proofs.support.forms_of.Tie as tie
 
--- no type from 11 on has a form
-no-form : (ty : ℕ) → 9 ≤ ty → (ty ≡ 9 → ⊥) → (ty ≡ 10 → ⊥) → 0 ≡ bitsOf (formsOf ty)
+-- no type from 12 on has a form
+no-form : (ty : ℕ) → 9 ≤ ty → (ty ≡ 9 → ⊥) → (ty ≡ 10 → ⊥) → (ty ≡ 11 → ⊥) → 0 ≡ bitsOf (formsOf ty)
 unfolding formsOf
-no-form ty h n9 n10 = ap bitsOf (sym (List·getD-eq-default forms [] {n = ty} (omega arith)))
+no-form ty h n9 n10 n11 = ap bitsOf (sym (List·getD-eq-default forms [] {n = ty} (omega arith)))
 
 -- of the types below 9, those that are none of 0, 1, 4, 5 and 6 take one form, a pc-relative word of a symbol
 word : (ty : ℕ) → ty < 9 → (ty ≡ 0 → ⊥) → (ty ≡ 1 → ⊥) → (ty ≡ 4 → ⊥) → (ty ≡ 5 → ⊥) → (ty ≡ 6 → ⊥) → bitsOf (formsOf ty) ≡ bitOf (form 1 2 1)
@@ -55,6 +55,9 @@ reloc-form-requires-8 c κs = search needs
 reloc-form-requires-9 : tie.Need-reloc-form-requires-9
 reloc-form-requires-9 c κs = search needs
 
+reloc-form-requires-10 : tie.Need-reloc-form-requires-10
+reloc-form-requires-10 c κs = search needs
+
 returns : tie.Need-returns
 unfolding formsOf
 returns c =
@@ -76,19 +79,23 @@ unfolding formsOf
 returns-4 c = rw (c .reloc-form8 .ensures, c .before .match .keys5)
 
 returns-5 : tie.Need-returns-5
-returns-5 c =
-    let r = c .before .match .rest in
-    no-form (c .before .before .args .ty) (c .if1 .left) (λ e. r .0 .1 (inr (inr e))) (r .1)
+unfolding formsOf
+returns-5 c = rw (c .reloc-form9 .ensures, c .before .match .keys6)
 
 returns-6 : tie.Need-returns-6
-unfolding formsOf
 returns-6 c =
+    let r = c .before .match .rest in
+    no-form (c .before .before .args .ty) (c .if1 .left) (λ e. r .0 .0 .1 (inr (inr e))) (r .0 .1) (r .1)
+
+returns-7 : tie.Need-returns-7
+unfolding formsOf
+returns-7 c =
     let ty = c .before .before .args .ty in
-    rw (c .reloc-form9 .ensures)
+    rw (c .reloc-form10 .ensures)
     (⊎-elim
     (λ m. ap (λ (t : ℕ). bitsOf (formsOf t)) (sym (m .keys3)))
     (λ m.
-    let r = m .0 .rest .0 in
+    let r = m .0 .rest .0 .0 in
     sym (word ty (m .1 .taken) (r .0 .0 .0 .1) (r .0 .0 .1) (λ e. r .1 (inl e)) (r .0 .1) (λ e. r .1 (inr (inl e)))))
     (c .before .match .came))
 
@@ -105,9 +112,11 @@ forms-of-spec =
     reloc-form-requires-7
     reloc-form-requires-8
     reloc-form-requires-9
+    reloc-form-requires-10
     returns
     returns-2
     returns-3
     returns-4
     returns-5
-    returns-6)
+    returns-6
+    returns-7)
