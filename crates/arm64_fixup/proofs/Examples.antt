@@ -32,7 +32,7 @@ use Rattle.arm64_fixup.specs.Answer.{checkLists, basesOf, Outcome, fixed
 abbrev pub entry : ℕ → ℕ → ℕ → List ℕ
 entry ty offset target =
     relocBytes
-    (record { offset = offset; ty = ty; size = 8; «is_pcrel» = 0; «is_subtracted» = 0; target = target; spare = 0; addend = 0 })
+    (record { offset = offset; ty = ty; size = 8; «is_pcrel» = 0; «is_subtracted» = 0; target = target; signing = 0; addend = 0 })
 
 -- a resolved target at an address, its branch target the same, with flags
 abbrev pub resolved : ℕ → ℕ → List ℕ
@@ -41,11 +41,11 @@ resolved addr flags =
 
 -- the number of a call
 abbrev pub number : List ℕ → ℕ → List ℕ → List ℕ → List ℕ → ℕ
-number section base entries targets slots = answerNumber (answerOf (outcomeOf section (basesOf base 0) entries targets slots))
+number section base entries targets slots = answerNumber (answerOf (outcomeOf section (basesOf base 0 0) entries targets slots))
 
 -- a call on one word at 0x1000 with one entry
 abbrev pub oneWord : ℕ → ℕ → ℕ → ℕ → Outcome
-oneWord word ty addr flags = outcomeOf (bytes 4 word) (basesOf 0x1000 0) (entry ty 0 0) (resolved addr flags) (bytes 24 0)
+oneWord word ty addr flags = outcomeOf (bytes 4 word) (basesOf 0x1000 0 0) (entry ty 0 0) (resolved addr flags) (bytes 24 0)
 
 -- a word with no report, and one with a report of alignment
 abbrev pub becomes : ℕ → Outcome
@@ -133,7 +133,7 @@ abbrev pub twice : Fixed
 twice = record { section = bytes 4 0xf9411c00; reports = record { entry = 0; kind = 3; size = 8; place = 0; target = 0 } ∷ [] }
 
 -- so the second is one whose bytes no other entry writes, although both read the word
-pub second-lone : Lone (bytes 4 0xf9400000) (basesOf 0x1000 0) twoEntries twoTargets (bytes 48 0) twice 1
+pub second-lone : Lone (bytes 4 0xf9400000) (basesOf 0x1000 0 0) twoEntries twoTargets (bytes 48 0) twice 1
 unfolding relocBytes resolvedBytes bytesOf bytes outcomeOf checkLists checkTo checkAt checkOf consumed relocAt resolvedAt le wellFormed
     widthOf fixTo workAt changeOf wordChange pageoff12 targetOf offsetWith scaleOf put choose writtenAt
 second-lone =
@@ -144,7 +144,7 @@ second-lone =
       alone = λ i p l ne t w. first-writes-nothing i p l ne w;
     }
   where
-    first-writes-nothing : (i p : ℕ) → i < 2 → (i ≡ 1 → ⊥) → Writes (bytes 4 0xf9400000) (basesOf 0x1000 0) twoEntries twoTargets i p → ⊥
+    first-writes-nothing : (i p : ℕ) → i < 2 → (i ≡ 1 → ⊥) → Writes (bytes 4 0xf9400000) (basesOf 0x1000 0 0) twoEntries twoTargets i p → ⊥
     first-writes-nothing zero p l ne w = absurd (omega arith)
     first-writes-nothing (suc zero) p l ne w = ne refl
     first-writes-nothing (suc (suc i)) p l ne w = absurd (omega arith)
@@ -162,13 +162,13 @@ pairTargets = resolved 0x5678 4 ++ resolved 0x5678 4
 abbrev pub pairFixed : Fixed
 pairFixed = record { section = bytes 4 0x90000020 ++ bytes 4 0x9119e000; reports = [] }
 
-accepts-pair : outcomeOf pairWords (basesOf 0x1000 0) pairEntries pairTargets (bytes 48 0) ≡ fixed pairFixed
+accepts-pair : outcomeOf pairWords (basesOf 0x1000 0 0) pairEntries pairTargets (bytes 48 0) ≡ fixed pairFixed
 unfolding relocBytes resolvedBytes bytesOf bytes outcomeOf checkLists checkTo checkAt checkOf consumed relocAt resolvedAt le wellFormed
     widthOf fixTo workAt changeOf wordChange page21 adrpReaches pageOf pageImm pageOffset inRange adrpWith pageoff12 targetOf offsetWith scaleOf put choose
 accepts-pair = refl
 
 apart : (k i p : ℕ) → k < 2 → i < 2 → (i ≡ k → ⊥) → Touches pairEntries pairTargets k p
-    → Writes pairWords (basesOf 0x1000 0) pairEntries pairTargets i p → ⊥
+    → Writes pairWords (basesOf 0x1000 0 0) pairEntries pairTargets i p → ⊥
 unfolding relocBytes resolvedBytes bytesOf bytes consumed relocAt resolvedAt le widthOf widthAt fixTo workAt changeOf wordChange page21
     adrpReaches pageOf pageImm pageOffset inRange adrpWith pageoff12 targetOf offsetWith scaleOf put choose writtenAt
 apart zero zero p l m ne t w = ne refl
@@ -180,8 +180,8 @@ apart zero (suc (suc i)) p l m ne t w = absurd (omega arith)
 apart (suc zero) (suc (suc i)) p l m ne t w = absurd (omega arith)
 
 -- both stand alone
-pub both-lone : Lone pairWords (basesOf 0x1000 0) pairEntries pairTargets (bytes 48 0) pairFixed 0
-    × Lone pairWords (basesOf 0x1000 0) pairEntries pairTargets (bytes 48 0) pairFixed 1
+pub both-lone : Lone pairWords (basesOf 0x1000 0 0) pairEntries pairTargets (bytes 48 0) pairFixed 0
+    × Lone pairWords (basesOf 0x1000 0 0) pairEntries pairTargets (bytes 48 0) pairFixed 1
 unfolding relocBytes bytesOf bytes consumed relocAt le
 both-lone = (
   record { accepted = accepts-pair; listed = lit< tt; worked = refl; alone = λ i p l ne t w. apart 0 i p (lit< tt) l ne t w },

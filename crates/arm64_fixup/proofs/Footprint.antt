@@ -10,7 +10,7 @@ use lib.ListN.{getD}
 use Rattle.util.specs.Choice.{choose}
 use Rattle.util.specs.Word.{le}
 use Rattle.util.proofs.Word.{le-ext}
-use Rattle.macho.specs.Types.{ARM64-RELOC-UNSIGNED, ARM64-RELOC-PAGE21, ARM64-RELOC-PAGEOFF12}
+use Rattle.macho.specs.Types.{ARM64-RELOC-UNSIGNED, ARM64-RELOC-PAGE21, ARM64-RELOC-PAGEOFF12, ARM64-RELOC-AUTHENTICATED-POINTER}
 use Rattle.macho.specs.Resolved.{hasAddress}
 use Rattle.macho.specs.declared.reloc.Reloc.{Reloc}
 use Rattle.macho.specs.declared.resolved.Resolved.{Resolved}
@@ -22,10 +22,17 @@ use Rattle.arm64_fixup_entry.specs.declared.target.Bases.{Bases}
 use Rattle.arm64_fixup.proofs.Bytewise.{from-start, written-fits, touched-worked, only-it}
 use Rattle.arm64_fixup.proofs.Whole.{accepts}
 
--- an imported symbol's UNSIGNED, and PAGE21 and PAGEOFF12 without an address, have no footprint
-pub imported-width : (e : Reloc) (t : Resolved) → e .ty ≡ ARM64-RELOC-UNSIGNED → importedSymbol e t ≡ true → widthOf e t ≡ 0
+-- an imported symbol's UNSIGNED and AUTHENTICATED_POINTER, and PAGE21 and PAGEOFF12 without an address, have no footprint
+pub imported-width : (e : Reloc) (t : Resolved) → (e .ty ≡ ARM64-RELOC-UNSIGNED) ⊎ (e .ty ≡ ARM64-RELOC-AUTHENTICATED-POINTER) → importedSymbol e t ≡ true
+    → widthOf e t ≡ 0
 unfolding widthOf choose
-imported-width e t h i = rw (h, i)
+imported-width e t h i = ⊎-elim plain authenticated h
+  where
+    plain : e .ty ≡ ARM64-RELOC-UNSIGNED → widthOf e t ≡ 0
+    plain q = rw (q, i)
+
+    authenticated : e .ty ≡ ARM64-RELOC-AUTHENTICATED-POINTER → widthOf e t ≡ 0
+    authenticated q = rw (q, i)
 
 pub unaddressed-width : (e : Reloc) (t : Resolved) → (e .ty ≡ ARM64-RELOC-PAGE21) ⊎ (e .ty ≡ ARM64-RELOC-PAGEOFF12) → hasAddress t ≡ false
     → widthOf e t ≡ 0

@@ -4,18 +4,18 @@ use mathlib.Core.Path.{_≡_, refl, sym, ap, ap₂, _∙_, subst}
 use mathlib.Core.Bool.{Bool, true, false, true≢false, _&&_, not}
 use mathlib.Core.List.{List}
 use mathlib.Core.Logic.{_⊎_, inl, inr, ⊎-elim}
-use Prim.Native.Nat.{ℕ, zero, suc, _+_, _*_, _/_, _≤_, _<_}
+use Prim.Native.Nat.{ℕ, zero, suc, _+_, _*_, _/_, _%_, _≤_, _<_}
 use native.Mathlib.Omega.{arith}
 use native.Mathlib.Nat.{eq-or-lt-of-le, mul-suc, mul-le-mul-left}
 use borrow.Author.Tests.{ltb-true, ltb-false, eqb-true, eqb-false, ne-eqb}
 use lib.Dec.{eqb, ltb, lit≤}
-use lib.ListN.{length, set, length-set}
+use lib.ListN.{length, getD, set, length-set}
 use Rattle.util.specs.Choice.{choose}
 use Rattle.util.specs.Word.{le}
 use Rattle.util.proofs.Choice.{and-false}
 use Rattle.util.proofs.Word.{le-set}
 use Rattle.macho.specs.Refusal.{first}
-use Rattle.macho.specs.Types.{ARM64-RELOC-SUBTRACTOR}
+use Rattle.macho.specs.Types.{ARM64-RELOC-SUBTRACTOR, ARM64-RELOC-AUTHENTICATED-POINTER}
 use Rattle.macho.specs.Reloc.{relocAt, isSection}
 use Rattle.macho.specs.Resolved.{resolvedAt, wellFormed}
 use Rattle.macho.specs.declared.reloc.Reloc.{Reloc}
@@ -31,6 +31,7 @@ use Rattle.macho.specs.declared.refusal.Check.the-variants.{Fit, Refused}
 use Rattle.arm64_fixup_entry.specs.declared.change.Change.{Change}
 use Rattle.arm64_fixup_entry.proofs.Sound.{followed}
 use Rattle.arm64_fixup_entry.proofs.Seen.{check-seen, ofAddend, ofAddress, change-seen, check-same, change-same}
+use Rattle.arm64_fixup.proofs.Signing.{used-kept}
 use Rattle.arm64_fixup.proofs.Turns.{pair, check-taken, check-worked, passes, work-worked, work-taken}
 
 -- only a SUBTRACTOR takes anything of them
@@ -271,20 +272,54 @@ module _ (section : List ℕ) (b : Bases) (entries targets slots : List ℕ) (i 
           subst (λ (n : ℕ). seen (lentEntry (set entries (24 * i + j) v) n) ≡ seen (lentEntry entries n)) (sym (eqb-true k i e)) same
       at k false e = ap seen (entry-set entries i j v k (eqb-false k i e) (omega arith))
 
-  -- the marks, bytes 6 and 7, and the spare bytes 12 to 15
-  pub spare-bytes : ((6 ≤ j) × (j < 8)) ⊎ ((12 ≤ j) × (j < 16))
+  -- the marks, bytes 6 and 7
+  pub mark-bytes : 6 ≤ j → j < 8 → outcomeOf section b entries targets slots ≡ outcomeOf section b (set entries (24 * i + j) v) targets slots
+  unfolding relocAt
+  mark-bytes l m =
+      entry-byte (omega arith)
+      (rw (
+        offset-kept (omega arith),
+        field-kept 1 4 (inr (omega arith)),
+        field-kept 1 5 (inr (omega arith)),
+        field-kept 4 8 (inl m),
+        field-kept 4 12 (inl (omega arith)),
+        field-kept 8 16 (inl (omega arith)),
+      ))
+
+  -- the bytes 12 to 15 of an entry that is no AUTHENTICATED_POINTER, or that a SUBTRACTOR consumes
+  pub signing-bytes : 12 ≤ j → j < 16 → (lentEntry entries i .ty ≡ ARM64-RELOC-AUTHENTICATED-POINTER → ⊥) ⊎ (consumed entries i ≡ true)
+      → outcomeOf section b entries targets slots ≡ outcomeOf section b (set entries (24 * i + j) v) targets slots
+  unfolding relocAt choose
+  signing-bytes l m = ⊎-elim unsigned (λ taken. consumed-entry section b entries targets slots i j v taken m)
+    where
+      unsigned : (lentEntry entries i .ty ≡ ARM64-RELOC-AUTHENTICATED-POINTER → ⊥)
+          → outcomeOf section b entries targets slots ≡ outcomeOf section b (set entries (24 * i + j) v) targets slots
+      unsigned ne =
+          entry-byte m
+          (rw (
+            offset-kept (omega arith),
+            field-kept 1 4 (inr (omega arith)),
+            field-kept 1 5 (inr (omega arith)),
+            field-kept 4 8 (inr l),
+            ne-eqb _ _ ne,
+            field-kept 8 16 (inl m),
+          ))
+
+  -- whatever the type, all but the low bit of address diversity, byte 14, and all but the low two bits of key, byte 15
+  pub signing-bits : ((j ≡ 14) × (v % 2 ≡ getD entries (24 * i + j) 0 % 2)) ⊎ ((j ≡ 15) × (v % 4 ≡ getD entries (24 * i + j) 0 % 4))
       → outcomeOf section b entries targets slots ≡ outcomeOf section b (set entries (24 * i + j) v) targets slots
   unfolding relocAt
-  spare-bytes sp =
-      let past : (n : ℕ) → n ≤ 6 → n ≤ j = λ n m. ⊎-elim (λ w. omega arith) (λ w. omega arith) sp in
-      let low : j < 16 = ⊎-elim (λ w. omega arith) (λ w. w .1) sp in
-      entry-byte low
+  signing-bits h =
+      let l : 12 ≤ j = ⊎-elim (λ w. omega (arith, w .0)) (λ w. omega (arith, w .0)) h in
+      let m : j < 16 = ⊎-elim (λ w. omega (arith, w .0)) (λ w. omega (arith, w .0)) h in
+      entry-byte m
       (rw (
-        offset-kept (past 4 (lit≤ tt)),
-        field-kept 1 4 (inr (past 5 (lit≤ tt))),
-        field-kept 1 5 (inr (past 6 (lit≤ tt))),
-        field-kept 4 8 (⊎-elim (λ w. inl (w .1)) (λ w. inr (w .0)) sp),
-        field-kept 8 16 (inl low),
+        offset-kept (omega arith),
+        field-kept 1 4 (inr (omega arith)),
+        field-kept 1 5 (inr (omega arith)),
+        field-kept 4 8 (inr l),
+        used-kept entries (24 * i + 12) (24 * i + j) v (⊎-elim (λ w. inl (omega (arith, w .0), w .1)) (λ w. inr (omega (arith, w .0), w .1)) h),
+        field-kept 8 16 (inl m),
       ))
 
   -- a byte of the target field that leaves bit 31
@@ -298,6 +333,7 @@ module _ (section : List ℕ) (b : Bases) (entries targets slots : List ℕ) (i 
         field-kept 1 4 (inr (omega arith)),
         field-kept 1 5 (inr (omega arith)),
         same,
+        field-kept 4 12 (inl (omega arith)),
         field-kept 8 16 (inl (omega arith)),
       ))
 
@@ -313,5 +349,6 @@ size-byte section b entries targets slots i v ne =
       kept 1 4 (inr (lit≤ tt)),
       ne-eqb _ _ ne,
       kept 4 8 (inl (lit≤ tt)),
+      kept 4 12 (inl (lit≤ tt)),
       kept 8 16 (inl (lit≤ tt)),
     ))

@@ -6,9 +6,13 @@ pub mod Bytewise
 pub mod Footprint
 pub mod Examples
 pub mod Empty
+pub mod Signing
 pub mod Ignored
 pub mod Lone
 pub mod Values
+pub mod Authenticated
+pub mod AuthenticatedExamples
+pub mod ImageBase
 pub mod Means
 pub mod Branches
 pub mod Bits

@@ -74,8 +74,9 @@ unfolding changeOf Tells Of
 change-tells b i e t next nextTarget word =
     chosen (Tells i) _ _ _ tt
     (chosen (Tells i) _ _ _ tt
+    (chosen (Tells i) _ _ _ tt
     (chosen (Tells i) _ _ _ (difference-tells i e _)
-    (of-word (Tells i) (record { entry = i; addr = addressOf b e }) tt (λ w. tt) (λ w kind target. refl) (λ kind size. refl) e t word)))
+    (of-word (Tells i) (record { entry = i; addr = addressOf b e }) tt (λ w. tt) (λ w kind target. refl) (λ kind size. refl) e t word))))
 
 -- ---- what is told stands in the list
 

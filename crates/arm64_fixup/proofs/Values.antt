@@ -8,6 +8,7 @@ use native.Mathlib.Omega.{arith}
 use native.Mathlib.Nat.{mod-eq-of-lt, mod-mod}
 use borrow.Author.Tests.{eq-eqb, ne-eqb}
 use Rattle.util.specs.Choice.{choose}
+use Rattle.util.proofs.Wrap.{sum-lt}
 use Rattle.util.specs.Wrap.{sum, diff}
 use Rattle.macho.specs.Types.{ARM64-RELOC-UNSIGNED, ARM64-RELOC-SUBTRACTOR, ARM64-RELOC-POINTER-TO-GOT}
 use Rattle.macho.specs.Resolved.{isTls}
@@ -21,10 +22,6 @@ use Rattle.arm64_fixup_entry.specs.declared.change.Change.{Change}
 use Rattle.arm64_fixup_entry.specs.declared.change.Write.the-variants.{Word, Pointer}
 use Rattle.arm64_fixup_entry.proofs.ByType.{unsigned-does, subtractor-does, pointer-does}
 use Rattle.arm64_fixup.proofs.Lone.{stores-word, stores-pointer}
-
--- sums and differences are 64-bit numbers
-sum-lt : (a c : ℕ) → sum a c < 2 ^ 64
-sum-lt a c = omega arith
 
 diff-lt : (a c : ℕ) → diff a c < 2 ^ 64
 diff-lt a c = omega arith

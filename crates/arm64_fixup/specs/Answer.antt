@@ -35,9 +35,9 @@ unfoldable pub checkLists : ℕ → ℕ → ℕ → Check
 checkLists entries targets slots =
     choose (disagree entries targets) (C.Refused Lengths) (choose (lacksSlots entries slots) (C.Refused Slots) C.Fit)
 
--- the address of the section's first byte, and the start of thread-local storage
-abbrev pub basesOf : ℕ → ℕ → Bases
-basesOf base tls = record { base = base; «tls_begin» = tls }
+-- the address of the section's first byte, the start of thread-local storage, and the image base
+abbrev pub basesOf : ℕ → ℕ → ℕ → Bases
+basesOf base tls image = record { base = base; «tls_begin» = tls; «image_base» = image }
 
 -- what a call does: nothing, or the fixed section with its reports
 pub data Outcome : Type 0 where
@@ -75,13 +75,13 @@ slotsAfter (refused r) slots = slots
 slotsAfter (fixed f) slots = filled f slots
 
 -- what a call answers to what was lent
-abbrev pub answerTo : List ℕ → ℕ → ℕ → List ℕ → List ℕ → List ℕ → Answer
-answerTo section base tls entries targets slots = answerOf (outcomeOf section (basesOf base tls) entries targets slots)
+abbrev pub answerTo : List ℕ → ℕ → ℕ → ℕ → List ℕ → List ℕ → List ℕ → Answer
+answerTo section base tls image entries targets slots = answerOf (outcomeOf section (basesOf base tls image) entries targets slots)
 
 -- the section after it
-abbrev pub sectionTo : List ℕ → ℕ → ℕ → List ℕ → List ℕ → List ℕ → List ℕ
-sectionTo section base tls entries targets slots = sectionAfter (outcomeOf section (basesOf base tls) entries targets slots) section
+abbrev pub sectionTo : List ℕ → ℕ → ℕ → ℕ → List ℕ → List ℕ → List ℕ → List ℕ
+sectionTo section base tls image entries targets slots = sectionAfter (outcomeOf section (basesOf base tls image) entries targets slots) section
 
 -- the slots after it
-abbrev pub slotsTo : List ℕ → ℕ → ℕ → List ℕ → List ℕ → List ℕ → List ℕ
-slotsTo section base tls entries targets slots = slotsAfter (outcomeOf section (basesOf base tls) entries targets slots) slots
+abbrev pub slotsTo : List ℕ → ℕ → ℕ → ℕ → List ℕ → List ℕ → List ℕ → List ℕ
+slotsTo section base tls image entries targets slots = slotsAfter (outcomeOf section (basesOf base tls image) entries targets slots) slots

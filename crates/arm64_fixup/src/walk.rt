@@ -3,6 +3,7 @@ use arm64_fixup_entry::change::Change;
 use arm64_fixup_entry::change::Site;
 use arm64_fixup_entry::change::Told;
 use arm64_fixup_entry::change::Write;
+use arm64_fixup_entry::change::authenticated_change;
 use arm64_fixup_entry::change::difference;
 use arm64_fixup_entry::change::silent;
 use arm64_fixup_entry::change::subtractor_value;
@@ -12,6 +13,7 @@ use arm64_fixup_entry::check::check_entry;
 use arm64_fixup_entry::check::subtracts;
 use arm64_fixup_entry::target::Bases;
 use arm64_fixup_entry::target::width_of;
+use macho::consts::ARM64_RELOC_AUTHENTICATED_POINTER;
 use macho::consts::ARM64_RELOC_UNSIGNED;
 use macho::list::MOST_RECORDS;
 use macho::refusal::Answer;
@@ -103,6 +105,9 @@ fn change_at(
     requires { ⌜ checkOf (length (now buf)) bases e t (eqb (i + 1) (entryCount (now entries))) ≡ Check.Fit ⌝ }
     ensures { λ r. ⌜ r ≡ changeBy bases (now (entries .entry)) (now (targets .entry)) (now (buf .entry)) i e t ⌝ }
 {
+    if e.ty == ARM64_RELOC_AUTHENTICATED_POINTER {
+        return authenticated_change(bases, e, t);
+    }
     if width_of(e, t) == 0 {
         return silent(Write::Nothing);
     }
@@ -183,15 +188,22 @@ pub fn apply_reloc_alloc(
     buf: &mut [u8],
     base: u64,
     tls_begin: u64,
+    image_base: u64,
     entries: &[u8],
     targets: &[u8],
     slots: &mut [u8],
 ) -> Answer
-    ensures answer { λ r. ⌜ r ≡ answerTo (now (buf .entry)) base «tls_begin» (now (entries .entry)) (now (targets .entry)) (now (slots .entry)) ⌝ }
-    ensures buf { λ _. ⌜ now (buf .exit) ≡ sectionTo (now (buf .entry)) base «tls_begin» (now (entries .entry)) (now (targets .entry)) (now (slots .entry)) ⌝ }
-    ensures told { λ _. ⌜ now (slots .exit) ≡ slotsTo (now (buf .entry)) base «tls_begin» (now (entries .entry)) (now (targets .entry)) (now (slots .entry)) ⌝ }
+    ensures answer { λ r. ⌜ r ≡ answerTo (now (buf .entry)) base «tls_begin» «image_base» (now (entries .entry)) (now (targets .entry)) (now (slots .entry)) ⌝ }
+    ensures buf { λ _. ⌜ now (buf .exit)
+        ≡ sectionTo (now (buf .entry)) base «tls_begin» «image_base» (now (entries .entry)) (now (targets .entry)) (now (slots .entry)) ⌝ }
+    ensures told { λ _. ⌜ now (slots .exit)
+        ≡ slotsTo (now (buf .entry)) base «tls_begin» «image_base» (now (entries .entry)) (now (targets .entry)) (now (slots .entry)) ⌝ }
 {
-    let bases = Bases { base, tls_begin };
+    let bases = Bases {
+        base,
+        tls_begin,
+        image_base,
+    };
     match check_lists(entries.len(), targets.len(), slots.len()) {
         Check::Refused(r) => Answer::Refused(r),
         Check::Fit => match check_all(buf.len(), bases, entries, targets) {

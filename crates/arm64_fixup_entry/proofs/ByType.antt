@@ -7,14 +7,14 @@ use lib.Dec.{eqb}
 use Rattle.util.specs.Choice.{choose}
 use Rattle.macho.specs.Types.{ARM64-RELOC-UNSIGNED, ARM64-RELOC-SUBTRACTOR, ARM64-RELOC-BRANCH26, ARM64-RELOC-PAGE21, ARM64-RELOC-PAGEOFF12}
 use Rattle.macho.specs.Types.{ARM64-RELOC-GOT-LOAD-PAGE21, ARM64-RELOC-GOT-LOAD-PAGEOFF12, ARM64-RELOC-POINTER-TO-GOT, ARM64-RELOC-TLVP-LOAD-PAGE21}
-use Rattle.macho.specs.Types.{ARM64-RELOC-TLVP-LOAD-PAGEOFF12}
+use Rattle.macho.specs.Types.{ARM64-RELOC-TLVP-LOAD-PAGEOFF12, ARM64-RELOC-AUTHENTICATED-POINTER}
 use Rattle.macho.specs.Resolved.{hasAddress, canRelaxGot, hasHelper}
 use Rattle.macho.specs.declared.reloc.Reloc.{Reloc}
 use Rattle.macho.specs.declared.resolved.Resolved.{Resolved}
 use Rattle.arm64_insn.specs.Fix.{offsetWith}
 use Rattle.arm64_fixup_entry.specs.Target.{importedSymbol, addressOf, targetOf, slotOf, gotTarget, widthOf}
-use Rattle.arm64_fixup_entry.specs.Change.{silent, unsignedValue, subtractorValue, difference, dtraceSiteInsn, branch, branchUnless, page21, fitted}
-use Rattle.arm64_fixup_entry.specs.Change.{pageoff12, gotPage21, gotPageoff12, pointerToGot, wordChange, changeOf}
+use Rattle.arm64_fixup_entry.specs.Change.{silent, unsignedValue, authenticatedValue, authenticatedChange, subtractorValue, difference, dtraceSiteInsn, branch, branchUnless}
+use Rattle.arm64_fixup_entry.specs.Change.{page21, fitted, pageoff12, gotPage21, gotPageoff12, pointerToGot, wordChange, changeOf}
 use Rattle.arm64_fixup_entry.specs.Roles.{Page, page, got-page, tlv-page, GotOffset, Offset, offset, got-offset}
 use Rattle.arm64_fixup_entry.specs.declared.target.Bases.{Bases}
 use Rattle.arm64_fixup_entry.specs.declared.change.Site.{Site}
@@ -32,6 +32,20 @@ module _ (b : Bases) (i : ℕ) (e : Reloc) (t : Resolved) (next : Reloc) (nextTa
       → changeOf b i e t next nextTarget word ≡ silent (Pointer (unsignedValue b e t))
   unfolding changeOf widthOf choose
   unsigned-does h s = rw (h, s)
+
+  pub authenticated-does : e .ty ≡ ARM64-RELOC-AUTHENTICATED-POINTER → importedSymbol e t ≡ false
+      → changeOf b i e t next nextTarget word ≡ silent (Pointer (authenticatedValue b e t))
+  unfolding changeOf widthOf choose
+  authenticated-does h s = rw (h, s)
+
+  -- of an imported symbol, too
+  pub authenticated-is : e .ty ≡ ARM64-RELOC-AUTHENTICATED-POINTER → changeOf b i e t next nextTarget word ≡ authenticatedChange b e t
+  unfolding changeOf authenticatedChange widthOf choose
+  authenticated-is h = go (importedSymbol e t) refl
+    where
+      go : (x : Bool) → importedSymbol e t ≡ x → changeOf b i e t next nextTarget word ≡ authenticatedChange b e t
+      go true s = rw (h, s)
+      go false s = rw (h, s)
 
   pub subtractor-does : e .ty ≡ ARM64-RELOC-SUBTRACTOR → changeOf b i e t next nextTarget word ≡ difference e (subtractorValue t next nextTarget)
   unfolding changeOf widthOf choose

@@ -7,10 +7,10 @@ use borrow.Author.Tests.{eqb-false}
 use lib.Dec.{eqb, lit≤}
 use Rattle.util.specs.Choice.{choose}
 use Rattle.util.proofs.Choice.{chosen, split, choose-true}
-use Rattle.macho.specs.Types.{ARM64-RELOC-UNSIGNED}
+use Rattle.macho.specs.Types.{ARM64-RELOC-UNSIGNED, ARM64-RELOC-AUTHENTICATED-POINTER}
 use Rattle.macho.specs.declared.reloc.Reloc.{Reloc}
 use Rattle.macho.specs.declared.resolved.Resolved.{Resolved}
-use Rattle.arm64_fixup_entry.specs.Target.{importedSymbol, widthOf}
+use Rattle.arm64_fixup_entry.specs.Target.{importedSymbol, isPointer, widthOf}
 use Rattle.arm64_fixup_entry.specs.Check.{subtracts}
 use Rattle.arm64_fixup_entry.specs.Change.{bytesIn, silent, wordChange, difference, changeOf}
 use Rattle.arm64_fixup_entry.specs.declared.target.Bases.{Bases}
@@ -40,16 +40,17 @@ wide e t =
     zero-out : P 0
     zero-out h = absurd (eqb-false 0 0 h refl)
 
-unsigned-wide : (e : Reloc) (t : Resolved) → eqb (e .ty) ARM64-RELOC-UNSIGNED ≡ true → eqb (widthOf e t) 0 ≡ false → 8 ≤ widthOf e t
+pointer-wide : (e : Reloc) (t : Resolved) → isPointer (e .ty) ≡ true → eqb (widthOf e t) 0 ≡ false → 8 ≤ widthOf e t
 unfolding widthOf
-unsigned-wide e t u =
-    rw (choose-true {A = ℕ} (eqb (e .ty) ARM64-RELOC-UNSIGNED) (choose (importedSymbol e t) 0 8) _ u)
+pointer-wide e t u =
+    rw (choose-true {A = ℕ} (isPointer (e .ty)) (choose (importedSymbol e t) 0 8) _ u)
     (chosen (λ (n : ℕ). eqb n 0 ≡ false → 8 ≤ n) (importedSymbol e t) 0 8 (λ h. absurd (eqb-false 0 0 h refl)) (λ h. lit≤ tt))
 
-difference-fits : (e : Reloc) (t : Resolved) (value : ℕ) → eqb (e .ty) ARM64-RELOC-UNSIGNED ≡ false → subtracts (e .ty) ≡ true
+difference-fits : (e : Reloc) (t : Resolved) (value : ℕ) → eqb (e .ty) ARM64-RELOC-UNSIGNED ≡ false
+    → eqb (e .ty) ARM64-RELOC-AUTHENTICATED-POINTER ≡ false → subtracts (e .ty) ≡ true
     → Fits (widthOf e t) (difference e value)
 unfolding widthOf difference Fits choose
-difference-fits e t value u s = rw (u, s) (go (eqb (e .size) 4))
+difference-fits e t value u a s = rw (u, a, s) (go (eqb (e .size) 4))
   where
     go : (q : Bool) → bytesIn (choose q (silent (Word (value % 2 ^ 32))) (silent (Pointer value)) .write) ≤ choose q 4 8
     go true = lit≤ tt
@@ -62,7 +63,9 @@ unfolding changeOf Fits
 change-fits b i e t next nextTarget word =
     split (Fits (widthOf e t)) (eqb (widthOf e t) 0) _ _ (λ z. zero-le)
     (λ z.
-    split (Fits (widthOf e t)) (eqb (e .ty) ARM64-RELOC-UNSIGNED) _ _ (λ u. unsigned-wide e t u z)
+    split (Fits (widthOf e t)) (eqb (e .ty) ARM64-RELOC-UNSIGNED) _ _ (λ u. pointer-wide e t (rw u) z)
     (λ u.
-    split (Fits (widthOf e t)) (subtracts (e .ty)) _ _ (λ s. difference-fits e t _ u s)
-    (λ s. le-trans (word-fits _ e t word) (wide e t z))))
+    split (Fits (widthOf e t)) (eqb (e .ty) ARM64-RELOC-AUTHENTICATED-POINTER) _ _ (λ a. pointer-wide e t (rw (u, a)) z)
+    (λ a.
+    split (Fits (widthOf e t)) (subtracts (e .ty)) _ _ (λ s. difference-fits e t _ u a s)
+    (λ s. le-trans (word-fits _ e t word) (wide e t z)))))

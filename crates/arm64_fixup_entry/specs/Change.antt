@@ -7,6 +7,8 @@ use Rattle.util.specs.Wrap.{sum, diff}
 use Rattle.util.specs.Diagram.{matches}
 use Rattle.macho.specs.Types.{ARM64-RELOC-UNSIGNED, ARM64-RELOC-BRANCH26, ARM64-RELOC-PAGE21, ARM64-RELOC-PAGEOFF12, ARM64-RELOC-GOT-LOAD-PAGE21}
 use Rattle.macho.specs.Types.{ARM64-RELOC-GOT-LOAD-PAGEOFF12, ARM64-RELOC-POINTER-TO-GOT, ARM64-RELOC-TLVP-LOAD-PAGE21, ARM64-RELOC-TLVP-LOAD-PAGEOFF12}
+use Rattle.macho.specs.Types.{ARM64-RELOC-AUTHENTICATED-POINTER}
+use Rattle.macho.specs.Authenticated.{authenticatedWord}
 use Rattle.macho.specs.Report.{adrpReach, branchReach, alignment, nonLdr}
 use Rattle.macho.specs.Resolved.{isTls, canRelaxGot, hasThunk, hasHelper, helperIsOwn, isProbe, isEnabled}
 use Rattle.macho.specs.declared.reloc.Reloc.{Reloc}
@@ -18,7 +20,7 @@ use Rattle.arm64_insn.specs.Branch.{branchReaches, branchWord, helperWord}
 use Rattle.arm64_insn.specs.Fix.{nopWord, isEnabledWord, adrpWith, offsetWith, relaxedWord}
 use Rattle.arm64_insn.specs.declared.fix.OffsetWord.{OffsetWord}
 use Rattle.arm64_insn.specs.declared.fix.OffsetWord.the-variants as OffsetWord
-use Rattle.arm64_fixup_entry.specs.Target.{isSymbol, addressOf, targetOf, slotOf, gotTarget, widthOf}
+use Rattle.arm64_fixup_entry.specs.Target.{isSymbol, importedSymbol, addressOf, targetOf, slotOf, gotTarget, fromImage, widthOf}
 use Rattle.arm64_fixup_entry.specs.Check.{subtracts}
 use Rattle.arm64_fixup_entry.specs.declared.target.Bases.{Bases}
 use Rattle.arm64_fixup_entry.specs.declared.change.Site.{Site}
@@ -54,6 +56,14 @@ wordReport s kind size = record { entry = s .entry; kind = kind; size = size; pl
 -- UNSIGNED: S + A, less the thread-local start if thread-local
 unfoldable pub unsignedValue : Bases → Reloc → Resolved → ℕ
 unsignedValue b e t = choose (isTls t) (diff (targetOf e t) (b .«tls_begin»)) (targetOf e t)
+
+-- AUTHENTICATED_POINTER: S + A less the image base in 32 bits, and how the entry says that it is signed
+unfoldable pub authenticatedValue : Bases → Reloc → Resolved → ℕ
+authenticatedValue b e t = authenticatedWord (fromImage b e t % 2 ^ 32) (e .signing)
+
+-- an AUTHENTICATED_POINTER: nothing for an imported symbol, else its value
+unfoldable pub authenticatedChange : Bases → Reloc → Resolved → Change
+authenticatedChange b e t = choose (importedSymbol e t) (silent Nothing) (silent (Pointer (authenticatedValue b e t)))
 
 -- SUBTRACTOR: the next entry's S + A, minus the own S
 unfoldable pub subtractorValue : Resolved → Reloc → Resolved → ℕ
@@ -134,7 +144,8 @@ pointerToGot s e t = diff (slotOf e t) (s .addr) % 2 ^ 32
 abbrev pub isGotOffset : ℕ → Bool
 isGotOffset ty = eqb ty ARM64-RELOC-GOT-LOAD-PAGEOFF12 || eqb ty ARM64-RELOC-TLVP-LOAD-PAGEOFF12
 
--- the types that work on the 4-byte word at the place. Any other number would do nothing: 0 and 1 do not come here, the check turns down 10 and above
+-- the types that work on the 4-byte word at the place. Any other number would do nothing: 0, 1 and 11 do not come here, and the check turns down
+-- the rest
 unfoldable pub wordChange : Site → Reloc → Resolved → ℕ → Change
 wordChange s e t word =
     choose (eqb (e .ty) ARM64-RELOC-BRANCH26) (branchUnless (dtraceSiteInsn e t) (branch s e t word))
@@ -151,5 +162,6 @@ unfoldable pub changeOf : Bases → ℕ → Reloc → Resolved → Reloc → Res
 changeOf b i e t next nextTarget word =
     choose (eqb (widthOf e t) 0) (silent Nothing)
     (choose (eqb (e .ty) ARM64-RELOC-UNSIGNED) (silent (Pointer (unsignedValue b e t)))
+    (choose (eqb (e .ty) ARM64-RELOC-AUTHENTICATED-POINTER) (silent (Pointer (authenticatedValue b e t)))
     (choose (subtracts (e .ty)) (difference e (subtractorValue t next nextTarget))
-    (wordChange (record { entry = i; addr = addressOf b e }) e t word)))
+    (wordChange (record { entry = i; addr = addressOf b e }) e t word))))

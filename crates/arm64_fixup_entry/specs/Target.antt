@@ -3,8 +3,8 @@ use Prim.Native.Nat.{ℕ, _+_}
 use mathlib.Core.Bool.{Bool, _&&_, _||_, not}
 use lib.Dec.{eqb}
 use Rattle.util.specs.Choice.{choose}
-use Rattle.util.specs.Wrap.{sum}
-use Rattle.macho.specs.Types.{ARM64-RELOC-UNSIGNED, ARM64-RELOC-SUBTRACTOR, ARM64-RELOC-PAGE21, ARM64-RELOC-PAGEOFF12}
+use Rattle.util.specs.Wrap.{sum, diff}
+use Rattle.macho.specs.Types.{ARM64-RELOC-UNSIGNED, ARM64-RELOC-SUBTRACTOR, ARM64-RELOC-PAGE21, ARM64-RELOC-PAGEOFF12, ARM64-RELOC-AUTHENTICATED-POINTER}
 use Rattle.macho.specs.Reloc.{isSection}
 use Rattle.macho.specs.Resolved.{isImported, hasAddress, canRelaxGot}
 use Rattle.macho.specs.declared.reloc.Reloc.{Reloc}
@@ -35,13 +35,21 @@ slotOf e t = sum (t .got) (e .addend)
 unfoldable pub gotTarget : Reloc → Resolved → ℕ
 gotTarget e t = choose (canRelaxGot t) (targetOf e t) (slotOf e t)
 
+-- S + A less the image base
+unfoldable pub fromImage : Bases → Reloc → Resolved → ℕ
+fromImage b e t = diff (targetOf e t) (b .«image_base»)
+
+-- the types that write a pointer of 8 bytes, but for an imported symbol
+abbrev pub isPointer : ℕ → Bool
+isPointer ty = eqb ty ARM64-RELOC-UNSIGNED || eqb ty ARM64-RELOC-AUTHENTICATED-POINTER
+
 -- the types that do nothing to a target without an address
 abbrev pub actsOnAddress : ℕ → Bool
 actsOnAddress ty = eqb ty ARM64-RELOC-PAGE21 || eqb ty ARM64-RELOC-PAGEOFF12
 
--- the bytes at its offset that an entry reads or writes: none for an imported symbol's UNSIGNED and where an address is missing
+-- the bytes at its offset that an entry reads or writes: none for an imported symbol's pointer and where an address is missing
 unfoldable pub widthOf : Reloc → Resolved → ℕ
 widthOf e t =
-    choose (eqb (e .ty) ARM64-RELOC-UNSIGNED) (choose (importedSymbol e t) 0 8)
+    choose (isPointer (e .ty)) (choose (importedSymbol e t) 0 8)
     (choose (eqb (e .ty) ARM64-RELOC-SUBTRACTOR) (choose (eqb (e .size) 4) 4 8)
     (choose (actsOnAddress (e .ty)) (choose (hasAddress t) 4 0) 4))

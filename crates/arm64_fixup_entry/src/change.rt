@@ -1,6 +1,8 @@
 // What one entry does to the section and reports: one function for each group of types (apply_reloc_alloc).
 use crate::target::Bases;
+use crate::target::from_image;
 use crate::target::got_target;
+use crate::target::is_imported_symbol;
 use crate::target::slot_of;
 use crate::target::target_of;
 use arm64_insn::add::is_add;
@@ -13,6 +15,7 @@ use arm64_insn::fix::write_add_ldst_word;
 use arm64_insn::fix::write_adrp_word;
 use arm64_insn::ldst::is_ldr_imm;
 use arm64_insn::page::adrp_reaches;
+use macho::authenticated::authenticated_word;
 use macho::consts::ARM64_RELOC_BRANCH26;
 use macho::consts::ARM64_RELOC_GOT_LOAD_PAGE21;
 use macho::consts::ARM64_RELOC_GOT_LOAD_PAGEOFF12;
@@ -26,8 +29,8 @@ use macho::report::Report;
 use macho::resolved::Resolved;
 ghost use mathlib.Core.Path.{_≡_};
 ghost use Prim.Native.Nat.{_<_};
-ghost use Rattle.arm64_fixup_entry.specs.Change.{silent, reported, reachReport, wordReport, unsignedValue, subtractorValue, difference};
-ghost use Rattle.arm64_fixup_entry.specs.Change.{dtraceSiteInsn, branchTarget, thunkServes, branch, branchUnless, page21, pageoff12};
+ghost use Rattle.arm64_fixup_entry.specs.Change.{silent, reported, reachReport, wordReport, unsignedValue, authenticatedValue, authenticatedChange};
+ghost use Rattle.arm64_fixup_entry.specs.Change.{subtractorValue, difference, dtraceSiteInsn, branchTarget, thunkServes, branch, branchUnless, page21, pageoff12};
 ghost use Rattle.arm64_fixup_entry.specs.Change.{gotPage21, canRelax, relaxed, gotPageoff12, pointerToGot, isGotOffset, wordChange};
 
 // An entry's number, and P: base plus offset.
@@ -112,6 +115,23 @@ pub fn unsigned_value(bases: Bases, e: Reloc, t: Resolved) -> u64
         return util::wrapping_sub(value, bases.tls_begin);
     }
     value
+}
+
+// AUTHENTICATED_POINTER's value: S + A less the image base in its low half, and how it is signed.
+fn authenticated_value(bases: Bases, e: Reloc, t: Resolved) -> u64
+    ensures { λ r. ⌜ r ≡ authenticatedValue bases e t ⌝ }
+{
+    authenticated_word((from_image(bases, e, t) % 0x1_0000_0000) as u32, e.signing)
+}
+
+// An AUTHENTICATED_POINTER: nothing for an imported symbol, else its value.
+pub fn authenticated_change(bases: Bases, e: Reloc, t: Resolved) -> Change
+    ensures { λ r. ⌜ r ≡ authenticatedChange bases e t ⌝ }
+{
+    if is_imported_symbol(e, t) {
+        return silent(Write::Nothing);
+    }
+    silent(Write::Pointer(authenticated_value(bases, e, t)))
 }
 
 // SUBTRACTOR's value: the next entry's S + A, minus the own S.
@@ -280,7 +300,7 @@ fn is_got_offset(ty: u8) -> bool
     ty == ARM64_RELOC_TLVP_LOAD_PAGEOFF12
 }
 
-// The types that work on the word at the place; any other number does nothing, and the check turns down 10 and above.
+// The types that work on the word at the place; any other number does nothing, and the check turns down 10 and those above 11.
 pub fn word_change(s: Site, e: Reloc, t: Resolved, word: u32) -> Change
     ensures { λ r. ⌜ r ≡ wordChange s e t word ⌝ }
 {

@@ -1,7 +1,10 @@
 // Which number an entry is turned down with (RULES 5.6).
 use crate::target::Bases;
+use crate::target::from_image;
+use crate::target::is_imported_symbol;
 use crate::target::width_of;
 use macho::consts::ARM64_RELOC_ADDEND;
+use macho::consts::ARM64_RELOC_AUTHENTICATED_POINTER;
 use macho::consts::ARM64_RELOC_GOT_LOAD_PAGE21;
 use macho::consts::ARM64_RELOC_GOT_LOAD_PAGEOFF12;
 use macho::consts::ARM64_RELOC_POINTER_TO_GOT;
@@ -13,7 +16,7 @@ use macho::refusal::Refusal;
 use macho::reloc::Reloc;
 use macho::resolved::Resolved;
 ghost use mathlib.Core.Path.{_≡_};
-ghost use Rattle.arm64_fixup_entry.specs.Check.{overflows, unsupported, subtracts, usesGot, needsSymbol, lacksNext, lacksSymbol, checkOf};
+ghost use Rattle.arm64_fixup_entry.specs.Check.{overflows, unsupported, subtracts, usesGot, needsSymbol, lacksNext, lacksSymbol, tooFar, lateOf, checkOf};
 
 // Whether base plus offset passes 2^64 - 1.
 fn overflows(bases: Bases, e: Reloc) -> bool
@@ -29,6 +32,9 @@ fn overflows(bases: Bases, e: Reloc) -> bool
 fn unsupported(ty: u8) -> bool
     ensures { λ r. ⌜ r ≡ unsupported ty ⌝ }
 {
+    if ty == ARM64_RELOC_AUTHENTICATED_POINTER {
+        return false;
+    }
     ARM64_RELOC_ADDEND <= ty
 }
 
@@ -62,6 +68,9 @@ fn needs_symbol(ty: u8, t: Resolved) -> bool
     if ty == ARM64_RELOC_GOT_LOAD_PAGE21 {
         return !t.has_helper();
     }
+    if ty == ARM64_RELOC_AUTHENTICATED_POINTER {
+        return true;
+    }
     uses_got(ty)
 }
 
@@ -85,6 +94,38 @@ fn lacks_symbol(e: Reloc, t: Resolved) -> bool
     false
 }
 
+// Whether an authenticated pointer that is written does not lie in the 2^32 bytes from the image base on.
+fn too_far(bases: Bases, e: Reloc, t: Resolved) -> bool
+    ensures { λ r. ⌜ r ≡ tooFar bases e t ⌝ }
+{
+    if e.ty != ARM64_RELOC_AUTHENTICATED_POINTER {
+        return false;
+    }
+    if is_imported_symbol(e, t) {
+        return false;
+    }
+    0x1_0000_0000 <= from_image(bases, e, t)
+}
+
+// The first number of an entry of a type from 10 up, with `room` bytes at its offset. Apart, so that every other type is asked nothing more.
+fn check_late(room: usize, bases: Bases, e: Reloc, t: Resolved) -> Check
+    ensures { λ r. ⌜ r ≡ lateOf room bases e t ⌝ }
+{
+    if unsupported(e.ty) {
+        return Check::Refused(Refusal::Unsupported);
+    }
+    if lacks_symbol(e, t) {
+        return Check::Refused(Refusal::NeedsSymbol);
+    }
+    if too_far(bases, e, t) {
+        return Check::Refused(Refusal::FarFromImage);
+    }
+    if room < width_of(e, t) {
+        return Check::Refused(Refusal::Bounds);
+    }
+    Check::Fit
+}
+
 // The first number that an entry of a section of `len` bytes is turned down with.
 pub fn check_entry(len: usize, bases: Bases, e: Reloc, t: Resolved, last: bool) -> Check
     ensures { λ r. ⌜ r ≡ checkOf len bases e t last ⌝ }
@@ -99,8 +140,8 @@ pub fn check_entry(len: usize, bases: Bases, e: Reloc, t: Resolved, last: bool) 
     if overflows(bases, e) {
         return Check::Refused(Refusal::Overflow);
     }
-    if unsupported(e.ty) {
-        return Check::Refused(Refusal::Unsupported);
+    if ARM64_RELOC_ADDEND <= e.ty {
+        return check_late(len - offset, bases, e, t);
     }
     if lacks_next(e.ty, last) {
         return Check::Refused(Refusal::LoneSubtractor);

@@ -1,4 +1,5 @@
 // What an entry and its resolved target say together.
+use macho::consts::ARM64_RELOC_AUTHENTICATED_POINTER;
 use macho::consts::ARM64_RELOC_PAGE21;
 use macho::consts::ARM64_RELOC_PAGEOFF12;
 use macho::consts::ARM64_RELOC_SUBTRACTOR;
@@ -6,12 +7,13 @@ use macho::consts::ARM64_RELOC_UNSIGNED;
 use macho::reloc::Reloc;
 use macho::resolved::Resolved;
 ghost use mathlib.Core.Path.{_≡_};
-ghost use Rattle.arm64_fixup_entry.specs.Target.{targetOf, slotOf, gotTarget, importedSymbol, actsOnAddress, widthOf};
+ghost use Rattle.arm64_fixup_entry.specs.Target.{targetOf, slotOf, gotTarget, fromImage, importedSymbol, isPointer, actsOnAddress, widthOf};
 
-// The address of the section's first byte, and the start of thread-local storage.
+// The address of the section's first byte, the start of thread-local storage, and the address that an authenticated pointer counts from.
 pub struct Bases {
     pub base: u64,
     pub tls_begin: u64,
+    pub image_base: u64,
 }
 
 // S + A.
@@ -38,14 +40,31 @@ pub fn got_target(e: Reloc, t: Resolved) -> u64
     slot_of(e, t)
 }
 
+// S + A less the image base.
+pub fn from_image(bases: Bases, e: Reloc, t: Resolved) -> u64
+    ensures { λ r. ⌜ r ≡ fromImage bases e t ⌝ }
+{
+    util::wrapping_sub(target_of(e, t), bases.image_base)
+}
+
 // Whether the target is an imported symbol, whose pointers dyld fills.
-fn is_imported_symbol(e: Reloc, t: Resolved) -> bool
+pub fn is_imported_symbol(e: Reloc, t: Resolved) -> bool
     ensures { λ r. ⌜ r ≡ importedSymbol e t ⌝ }
 {
     if e.is_section() {
         return false;
     }
     t.is_imported()
+}
+
+// Whether a type writes a pointer, but for an imported symbol.
+fn is_pointer(ty: u8) -> bool
+    ensures { λ r. ⌜ r ≡ isPointer ty ⌝ }
+{
+    if ty == ARM64_RELOC_UNSIGNED {
+        return true;
+    }
+    ty == ARM64_RELOC_AUTHENTICATED_POINTER
 }
 
 // Whether a type does nothing to a target without an address.
@@ -62,7 +81,7 @@ fn acts_on_address(ty: u8) -> bool
 pub fn width_of(e: Reloc, t: Resolved) -> usize
     ensures { λ r. ⌜ r ≡ widthOf e t ⌝ }
 {
-    if e.ty == ARM64_RELOC_UNSIGNED {
+    if is_pointer(e.ty) {
         if is_imported_symbol(e, t) {
             return 0;
         }

@@ -3,4 +3,4 @@ use Prim.Native.Nat.{ℕ}
 
 -- raised by one where a call, what it answers or leaves, a record or a number changes
 abbrev pub version : ℕ
-version = 4
+version = 5

@@ -11,17 +11,20 @@ pub extern "C" fn hauklivo_apply_reloc_alloc(
     buf: &mut [u8],
     base: u64,
     tls_begin: u64,
+    image_base: u64,
     entries: &[u8],
     targets: &[u8],
     slots: &mut [u8],
     count: &mut usize,
 ) -> u8
-    ensures number { λ r. ⌜ r ≡ numberTo (now (buf .entry)) base «tls_begin» (now (entries .entry)) (now (targets .entry)) (now (slots .entry)) ⌝ }
+    ensures number { λ r. ⌜ r ≡ numberTo (now (buf .entry)) base «tls_begin» «image_base» (now (entries .entry)) (now (targets .entry)) (now (slots .entry)) ⌝ }
     ensures count { λ _. ⌜ now (count .exit)
-        ≡ countTo (now (buf .entry)) base «tls_begin» (now (entries .entry)) (now (targets .entry)) (now (slots .entry)) (now (count .entry)) ⌝ }
-    ensures buf { λ _. ⌜ now (buf .exit) ≡ sectionTo (now (buf .entry)) base «tls_begin» (now (entries .entry)) (now (targets .entry)) (now (slots .entry)) ⌝ }
-    ensures told { λ _. ⌜ now (slots .exit) ≡ slotsTo (now (buf .entry)) base «tls_begin» (now (entries .entry)) (now (targets .entry)) (now (slots .entry)) ⌝ }
+        ≡ countTo (now (buf .entry)) base «tls_begin» «image_base» (now (entries .entry)) (now (targets .entry)) (now (slots .entry)) (now (count .entry)) ⌝ }
+    ensures buf { λ _. ⌜ now (buf .exit)
+        ≡ sectionTo (now (buf .entry)) base «tls_begin» «image_base» (now (entries .entry)) (now (targets .entry)) (now (slots .entry)) ⌝ }
+    ensures told { λ _. ⌜ now (slots .exit)
+        ≡ slotsTo (now (buf .entry)) base «tls_begin» «image_base» (now (entries .entry)) (now (targets .entry)) (now (slots .entry)) ⌝ }
 {
-    let answer = apply_reloc_alloc(buf, base, tls_begin, entries, targets, slots);
+    let answer = apply_reloc_alloc(buf, base, tls_begin, image_base, entries, targets, slots);
     counted(answer, count)
 }

@@ -3,7 +3,7 @@ ghost use mathlib.Core.Path.{_≡_};
 ghost use Rattle.hauklivo.specs.Version.{version};
 
 // The number is in the name below, too, in specs/Version.antt, include/hauklivo.h, rust/src/version.rs and rust/src/raw.rs.
-const VERSION: u32 = 4;
+const VERSION: u32 = 5;
 
 // The version of the calls.
 #[no_mangle]
@@ -15,7 +15,7 @@ pub extern "C" fn hauklivo_version() -> u32
 
 // The same, by a name that only an archive of this version has.
 #[no_mangle]
-pub extern "C" fn hauklivo_version_4() -> u32
+pub extern "C" fn hauklivo_version_5() -> u32
     ensures { λ r. ⌜ r ≡ version ⌝ }
 {
     VERSION

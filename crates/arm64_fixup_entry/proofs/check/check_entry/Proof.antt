@@ -1,19 +1,36 @@
--- `check_entry` meets its contract: the tests on the way to each return decide the choices.
-use borrow.Author.Tests.{lt-ltb, le-ltb, not-true, not-false}
-use Rattle.arm64_fixup_entry.specs.Check.{checkOf}
+-- `check_entry` meets its contract: the tests on the way to each return decide the choices; a type from 10 up is no SUBTRACTOR, one below no authenticated
+-- pointer.
+use mathlib.Core.Path.{_≡_}
+use mathlib.Core.Bool.{Bool, false, _&&_}
+use Prim.Native.Nat.{ℕ, _≤_, _<_}
+use native.Mathlib.Omega.{arith}
+use lib.Dec.{eqb}
+use borrow.Author.Tests.{lt-ltb, le-ltb, lt-leb, ne-eqb, not-true, not-false}
+use Rattle.util.proofs.Choice.{and-false}
 use Rattle.util.specs.Choice.{choose}
+use Rattle.macho.specs.Types.{ARM64-RELOC-SUBTRACTOR, ARM64-RELOC-AUTHENTICATED-POINTER}
+use Rattle.arm64_fixup_entry.specs.Check.{tooFar, lateOf, checkOf}
+use Rattle.macho.specs.declared.reloc.Reloc.{Reloc}
+use Rattle.macho.specs.declared.resolved.Resolved.{Resolved}
+use Rattle.arm64_fixup_entry.specs.declared.target.Bases.{Bases}
 use borrow.Author.Needs.{needs}
 use Rattle.arm64_fixup_entry.proofs.check.check_entry.Statement.{statement}
 use Rattle.arm64_fixup_entry.proofs.check.check_entry.Tie as tie
+
+-- a type from 10 up takes no entry after it
+none-taken : (ty : ℕ) (last : Bool) → 10 ≤ ty → (last && eqb ty ARM64-RELOC-SUBTRACTOR) ≡ false
+none-taken ty last h = rw (ne-eqb ty ARM64-RELOC-SUBTRACTOR (λ q. absurd (omega (arith, q))), and-false last)
+
+-- one below is no authenticated pointer, so that it is not too far
+near : (b : Bases) (e : Reloc) (t : Resolved) → e .ty < 10 → tooFar b e t ≡ false
+near b e t h = rw (ne-eqb (e .ty) ARM64-RELOC-AUTHENTICATED-POINTER (λ q. absurd (omega (arith, q))))
 
 cast-offset : tie.Need-cast-offset
 cast-offset c = search needs
 
 returns : tie.Need-returns
 unfolding checkOf choose
-returns c =
-    simp
-    (lt-ltb _ _ (c .if1 .taken))
+returns c = simp (lt-ltb _ _ (c .if1 .taken))
 
 is-well-formed-requires : tie.Need-is-well-formed-requires
 is-well-formed-requires c κs = search needs
@@ -41,17 +58,19 @@ returns-3 c =
       le-ltb _ _ (c .before .before .before .before .if1 .left),
     )
 
-unsupported-requires : tie.Need-unsupported-requires
-unsupported-requires c κs = search needs
+check-late-requires : tie.Need-check-late-requires
+check-late-requires c κs = search needs
 
 returns-4 : tie.Need-returns-4
-unfolding checkOf choose
+unfolding checkOf lateOf choose
 returns-4 c =
-    let if3 = c .before .before in
+    let if4 = c .before in
+    let if3 = if4 .before .before in
     let if2 = if3 .before .before in
+    let args = if2 .before .before .before .before .args in
     simp (
-      c .if4 .taken,
-      ← c .before .unsupported .ensures,
+      c .check-late .ensures,
+      none-taken (args .e .ty) (args .last) (if4 .if4 .taken),
       if3 .if3 .left,
       ← if3 .before .overflows .ensures,
       not-false (if2 .before .is-well-formed .result) (if2 .if2 .left),
@@ -71,8 +90,7 @@ returns-5 c =
     simp (
       c .if5 .taken,
       ← c .before .lacks-next .ensures,
-      if4 .if4 .left,
-      ← if4 .before .unsupported .ensures,
+      lt-leb _ _ (if4 .if4 .left),
       if3 .if3 .left,
       ← if3 .before .overflows .ensures,
       not-false (if2 .before .is-well-formed .result) (if2 .if2 .left),
@@ -95,8 +113,7 @@ returns-6 c =
       ← c .before .lacks-symbol .ensures,
       if5 .if5 .left,
       ← if5 .before .lacks-next .ensures,
-      if4 .if4 .left,
-      ← if4 .before .unsupported .ensures,
+      lt-leb _ _ (if4 .if4 .left),
       if3 .if3 .left,
       ← if3 .before .overflows .ensures,
       not-false (if2 .before .is-well-formed .result) (if2 .if2 .left),
@@ -115,6 +132,7 @@ returns-7 c =
     let if4 = if5 .before .before in
     let if3 = if4 .before .before in
     let if2 = if3 .before .before in
+    let args = if2 .before .before .before .before .args in
     simp (
       lt-ltb _ _ (c .if7 .taken),
       ← c .before .width-of .ensures,
@@ -122,8 +140,8 @@ returns-7 c =
       ← if6 .before .lacks-symbol .ensures,
       if5 .if5 .left,
       ← if5 .before .lacks-next .ensures,
-      if4 .if4 .left,
-      ← if4 .before .unsupported .ensures,
+      lt-leb _ _ (if4 .if4 .left),
+      near (args .bases) (args .e) (args .t) (if4 .if4 .left),
       if3 .if3 .left,
       ← if3 .before .overflows .ensures,
       not-false (if2 .before .is-well-formed .result) (if2 .if2 .left),
@@ -139,6 +157,7 @@ returns-8 c =
     let if4 = if5 .before .before in
     let if3 = if4 .before .before in
     let if2 = if3 .before .before in
+    let args = if2 .before .before .before .before .args in
     simp (
       le-ltb _ _ (c .if7 .left),
       ← c .before .width-of .ensures,
@@ -146,8 +165,8 @@ returns-8 c =
       ← if6 .before .lacks-symbol .ensures,
       if5 .if5 .left,
       ← if5 .before .lacks-next .ensures,
-      if4 .if4 .left,
-      ← if4 .before .unsupported .ensures,
+      lt-leb _ _ (if4 .if4 .left),
+      near (args .bases) (args .e) (args .t) (if4 .if4 .left),
       if3 .if3 .left,
       ← if3 .before .overflows .ensures,
       not-false (if2 .before .is-well-formed .result) (if2 .if2 .left),
@@ -165,7 +184,7 @@ check-entry-spec =
     returns-2
     overflows-requires
     returns-3
-    unsupported-requires
+    check-late-requires
     returns-4
     lacks-next-requires
     returns-5

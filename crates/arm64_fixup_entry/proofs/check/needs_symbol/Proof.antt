@@ -16,16 +16,25 @@ returns c =
       eq-eqb _ _ (c .before .if1 .taken),
     )
 
-uses-got-requires : tie.Need-uses-got-requires
-uses-got-requires c κs = search needs
-
 returns-2 : tie.Need-returns-2
 unfolding choose
 returns-2 c =
     simp (
-      c .uses-got .ensures,
+      eq-eqb _ _ (c .if2 .taken),
       ne-eqb _ _ (c .before .if1 .left),
     )
 
+uses-got-requires : tie.Need-uses-got-requires
+uses-got-requires c κs = search needs
+
+returns-3 : tie.Need-returns-3
+unfolding choose
+returns-3 c =
+    simp (
+      c .uses-got .ensures,
+      ne-eqb _ _ (c .before .if2 .left),
+      ne-eqb _ _ (c .before .before .if1 .left),
+    )
+
 pub needs-symbol-spec : {M : Type 1} → statement M
-needs-symbol-spec = tie.close (tie.spec has-helper-requires returns uses-got-requires returns-2)
+needs-symbol-spec = tie.close (tie.spec has-helper-requires returns returns-2 uses-got-requires returns-3)

@@ -6,6 +6,9 @@ use borrow.Author.Needs.{needs}
 use Rattle.arm64_fixup_entry.proofs.target.width_of.Statement.{statement}
 use Rattle.arm64_fixup_entry.proofs.target.width_of.Tie as tie
 
+is-pointer-requires : tie.Need-is-pointer-requires
+is-pointer-requires c κs = search needs
+
 is-imported-symbol-requires : tie.Need-is-imported-symbol-requires
 is-imported-symbol-requires c κs = search needs
 
@@ -15,7 +18,8 @@ returns c =
     simp (
       c .if2 .taken,
       ← c .before .is-imported-symbol .ensures,
-      eq-eqb _ _ (c .before .before .if1 .taken),
+      c .before .before .if1 .taken,
+      ← c .before .before .before .is-pointer .ensures,
     )
 
 returns-2 : tie.Need-returns-2
@@ -24,7 +28,8 @@ returns-2 c =
     simp (
       c .if2 .left,
       ← c .before .is-imported-symbol .ensures,
-      eq-eqb _ _ (c .before .before .if1 .taken),
+      c .before .before .if1 .taken,
+      ← c .before .before .before .is-pointer .ensures,
     )
 
 returns-3 : tie.Need-returns-3
@@ -33,7 +38,8 @@ returns-3 c =
     simp (
       eq-eqb _ _ (c .if4 .taken),
       eq-eqb _ _ (c .before .before .if3 .taken),
-      ne-eqb _ _ (c .before .before .before .before .if1 .left),
+      c .before .before .before .before .if1 .left,
+      ← c .before .before .before .before .before .is-pointer .ensures,
     )
 
 returns-4 : tie.Need-returns-4
@@ -42,7 +48,8 @@ returns-4 c =
     simp (
       ne-eqb _ _ (c .if4 .left),
       eq-eqb _ _ (c .before .before .if3 .taken),
-      ne-eqb _ _ (c .before .before .before .before .if1 .left),
+      c .before .before .before .before .if1 .left,
+      ← c .before .before .before .before .before .is-pointer .ensures,
     )
 
 acts-on-address-requires : tie.Need-acts-on-address-requires
@@ -63,7 +70,8 @@ returns-5 c =
       if5 .if5 .taken,
       ← if5 .before .acts-on-address .ensures,
       ne-eqb _ _ (if3 .if3 .left),
-      ne-eqb _ _ (if1 .if1 .left),
+      if1 .if1 .left,
+      ← if1 .before .is-pointer .ensures,
     )
 
 returns-6 : tie.Need-returns-6
@@ -78,7 +86,8 @@ returns-6 c =
       if5 .if5 .taken,
       ← if5 .before .acts-on-address .ensures,
       ne-eqb _ _ (if3 .if3 .left),
-      ne-eqb _ _ (if1 .if1 .left),
+      if1 .if1 .left,
+      ← if1 .before .is-pointer .ensures,
     )
 
 returns-7 : tie.Need-returns-7
@@ -88,13 +97,15 @@ returns-7 c =
       c .if5 .left,
       ← c .before .acts-on-address .ensures,
       ne-eqb _ _ (c .before .before .if3 .left),
-      ne-eqb _ _ (c .before .before .before .before .if1 .left),
+      c .before .before .before .before .if1 .left,
+      ← c .before .before .before .before .before .is-pointer .ensures,
     )
 
 pub width-of-spec : {M : Type 1} → statement M
 width-of-spec =
     tie.close
     (tie.spec
+    is-pointer-requires
     is-imported-symbol-requires
     returns
     returns-2
