@@ -45,7 +45,7 @@ use Rattle.hauklivo.proofs.payload.hauklivo_read_hints.Met as ReadHints
 use Rattle.hauklivo.proofs.payload.hauklivo_write_hints.Met as WriteHints
 use Rattle.hauklivo.proofs.ldst.hauklivo_load_store_class.Met as LoadStoreClass
 use Rattle.hauklivo.proofs.version.hauklivo_version.Met as Version
-use Rattle.hauklivo.proofs.version.hauklivo_version_4.Met as Version4
+use Rattle.hauklivo.proofs.version.hauklivo_version_5.Met as Version5
 use Rattle.claims.specs.Calls.{Calls}
 
 reader : (a : Reading) (slots : List ℕ) (count : ℕ) → (answerNumber (Walk.answerOf a) ≡ 0 → ⊥)
@@ -101,13 +101,13 @@ calls =
       write-hints = λ M. WriteHints.met;
       load-store-class = λ M. LoadStoreClass.met;
       version = λ M. Version.met;
-      version-4 = λ M. Version4.met;
+      version-5 = λ M. Version5.met;
       numbered = numbered;
       read-relocs-refused = λ contents records sections slots count. reader (readRelocs contents records sections slots) slots count;
       read-relocs-x86-64-refused = λ contents records sections address slots count.
           reader (X86.readRelocs contents records sections address slots) slots count;
-      apply-reloc-alloc-refused = λ section base tls entries targets slots count.
-          fix-up (outcomeOf section (basesOf base tls) entries targets slots) section slots count;
+      apply-reloc-alloc-refused = λ section base tls image entries targets slots count.
+          fix-up (outcomeOf section (basesOf base tls image) entries targets slots) section slots count;
       write-stub-refused = stub;
       write-thunk-refused = thunk;
       apply-hints-refused = hint-run;

@@ -10,6 +10,7 @@ use Rattle.claims.proofs.Header.{header}
 use Rattle.claims.proofs.X86.{x86}
 use Rattle.claims.proofs.Forms.{forms}
 use Rattle.claims.proofs.Fixup.{fixup}
+use Rattle.claims.proofs.Authenticated.{authenticated}
 use Rattle.claims.proofs.Hints.{hints}
 use Rattle.claims.proofs.Kept.{kept}
 use Rattle.claims.proofs.Lister.{lister}
@@ -29,6 +30,7 @@ claims =
       x86 = x86;
       forms = forms;
       fixup = fixup;
+      authenticated = authenticated;
       hints = hints;
       kept = kept;
       lister = lister;

@@ -17,6 +17,7 @@ use Rattle.arm64_fixup.proofs.Reports.{none-filled, none-named, must-serve}
 use Rattle.arm64_fixup.proofs.Unreported as U
 use Rattle.arm64_fixup.proofs.Branches as Branches
 use Rattle.arm64_fixup.proofs.Values as Values
+use Rattle.arm64_fixup.proofs.Authenticated as Authenticated
 use Rattle.arm64_fixup.proofs.Bits as Bits
 use Rattle.arm64_fixup.proofs.Footprint as Footprint
 use Rattle.arm64_fixup.proofs.Bytewise.{reads-touch}
@@ -52,6 +53,8 @@ module _ {section : List ℕ} {b : Bases} {entries targets slots : List ℕ} {f 
         helper-goes = Branches.helper-goes l;
         unsigned-plain = Values.unsigned-plain l;
         unsigned-tls = Values.unsigned-tls l;
+        authenticated-fields = Authenticated.authenticated-fields l;
+        authenticated-from-image = Authenticated.authenticated-from-image l;
         subtractor-4 = Values.subtractor-4 l;
         subtractor-8 = Values.subtractor-8 l;
         pointer-to-got = Values.pointer-to-got l;
@@ -92,9 +95,9 @@ fixup =
       both-alone =
           let r = Examples.both-roles in
           (Examples.both-lone .0, Examples.both-lone .1, λ k. none-named (Examples.pairFixed .section) k, r .0, r .1, r .2, r .3);
-      none-reported = λ section base tls entries targets slots count n c. (
-        none-filled section (basesOf base tls) entries targets slots (no-report (answerTo section base tls entries targets slots) count n c),
-        λ k. none-named (sectionTo section base tls entries targets slots) k,
+      none-reported = λ section base tls image entries targets slots count n c. (
+        none-filled section (basesOf base tls image) entries targets slots (no-report (answerTo section base tls image entries targets slots) count n c),
+        λ k. none-named (sectionTo section base tls image entries targets slots) k,
       );
       unwritten = Footprint.unwritten;
       only = λ section b entries targets slots {f} a k below alone. Footprint.only section b entries targets slots a k below alone;

@@ -3,6 +3,7 @@ use Rattle.arm64_reader.proofs.Lengths as Lengths
 use Rattle.arm64_reader.proofs.Ignored as Reader
 use Rattle.arm64_fixup.proofs.Empty as FixupEmpty
 use Rattle.arm64_fixup.proofs.Ignored as Fixup
+use Rattle.arm64_fixup.proofs.ImageBase as ImageBase
 use Rattle.arm64_hint_run.proofs.Empty as HintsEmpty
 use Rattle.arm64_hint_run.proofs.Ignored as Hints
 use Rattle.arm64_hint_run.proofs.IgnoredEntries as Entries
@@ -22,7 +23,10 @@ ignored =
       reader-addend = Reader.addend-ignored;
       fix-up-alike = λ b entries entries′ targets targets′ section slots le lt w t.
           Fixup.ignored b entries entries′ targets targets′ (record { length-entries = le; length-targets = lt; worked = w; taken = t }) section slots;
-      fix-up-spare = Fixup.spare-bytes;
+      fix-up-marks = Fixup.mark-bytes;
+      fix-up-signing = Fixup.signing-bytes;
+      fix-up-signing-bits = Fixup.signing-bits;
+      fix-up-image = ImageBase.image-unused;
       fix-up-size = Fixup.size-byte;
       fix-up-target-bits = Fixup.target-byte;
       fix-up-taken = Fixup.consumed-entry;
@@ -34,5 +38,5 @@ ignored =
       hint-part = Addresses.any-part;
       hint-entries = λ entries entries′ image hints l a.
           Entries.run-alike-entries entries entries′ l (λ k h. record { type = a k h .0; target = a k h .1; addend = a k h .2 }) image hints;
-      hint-spare = Entries.spare-bytes;
+      hint-signing = Entries.signing-bytes;
     }

@@ -10,6 +10,7 @@ pub mod Header
 pub mod X86
 pub mod Forms
 pub mod Fixup
+pub mod Authenticated
 pub mod Hints
 pub mod Kept
 pub mod Lister

@@ -67,15 +67,15 @@ module _ (each upto : ℕ → Check) (none : upto 0 ≡ Fit) (onward : (k : ℕ)
       ⊎-elim (λ (q : i ≡ k). rw (← q) (onward i (all-fit i fit) ∙ e)) (λ (l : i < k). stays k x (earliest i x fit e k l))
       (eq-or-lt-of-le (le-of-suc-le-suc h))
 
-fix-up-earliest : (section : List ℕ) (base tls : ℕ) (entries targets slots : List ℕ) (i : ℕ) (x : Refusal)
+fix-up-earliest : (section : List ℕ) (base tls image : ℕ) (entries targets slots : List ℕ) (i : ℕ) (x : Refusal)
     → Answer.checkLists (length entries) (length targets) (length slots) ≡ Fit → i < entryCount entries
-    → ((j : ℕ) → j < i → checkAt (length section) (basesOf base tls) entries targets j ≡ Fit)
-    → checkAt (length section) (basesOf base tls) entries targets i ≡ Refused x
-    → Fixup.numberTo section base tls entries targets slots ≡ numberOf x
+    → ((j : ℕ) → j < i → checkAt (length section) (basesOf base tls image) entries targets j ≡ Fit)
+    → checkAt (length section) (basesOf base tls image) entries targets i ≡ Refused x
+    → Fixup.numberTo section base tls image entries targets slots ≡ numberOf x
 unfolding outcomeOf checkTo
-fix-up-earliest section base tls entries targets slots i x lists h fit e =
-    let found : checkTo (length section) (basesOf base tls) entries targets (entryCount entries) ≡ Refused x =
-    earliest (checkAt (length section) (basesOf base tls) entries targets) (checkTo (length section) (basesOf base tls) entries targets)
+fix-up-earliest section base tls image entries targets slots i x lists h fit e =
+    let found : checkTo (length section) (basesOf base tls image) entries targets (entryCount entries) ≡ Refused x =
+    earliest (checkAt (length section) (basesOf base tls image) entries targets) (checkTo (length section) (basesOf base tls image) entries targets)
     refl (λ k q. rw q) (λ k y q. rw q) i x fit e (entryCount entries) h in
     rw (lists, found)
 
@@ -131,8 +131,8 @@ fourth false true c d e = refl
 fourth false false true d e = refl
 fourth false false false d e = e
 
-module _ (section : List ℕ) (base tls : ℕ) (entries targets slots : List ℕ) where
-  disagreeing : disagree (length entries) (length targets) ≡ true → Fixup.numberTo section base tls entries targets slots ≡ 1
+module _ (section : List ℕ) (base tls image : ℕ) (entries targets slots : List ℕ) where
+  disagreeing : disagree (length entries) (length targets) ≡ true → Fixup.numberTo section base tls image entries targets slots ≡ 1
   unfolding outcomeOf Answer.checkLists choose
   disagreeing e = rw e
 
@@ -149,21 +149,21 @@ module _ (section : List ℕ) (base tls : ℕ) (entries targets slots : List ℕ
   abbrev differ : Bool
   differ = not (eqb (length entries / relocSize) (length targets / resolvedSize))
 
-  entries-not-whole : (length entries % relocSize ≡ 0 → ⊥) → Fixup.numberTo section base tls entries targets slots ≡ 1
+  entries-not-whole : (length entries % relocSize ≡ 0 → ⊥) → Fixup.numberTo section base tls image entries targets slots ≡ 1
   entries-not-whole h = disagreeing (rw (ne-eqb (length entries % relocSize) 0 h))
 
-  targets-not-whole : (length targets % resolvedSize ≡ 0 → ⊥) → Fixup.numberTo section base tls entries targets slots ≡ 1
+  targets-not-whole : (length targets % resolvedSize ≡ 0 → ⊥) → Fixup.numberTo section base tls image entries targets slots ≡ 1
   targets-not-whole h = disagreeing (second cut targetsCut many differ (rw (ne-eqb (length targets % resolvedSize) 0 h)))
 
-  many-fix-up-entries : 2 ^ 32 ≤ length entries / relocSize → Fixup.numberTo section base tls entries targets slots ≡ 1
+  many-fix-up-entries : 2 ^ 32 ≤ length entries / relocSize → Fixup.numberTo section base tls image entries targets slots ≡ 1
   many-fix-up-entries h = disagreeing (third cut targetsCut many differ (lt-ltb mostRecords (length entries / relocSize) (omega arith)))
 
-  counts-differ : (length entries / relocSize ≡ length targets / resolvedSize → ⊥) → Fixup.numberTo section base tls entries targets slots ≡ 1
+  counts-differ : (length entries / relocSize ≡ length targets / resolvedSize → ⊥) → Fixup.numberTo section base tls image entries targets slots ≡ 1
   counts-differ h = disagreeing (fourth cut targetsCut many differ (rw (ne-eqb (length entries / relocSize) (length targets / resolvedSize) h)))
 
   few-report-slots : length entries % relocSize ≡ 0 → length targets % resolvedSize ≡ 0 → length entries / relocSize < 2 ^ 32
       → length entries / relocSize ≡ length targets / resolvedSize → length slots < reportSize * (length entries / relocSize)
-      → Fixup.numberTo section base tls entries targets slots ≡ 2
+      → Fixup.numberTo section base tls image entries targets slots ≡ 2
   unfolding outcomeOf Answer.checkLists choose
   few-report-slots e f l q h =
       simp (

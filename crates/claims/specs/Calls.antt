@@ -28,7 +28,7 @@ use Rattle.hauklivo.proofs.payload.hauklivo_read_hints.Statement as ReadHints
 use Rattle.hauklivo.proofs.payload.hauklivo_write_hints.Statement as WriteHints
 use Rattle.hauklivo.proofs.ldst.hauklivo_load_store_class.Statement as LoadStoreClass
 use Rattle.hauklivo.proofs.version.hauklivo_version.Statement as Version
-use Rattle.hauklivo.proofs.version.hauklivo_version_4.Statement as Version4
+use Rattle.hauklivo.proofs.version.hauklivo_version_5.Statement as Version5
 
 -- `statement M` is made by the toolchain from the code and its contract. It says of the compiled function, in every memory that can be lent as its
 -- parameters say: it touches no other memory, it returns, and its answer and every lent byte are what its `ensures` say. No call here has a `requires`
@@ -53,9 +53,9 @@ pub record Calls : Type 2 where
   pub load-store-class : (M : Type 1) → LoadStoreClass.statement M
   -- the version of the calls, by either name (hauklivo/src/version.rt)
   pub version : (M : Type 1) → Version.statement M
-  pub version-4 : (M : Type 1) → Version4.statement M
-  -- RULES 3.1: a refusal's number is one of 1 to 14
-  pub numbered : (x : Refusal) → (1 ≤ Refusal.numberOf x) × (Refusal.numberOf x ≤ 14)
+  pub version-5 : (M : Type 1) → Version5.statement M
+  -- RULES 3.1: a refusal's number is one of 1 to 16
+  pub numbered : (x : Refusal) → (1 ≤ Refusal.numberOf x) × (Refusal.numberOf x ≤ 16)
   -- RULES 1.3, 3.2: a refused reader leaves slots and count
   pub read-relocs-refused : (contents records sections slots : List ℕ) (count : ℕ) → (Reader.numberTo contents records sections slots ≡ 0 → ⊥)
       → (Read.slotsTo contents records sections slots ≡ slots) × (Reader.countTo contents records sections slots count ≡ count)
@@ -63,11 +63,11 @@ pub record Calls : Type 2 where
       → (ReaderX86.numberTo contents records sections address slots ≡ 0 → ⊥)
       → (ReadX86.slotsTo contents records sections address slots ≡ slots) × (ReaderX86.countTo contents records sections address slots count ≡ count)
   -- a refused fix-up leaves section, slots and count
-  pub apply-reloc-alloc-refused : (section : List ℕ) (base tls : ℕ) (entries targets slots : List ℕ) (count : ℕ)
-      → (Fixup.numberTo section base tls entries targets slots ≡ 0 → ⊥)
-      → (Answer.sectionTo section base tls entries targets slots ≡ section)
-      × (Answer.slotsTo section base tls entries targets slots ≡ slots)
-      × (Fixup.countTo section base tls entries targets slots count ≡ count)
+  pub apply-reloc-alloc-refused : (section : List ℕ) (base tls image : ℕ) (entries targets slots : List ℕ) (count : ℕ)
+      → (Fixup.numberTo section base tls image entries targets slots ≡ 0 → ⊥)
+      → (Answer.sectionTo section base tls image entries targets slots ≡ section)
+      × (Answer.slotsTo section base tls image entries targets slots ≡ slots)
+      × (Fixup.countTo section base tls image entries targets slots count ≡ count)
   -- a refused stub entry leaves its bytes and whether it reaches
   pub write-stub-refused : (buf : List ℕ) (addr ptr reaches : ℕ) → (Stub.stubNumberTo buf addr ptr ≡ 0 → ⊥)
       → (Stub.stubTo buf addr ptr ≡ buf) × (Stub.reachesTo buf addr ptr reaches ≡ reaches)

@@ -9,6 +9,7 @@ use Rattle.claims.specs.Header.{Header}
 use Rattle.claims.specs.X86.{X86}
 use Rattle.claims.specs.Forms.{Forms}
 use Rattle.claims.specs.Fixup.{Fixup}
+use Rattle.claims.specs.Authenticated.{Authenticated}
 use Rattle.claims.specs.Hints.{Hints}
 use Rattle.claims.specs.Kept.{Kept}
 use Rattle.claims.specs.Lister.{Lister}
@@ -30,6 +31,8 @@ pub record Claims : Type 2 where
   pub x86 : X86
   pub forms : Forms
   pub fixup : Fixup
+  -- authenticated pointers, from their record to their word (RULES 1.33)
+  pub authenticated : Authenticated
   pub hints : Hints
   -- what a hint keeps (RULES 1.9 to 1.14)
   pub kept : Kept

@@ -1,16 +1,20 @@
--- What the fix-up makes of a section (RULES 5.8 to 5.27, 6): of an entry that stands alone, what its word means then; which bytes change; one stub or thunk
+-- What the fix-up makes of a section (RULES 5.8 to 5.28, 6): of an entry that stands alone, what its word means then; which bytes change; one stub or thunk
 -- entry.
 use mathlib.Core.Path.{_≡_}
 use mathlib.Core.Bool.{true, false}
 use mathlib.Core.Logic.{_⊎_}
 use mathlib.Core.List.{List, [], _∷_, _++_}
-use Prim.Native.Nat.{ℕ, _+_, _/_, _%_, _^_, _≤_, _<_}
+use Prim.Native.Nat.{ℕ, _+_, _*_, _/_, _%_, _^_, _≤_, _<_}
 use lib.ListN.{length, getD}
 use Rattle.util.specs.Bits.{field}
+use Rattle.util.specs.Diagram.{matches}
 use Rattle.util.specs.Word.{le, bytes}
 use Rattle.util.specs.Wrap.{sum, diff}
 use Rattle.macho.specs.Types.{ARM64-RELOC-UNSIGNED, ARM64-RELOC-SUBTRACTOR, ARM64-RELOC-BRANCH26, ARM64-RELOC-PAGE21, ARM64-RELOC-PAGEOFF12}
 use Rattle.macho.specs.Types.{ARM64-RELOC-GOT-LOAD-PAGE21, ARM64-RELOC-POINTER-TO-GOT}
+use Rattle.macho.specs.Types.{ARM64-RELOC-AUTHENTICATED-POINTER}
+use Rattle.macho.specs.Authenticated.{authenticated}
+use Rattle.macho.specs.Reloc.{relocSize}
 use Rattle.macho.specs.Refusal.{checkNumber}
 use Rattle.macho.specs.Resolved.{isTls, hasAddress, canRelaxGot, hasHelper, helperIsOwn, isProbe, isEnabled}
 use Rattle.macho.specs.declared.reloc.Reloc.{Reloc}
@@ -136,6 +140,15 @@ module _ (section : List ℕ) (b : Bases) (entries targets : List ℕ) (f : Fixe
         → pointerAt entries (f .section) k ≡ sum (target .addr) (entry .addend)
     pub unsigned-tls : entry .ty ≡ ARM64-RELOC-UNSIGNED → importedSymbol entry target ≡ false → isTls target ≡ true
         → pointerAt entries (f .section) k ≡ diff (sum (target .addr) (entry .addend)) (b .«tls_begin»)
+    -- RULES 5.28: AUTHENTICATED_POINTER of anything but an imported symbol: a word of the diagram, with bytes 12 to 15 of the entry, of byte 14 the low bit, of
+    -- byte 15 the low two; its low 32 bits plus the image base are S + A
+    pub authenticated-fields : entry .ty ≡ ARM64-RELOC-AUTHENTICATED-POINTER → importedSymbol entry target ≡ false
+        → let w = pointerAt entries (f .section) k in
+        (matches authenticated w ≡ true) × (w < 2 ^ 64) × (field w 32 16 ≡ le 2 entries (relocSize * k + 12))
+        × (field w 48 1 ≡ le 1 entries (relocSize * k + 14) % 2) × (field w 49 2 ≡ le 1 entries (relocSize * k + 15) % 4)
+        × (field w 51 12 ≡ 0) × (field w 63 1 ≡ 1)
+    pub authenticated-from-image : entry .ty ≡ ARM64-RELOC-AUTHENTICATED-POINTER → importedSymbol entry target ≡ false → b .«image_base» < 2 ^ 64
+        → sum (b .«image_base») (field (pointerAt entries (f .section) k) 0 32) ≡ sum (target .addr) (entry .addend)
     -- RULES 5.11: SUBTRACTOR: S + A of the next entry less the own S, its low 4 bytes or all 8
     pub subtractor-4 : entry .ty ≡ ARM64-RELOC-SUBTRACTOR → entry .size ≡ 4
         → new ≡ diff (sum (lentTarget targets (k + 1) .addr) (lentEntry entries (k + 1) .addend)) (target .addr) % 2 ^ 32
@@ -241,15 +254,15 @@ pub record Fixup : Type 0 where
       → Lone section b entries targets slots f k → Lone section b entries targets slots f m → Unreported f k
       → (rd imm : ℕ) → decode (wordAt entries section k) ≡ instruction (ADRP rd imm) → Pair section b entries targets f k m rd
   -- not vacuous: of two PAGEOFF12 on the word of example 9, to 0x1234, which is reported and writes nothing, and to 0x1238, the second stands alone
-  pub second-alone : Lone (bytes 4 0xf9400000) (basesOf 0x1000 0)
+  pub second-alone : Lone (bytes 4 0xf9400000) (basesOf 0x1000 0 0)
       (Lent.entry ARM64-RELOC-PAGEOFF12 0 0 ++ Lent.entry ARM64-RELOC-PAGEOFF12 0 0)
       (resolved 0x1234 has-address ++ resolved 0x1238 has-address)
       (bytes 48 0)
       (record { section = bytes 4 0xf9411c00; reports = record { entry = 0; kind = 3; size = 8; place = 0; target = 0 } ∷ [] })
       1
   -- nor are the premises of a pair: both entries stand alone, no report names them, and page and page offset are of one address
-  pub both-alone : Lone pairWords (basesOf 0x1000 0) pairEntries pairTargets (bytes 48 0) pairFixed 0
-      × Lone pairWords (basesOf 0x1000 0) pairEntries pairTargets (bytes 48 0) pairFixed 1
+  pub both-alone : Lone pairWords (basesOf 0x1000 0 0) pairEntries pairTargets (bytes 48 0) pairFixed 0
+      × Lone pairWords (basesOf 0x1000 0 0) pairEntries pairTargets (bytes 48 0) pairFixed 1
       × ((k : ℕ) → Unreported pairFixed k)
       × Page (lentEntry pairEntries 0) (lentTarget pairTargets 0) 0x5678
       × Offset (lentEntry pairEntries 1) (lentTarget pairTargets 1) 0x5678
@@ -263,11 +276,11 @@ pub record Fixup : Type 0 where
       × (fixUp 0xbd800000 ARM64-RELOC-PAGEOFF12 0x1234 has-address ≡ becomes 0xbd823400)
       × (fixUp 0xbd800000 ARM64-RELOC-PAGEOFF12 0x1236 has-address ≡ misaligned 4 0xbd800000)
   -- RULES 5.27: a call that returns 0 and counts no report ends with the section that it leaves and names no entry
-  pub none-reported : (section : List ℕ) (base tls : ℕ) (entries targets slots : List ℕ) (count : ℕ)
-      → numberTo section base tls entries targets slots ≡ 0 → countTo section base tls entries targets slots count ≡ 0
-      → (outcomeOf section (basesOf base tls) entries targets slots
-      ≡ fixed (record { section = sectionTo section base tls entries targets slots; reports = [] }))
-      × ((k : ℕ) → Unreported (record { section = sectionTo section base tls entries targets slots; reports = [] }) k)
+  pub none-reported : (section : List ℕ) (base tls image : ℕ) (entries targets slots : List ℕ) (count : ℕ)
+      → numberTo section base tls image entries targets slots ≡ 0 → countTo section base tls image entries targets slots count ≡ 0
+      → (outcomeOf section (basesOf base tls image) entries targets slots
+      ≡ fixed (record { section = sectionTo section base tls image entries targets slots; reports = [] }))
+      × ((k : ℕ) → Unreported (record { section = sectionTo section base tls image entries targets slots; reports = [] }) k)
   -- RULES 5.24: a byte that no entry writes stays, whatever the call answers
   pub unwritten : (section : List ℕ) (b : Bases) (entries targets slots : List ℕ) (p : ℕ)
       → ((i : ℕ) → i < entryCount entries → Writes section b entries targets i p → ⊥)
@@ -291,8 +304,9 @@ pub record Fixup : Type 0 where
   pub apart-alone : (section : List ℕ) (b : Bases) (entries targets slots : List ℕ) (k : ℕ)
       → ((i p : ℕ) → i < entryCount entries → (i ≡ k → ⊥) → Touches entries targets k p → Touches entries targets i p → ⊥)
       → Alone section b entries targets k
-  -- RULES 5.8: footprints of no byte: an imported symbol's UNSIGNED; PAGE21 and PAGEOFF12 without an address
-  pub imported-width : (e : Reloc) (t : Resolved) → e .ty ≡ ARM64-RELOC-UNSIGNED → importedSymbol e t ≡ true → widthOf e t ≡ 0
+  -- RULES 5.8: footprints of no byte: an imported symbol's pointer; PAGE21 and PAGEOFF12 without an address
+  pub imported-width : (e : Reloc) (t : Resolved) → (e .ty ≡ ARM64-RELOC-UNSIGNED) ⊎ (e .ty ≡ ARM64-RELOC-AUTHENTICATED-POINTER)
+      → importedSymbol e t ≡ true → widthOf e t ≡ 0
   pub unaddressed-width : (e : Reloc) (t : Resolved) → (e .ty ≡ ARM64-RELOC-PAGE21) ⊎ (e .ty ≡ ARM64-RELOC-PAGEOFF12) → hasAddress t ≡ false
       → widthOf e t ≡ 0
   -- RULES 6.2: the words of a stub entry; in reach it loads the pointer

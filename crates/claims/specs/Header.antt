@@ -10,7 +10,7 @@ use Rattle.util.specs.Part.{part}
 use Rattle.util.specs.Word.{put}
 use Rattle.macho.specs.Record.{Field, Fits, Zeros}
 use Rattle.macho.specs.MachRel.{machRelSize, machRelAt, machRelFields, machRelBytes, idxOf, pcrelOf, p2sizeOf, externOf, typeOf, formOf, bitsOf}
-use Rattle.macho.specs.Reloc.{relocSize, relocAt, relocFields, relocBytes}
+use Rattle.macho.specs.Reloc.{relocSize, relocAt, relocFields, relocBytes, withSigning}
 use Rattle.macho.specs.Resolved.{resolvedSize, resolvedAt, resolvedFields, resolvedBytes}
 use Rattle.macho.specs.Report.{reportSize, reportAt, reportFields, reportBytes}
 use Rattle.macho.specs.Hint.{hintSize, hintAt, hintFields, hintBytes}
@@ -26,10 +26,10 @@ use Rattle.arm64_reader.specs.Read.{readRecords, readTable, readRelocs, endsIn,
 use Rattle.arch.specs.Form.{appliedBelow}
 use Rattle.arm64_reader.specs.Support.{forms, supportedOf}
 use Rattle.arm64_reader.specs.Fields.{starts, pairs, entryFrom}
-use Rattle.arm64_reader.specs.Header.{Relocation, symbol, nothing, Meaning, undefined, relocations, meaningOf, Present, hasLonePointer32}
+use Rattle.arm64_reader.specs.Header.{Relocation, symbol, nothing, not-signed, Meaning, undefined, relocations, meaningOf, Present, hasLonePointer32}
 use Rattle.arm64_reader.specs.Header.{inHeader, Reason, isTolerated, not-in-header, not-applied}
 use Rattle.arm64_reader.specs.Header.{subtractor-last, subtractor-type, subtractor-place, subtractor-size}
-use Rattle.arm64_reader.specs.Header.{addend-form, addend-last, addend-type, addend-place}
+use Rattle.arm64_reader.specs.Header.{addend-form, addend-last, addend-type, addend-place, not-authenticated}
 use Rattle.arm64_reader.specs.Said.{said}
 use Rattle.hauklivo.specs.Reader as Reader
 use Rattle.claims.specs.Lent.{nop, machRel}
@@ -40,20 +40,6 @@ abbrev pub RoundTrip : {A : Type 0} (size : ℕ) (value : List ℕ → ℕ → A
 RoundTrip {A} size value fields image =
     ((a : A) (xs ys : List ℕ) → Fits (fields a) → value (xs ++ (image a ++ ys)) (length xs) ≡ a)
     × ((s : List ℕ) (at : ℕ) → ((i : ℕ) → getD s i 0 < 256) → at + size ≤ length s → Zeros (fields (value s at)) s at → image (value s at) ≡ part s at size)
-
--- an entry with other spare bytes
-abbrev pub withSpare : Reloc → ℕ → Reloc
-withSpare r x =
-    record {
-      offset = r .offset;
-      ty = r .ty;
-      size = r .size;
-      «is_pcrel» = r .«is_pcrel»;
-      «is_subtracted» = r .«is_subtracted»;
-      target = r .target;
-      spare = x;
-      addend = r .addend;
-    }
 
 -- what records mean, and how many entries the reader fills
 abbrev pub reads : (contents records : List ℕ) → Meaning × ℕ
@@ -77,13 +63,13 @@ pub record Header : Type 0 where
       × (externOf (bitsOf i p l e t) ≡ e) × (typeOf (bitsOf i p l e t) ≡ t)
   pub unpacked : (bits : ℕ) → bits < 2 ^ 32 → bitsOf (idxOf bits) (pcrelOf bits) (p2sizeOf bits) (externOf bits) (typeOf bits) ≡ bits
   pub form-fields : (bits : ℕ) → formOf bits ≡ pcrelOf bits + 2 * p2sizeOf bits + 8 * externOf bits
-  -- RULES 2.8: unused bytes of a report and of a hint change nothing; an entry's spare bytes are its spare field alone
+  -- RULES 2.8: unused bytes of a report and of a hint change nothing; bytes 12 to 15 of an entry are its field `signing` alone
   pub report-ignores : (s : List ℕ) (at u v : ℕ) → reportAt (set (set s (at + 6) u) (at + 7) v) at ≡ reportAt s at
   pub hint-ignores : (s : List ℕ) (at u v : ℕ) → hintAt (set (set s (at + 2) u) (at + 3) v) at ≡ hintAt s at
-  pub entry-spare : (s : List ℕ) (at v : ℕ) → at + 16 ≤ length s → relocAt (put 4 s (at + 12) v) at ≡ withSpare (relocAt s at) (v % 2 ^ 32)
+  pub entry-signing : (s : List ℕ) (at v : ℕ) → at + 16 ≤ length s → relocAt (put 4 s (at + 12) v) at ≡ withSigning (relocAt s at) (v % 2 ^ 32)
   -- RULES 4.6: the records that the linker applies, by type and form
   pub applied : appliedBelow forms 256
-      ≡ 0x04 ∷ 0x06 ∷ 0x0c ∷ 0x0e ∷ 0x1c ∷ 0x1e ∷ 0x2d ∷ 0x3d ∷ 0x4c ∷ 0x5d ∷ 0x6c ∷ 0x7d ∷ 0x8d ∷ 0x9c ∷ 0xa4 ∷ []
+      ≡ 0x04 ∷ 0x06 ∷ 0x0c ∷ 0x0e ∷ 0x1c ∷ 0x1e ∷ 0x2d ∷ 0x3d ∷ 0x4c ∷ 0x5d ∷ 0x6c ∷ 0x7d ∷ 0x8d ∷ 0x9c ∷ 0xa4 ∷ 0xbe ∷ []
   -- RULES 4.16: the headers have each of them
   pub applied-in-header : (r : MachRel) → supportedOf r ≡ true → inHeader r ≡ true
   -- RULES 4.21: where a table is defined and read, the entries say what it means
@@ -120,15 +106,16 @@ pub record Header : Type 0 where
       ∷ (undefined addend-type, 1)
       ∷ (undefined addend-place, 1)
       ∷ []
-  -- RULES 4.19: and so do the other three, refused by 5 and by 4: PAGE21 that is not pc-relative, type 12; POINTER_TO_GOT of 8 bytes (`.quad _g@GOT`), UNSIGNED
-  -- of 2, PAGEOFF12 scaled by 8, type 11; ADDEND the last record
+  -- RULES 4.19: and so do the other four, refused by 5, 4 and 15: PAGE21 that is not pc-relative, type 12; POINTER_TO_GOT of 8 bytes (`.quad _g@GOT`),
+  -- UNSIGNED of 2, PAGEOFF12 scaled by 8, type 11 of 4 bytes; ADDEND the last record; zeros under an authenticated pointer
   pub not-tolerated : refuses (replicate 8 0) (machRel 0 0x3c000000)
       ∷ refuses (replicate 8 0) (machRel 0 0xcc000000)
       ∷ refuses (replicate 8 0) (machRel 0 0x7e000000)
       ∷ refuses (replicate 8 0) (machRel 0 0x0a000000)
       ∷ refuses (replicate 8 0) (machRel 0 0x4e000000)
-      ∷ refuses (replicate 8 0) (machRel 0 0xbe000000)
+      ∷ refuses (replicate 8 0) (machRel 0 0xbc000000)
       ∷ refuses (replicate 8 0) (machRel 0 0xa4000000)
+      ∷ refuses (replicate 8 0) (machRel 0 0xbe000000)
       ∷ []
       ≡ (undefined not-in-header, 5)
       ∷ (undefined not-in-header, 5)
@@ -137,15 +124,16 @@ pub record Header : Type 0 where
       ∷ (undefined not-applied, 5)
       ∷ (undefined not-applied, 5)
       ∷ (undefined addend-last, 4)
+      ∷ (undefined not-authenticated, 15)
       ∷ []
   -- RULES 4.22: both refusals of defined tables occur: a TLVP page offset on NOP, a pointer of 4 bytes alone
   pub defined-refused : refuses nop (machRel 0 0x9c000000)
       ∷ refuses nop (machRel 0 0x0c000000)
       ∷ []
-      ≡ (relocations (record { ty = 9; place = 0; size = 4; target = symbol 0; addend = 0; minus = nothing } ∷ []), 6)
-      ∷ (relocations (record { ty = 0; place = 0; size = 4; target = symbol 0; addend = 0xffffffff_d503201f; minus = nothing } ∷ []), 5)
+      ≡ (relocations (record { ty = 9; place = 0; size = 4; target = symbol 0; addend = 0; minus = nothing; signing = not-signed } ∷ []), 6)
+      ∷ (relocations (record { ty = 0; place = 0; size = 4; target = symbol 0; addend = 0xffffffff_d503201f; minus = nothing; signing = not-signed } ∷ []), 5)
       ∷ []
-  -- RULES 4.2 to 4.12: each entry of a table that is read is the function of its records that Fields has
+  -- RULES 4.2 to 4.12, 4.24: each entry of a table that is read is the function of its records that Fields has
   pub fields : (contents sections : List ℕ) (first : Bool) (rs : List MachRel) (es : List Reloc)
       → readRecords contents sections first rs ≡ entries es → es ≡ map (entryFrom contents sections first rs) (starts 0 false rs)
   -- RULES 4.14: as many entries as records, less the ADDEND records that head a pair

@@ -3,12 +3,12 @@ use mathlib.Core.Path.{_≡_}
 use mathlib.Core.Bool.{Bool, true, false}
 use mathlib.Core.Logic.{_⊎_}
 use mathlib.Core.List.{List, [], _∷_, _++_}
-use Prim.Native.Nat.{ℕ, _+_, _*_, _-_, _/_, _^_, _≤_, _<_}
+use Prim.Native.Nat.{ℕ, _+_, _*_, _-_, _/_, _%_, _^_, _≤_, _<_}
 use lib.Dec.{eqb}
 use lib.ListN.{length, getD, set}
 use Rattle.util.specs.Word.{le}
 use Rattle.macho.specs.MachRel.{idxOf, externOf, typeOf}
-use Rattle.macho.specs.Types.{ARM64-RELOC-SUBTRACTOR, ARM64-RELOC-ADDEND}
+use Rattle.macho.specs.Types.{ARM64-RELOC-SUBTRACTOR, ARM64-RELOC-ADDEND, ARM64-RELOC-AUTHENTICATED-POINTER}
 use Rattle.macho.specs.Reloc.{relocSize, relocAt, isSection}
 use Rattle.macho.specs.Resolved.{resolvedSize, wellFormed}
 use Rattle.macho.specs.Hint.{hintSize, hintCount, hintOf}
@@ -21,10 +21,11 @@ use Rattle.arch.specs.Walk as Walk
 use Rattle.arch.specs.Walk.{Fills}
 use Rattle.arm64_reader.specs.Read.{readRecords, readRelocs, NoLastAddend}
 use Rattle.arm64_reader.specs.Fields.{ownOf, lookedAt}
+use Rattle.arm64_fixup_entry.specs.Target.{importedSymbol}
 use Rattle.arm64_fixup_entry.specs.Seen.{seen, SameUse}
 use Rattle.arm64_fixup_entry.specs.declared.target.Bases.{Bases}
 use Rattle.arm64_fixup.specs.Walk.{lentEntry, lentTarget, entryCount, consumed}
-use Rattle.arm64_fixup.specs.Answer.{outcomeOf, answerOf, sectionAfter, slotsAfter}
+use Rattle.arm64_fixup.specs.Answer.{basesOf, outcomeOf, answerOf, sectionAfter, slotsAfter}
 use Rattle.arm64_hint_places.specs.Hint.{isSkipped}
 use Rattle.arm64_hint_check.specs.Check.{isList}
 use Rattle.arm64_hint_rules.specs.Rule as HintRule
@@ -108,9 +109,21 @@ pub record Ignored : Type 0 where
       → ((i : ℕ) → i < entryCount entries → consumed entries i ≡ true
       → (lentEntry entries i .addend ≡ lentEntry entries′ i .addend) × (lentTarget targets i .addr ≡ lentTarget targets′ i .addr))
       → outcomeOf section b entries targets slots ≡ outcomeOf section b entries′ targets′ slots
-  -- so a pc-relative or subtracted byte of an entry, and a spare one, may hold anything
-  pub fix-up-spare : (section : List ℕ) (b : Bases) (entries targets slots : List ℕ) (i j v : ℕ) → ((6 ≤ j) × (j < 8)) ⊎ ((12 ≤ j) × (j < 16))
+  -- so the pc-relative and the subtracted byte of an entry may hold anything
+  pub fix-up-marks : (section : List ℕ) (b : Bases) (entries targets slots : List ℕ) (i j v : ℕ) → 6 ≤ j → j < 8
       → outcomeOf section b entries targets slots ≡ outcomeOf section b (set entries (relocSize * i + j) v) targets slots
+  -- and bytes 12 to 15, but for a worked AUTHENTICATED_POINTER; of that all bits of address diversity but the lowest, and of key but the low two
+  pub fix-up-signing : (section : List ℕ) (b : Bases) (entries targets slots : List ℕ) (i j v : ℕ) → 12 ≤ j → j < 16
+      → (lentEntry entries i .ty ≡ ARM64-RELOC-AUTHENTICATED-POINTER → ⊥) ⊎ (consumed entries i ≡ true)
+      → outcomeOf section b entries targets slots ≡ outcomeOf section b (set entries (relocSize * i + j) v) targets slots
+  pub fix-up-signing-bits : (section : List ℕ) (b : Bases) (entries targets slots : List ℕ) (i j v : ℕ)
+      → ((j ≡ 14) × (v % 2 ≡ getD entries (relocSize * i + j) 0 % 2)) ⊎ ((j ≡ 15) × (v % 4 ≡ getD entries (relocSize * i + j) 0 % 4))
+      → outcomeOf section b entries targets slots ≡ outcomeOf section b (set entries (relocSize * i + j) v) targets slots
+  -- the image base, where each worked AUTHENTICATED_POINTER is of an imported symbol
+  pub fix-up-image : (base tls image image′ : ℕ) (section entries targets : List ℕ)
+      → ((i : ℕ) → i < entryCount entries → consumed entries i ≡ false → lentEntry entries i .ty ≡ ARM64-RELOC-AUTHENTICATED-POINTER
+      → importedSymbol (lentEntry entries i) (lentTarget targets i) ≡ true)
+      → (slots : List ℕ) → outcomeOf section (basesOf base tls image) entries targets slots ≡ outcomeOf section (basesOf base tls image′) entries targets slots
   -- the size byte, but for SUBTRACTOR
   pub fix-up-size : (section : List ℕ) (b : Bases) (entries targets slots : List ℕ) (i v : ℕ) → (lentEntry entries i .ty ≡ ARM64-RELOC-SUBTRACTOR → ⊥)
       → outcomeOf section b entries targets slots ≡ outcomeOf section b (set entries (relocSize * i + 5) v) targets slots
@@ -147,6 +160,6 @@ pub record Ignored : Type 0 where
       × (relocAt entries (relocSize * k) .target ≡ relocAt entries′ (relocSize * k) .target)
       × (relocAt entries (relocSize * k) .addend ≡ relocAt entries′ (relocSize * k) .addend))
       → SameRuns image hints hints entries entries′
-  -- so its spare bytes may hold anything
-  pub hint-spare : (entries : List ℕ) (k i v : ℕ) → 12 ≤ i → i < 16 → (image hints : List ℕ)
+  -- so the bytes that say how its pointer is signed may hold anything
+  pub hint-signing : (entries : List ℕ) (k i v : ℕ) → 12 ≤ i → i < 16 → (image hints : List ℕ)
       → SameRuns image hints hints (set entries (relocSize * k + i) v) entries

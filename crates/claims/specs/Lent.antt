@@ -23,7 +23,7 @@ machRel offset bits = bytes 4 offset ++ bytes 4 bits
 -- an entry of a type at an offset, with its target field; no addend
 abbrev pub entry : (ty offset target : ℕ) → List ℕ
 entry ty offset target =
-    relocBytes (record { offset = offset; ty = ty; size = 8; «is_pcrel» = 0; «is_subtracted» = 0; target = target; spare = 0; addend = 0 })
+    relocBytes (record { offset = offset; ty = ty; size = 8; «is_pcrel» = 0; «is_subtracted» = 0; target = target; signing = 0; addend = 0 })
 
 -- the flags of a resolved target that the examples set: has an address (Twelve.flags holds them against macho's)
 abbrev pub has-address : ℕ
@@ -43,7 +43,7 @@ resolved addr flags = resolvedBytes (target addr flags)
 
 -- the fix-up of one word at 0x1000 by one entry of a type, to an address with flags
 abbrev pub fixUp : (word ty addr flags : ℕ) → Outcome
-fixUp word ty addr flags = outcomeOf (bytes 4 word) (basesOf 0x1000 0) (entry ty 0 0) (resolved addr flags) (bytes reportSize 0)
+fixUp word ty addr flags = outcomeOf (bytes 4 word) (basesOf 0x1000 0 0) (entry ty 0 0) (resolved addr flags) (bytes reportSize 0)
 
 -- the word that it leaves, with no report
 abbrev pub becomes : ℕ → Outcome

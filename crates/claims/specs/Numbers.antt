@@ -1,6 +1,6 @@
 -- Which number a refused call answers (RULES 3.1, 3.3 to 3.6, 3.9 to 3.11): the examples of RULES 3.1, which comes first where several apply, and the
 -- lengths. That a refused call leaves all is in Calls, the numbers of stub and thunk entries in Fixup, those of the lister in Lister, those of payloads in
--- Payloads.
+-- Payloads, those of authenticated pointers in Authenticated.
 use mathlib.Core.Path.{_≡_}
 use mathlib.Core.List.{List, [], _++_}
 use Prim.Native.Nat.{ℕ, _-_, _*_, _/_, _%_, _^_, _≤_, _<_}
@@ -32,7 +32,7 @@ reader contents records slots = Reader.numberTo contents records [] slots
 
 -- of the fix-up
 abbrev pub fixUp : (section : List ℕ) (base : ℕ) (entries targets slots : List ℕ) → ℕ
-fixUp section base entries targets slots = Fixup.numberTo section base 0 entries targets slots
+fixUp section base entries targets slots = Fixup.numberTo section base 0 0 entries targets slots
 
 -- of a hint run on an image of so many zeros
 abbrev pub hintRun : (size : ℕ) (hints entries : List ℕ) → ℕ
@@ -127,11 +127,11 @@ pub record Numbers : Type 0 where
   pub fix-up-passed-over : fixUp (bytes 8 0) 0 (entry ARM64-RELOC-SUBTRACTOR 0 0 ++ entry ARM64-RELOC-ADDEND 9 0)
       (resolved 0 0 ++ resolved 0 0x200) (bytes 48 0) ≡ 0
   -- RULES 3.3, 3.5: where the lengths are fit, the number is that of the first entry that has one
-  pub fix-up-earliest : (section : List ℕ) (base tls : ℕ) (entries targets slots : List ℕ) (i : ℕ) (x : Refusal)
+  pub fix-up-earliest : (section : List ℕ) (base tls image : ℕ) (entries targets slots : List ℕ) (i : ℕ) (x : Refusal)
       → Answer.checkLists (length entries) (length targets) (length slots) ≡ Fit → i < entryCount entries
-      → ((j : ℕ) → j < i → checkAt (length section) (basesOf base tls) entries targets j ≡ Fit)
-      → checkAt (length section) (basesOf base tls) entries targets i ≡ Refused x
-      → Fixup.numberTo section base tls entries targets slots ≡ numberOf x
+      → ((j : ℕ) → j < i → checkAt (length section) (basesOf base tls image) entries targets j ≡ Fit)
+      → checkAt (length section) (basesOf base tls image) entries targets i ≡ Refused x
+      → Fixup.numberTo section base tls image entries targets slots ≡ numberOf x
   -- RULES 3.6: a hint's part and its words before its entries; by list position between two hints
   pub hint-run-first : (hintRun 7 entryOne (half ARM64-RELOC-PAGE21) ≡ 3)
       × (hintRun 8 (hint MCLOH-AdrpLdr 2 0 8 (place 0 1 0) (place 5 1 0) (place 0 0 0)) (half ARM64-RELOC-PAGE21) ≡ 3)
@@ -154,14 +154,14 @@ pub record Numbers : Type 0 where
       → Reader.numberTo contents records sections slots ≡ 1
   pub many-sections : (contents records sections slots : List ℕ) → 2 ^ 32 ≤ length sections → Reader.numberTo contents records sections slots ≡ 1
   -- of the fix-up: no whole entries, no whole targets, 2^32 entries or more, not as many targets
-  pub entries-not-whole : (section : List ℕ) (base tls : ℕ) (entries targets slots : List ℕ) → (length entries % relocSize ≡ 0 → ⊥)
-      → Fixup.numberTo section base tls entries targets slots ≡ 1
-  pub targets-not-whole : (section : List ℕ) (base tls : ℕ) (entries targets slots : List ℕ) → (length targets % resolvedSize ≡ 0 → ⊥)
-      → Fixup.numberTo section base tls entries targets slots ≡ 1
-  pub many-fix-up-entries : (section : List ℕ) (base tls : ℕ) (entries targets slots : List ℕ) → 2 ^ 32 ≤ length entries / relocSize
-      → Fixup.numberTo section base tls entries targets slots ≡ 1
-  pub counts-differ : (section : List ℕ) (base tls : ℕ) (entries targets slots : List ℕ)
-      → (length entries / relocSize ≡ length targets / resolvedSize → ⊥) → Fixup.numberTo section base tls entries targets slots ≡ 1
+  pub entries-not-whole : (section : List ℕ) (base tls image : ℕ) (entries targets slots : List ℕ) → (length entries % relocSize ≡ 0 → ⊥)
+      → Fixup.numberTo section base tls image entries targets slots ≡ 1
+  pub targets-not-whole : (section : List ℕ) (base tls image : ℕ) (entries targets slots : List ℕ) → (length targets % resolvedSize ≡ 0 → ⊥)
+      → Fixup.numberTo section base tls image entries targets slots ≡ 1
+  pub many-fix-up-entries : (section : List ℕ) (base tls image : ℕ) (entries targets slots : List ℕ) → 2 ^ 32 ≤ length entries / relocSize
+      → Fixup.numberTo section base tls image entries targets slots ≡ 1
+  pub counts-differ : (section : List ℕ) (base tls image : ℕ) (entries targets slots : List ℕ)
+      → (length entries / relocSize ≡ length targets / resolvedSize → ⊥) → Fixup.numberTo section base tls image entries targets slots ≡ 1
   -- of the hint run: just where its hints or its entries are no list
   pub hint-lengths : (image hints entries : List ℕ) → (HintCheck.IsList (length hints) hintSize × HintCheck.IsList (length entries) relocSize → ⊥)
       → runNumber (runOf image hints entries) ≡ 1
@@ -170,9 +170,9 @@ pub record Numbers : Type 0 where
   -- RULES 3.10: 2, where there is no 1: fewer bytes of slots than an entry for each record, ADDEND too; than a report for each entry, taken ones too
   pub few-entry-slots : (contents records sections slots : List ℕ) → length records % machRelSize ≡ 0 → length records / machRelSize < 2 ^ 32
       → length sections < 2 ^ 32 → length slots < relocSize * (length records / machRelSize) → Reader.numberTo contents records sections slots ≡ 2
-  pub few-report-slots : (section : List ℕ) (base tls : ℕ) (entries targets slots : List ℕ) → length entries % relocSize ≡ 0
+  pub few-report-slots : (section : List ℕ) (base tls image : ℕ) (entries targets slots : List ℕ) → length entries % relocSize ≡ 0
       → length targets % resolvedSize ≡ 0 → length entries / relocSize < 2 ^ 32 → length entries / relocSize ≡ length targets / resolvedSize
-      → length slots < reportSize * (length entries / relocSize) → Fixup.numberTo section base tls entries targets slots ≡ 2
+      → length slots < reportSize * (length entries / relocSize) → Fixup.numberTo section base tls image entries targets slots ≡ 2
   -- RULES 3.11: an offset that is the length of the bytes: of a PAGE21 record, whose word is not looked at, and of a stored pointer; of a PAGE21
   -- entry whose target has no address, and of a pointer
   pub at-the-end : (reader (zeros 8) (machRel 8 0x3d000000) (zeros 24) ≡ 0)

@@ -73,7 +73,7 @@ pub record Twelve : Type 0 where
         «is_pcrel» = 1;
         «is_subtracted» = 0;
         target = 5;
-        spare = 0;
+        signing = 0;
         addend = 2 ^ 64 - 1;
       } ∷ [])
   -- RULES 2.18: the flags of examples 9 to 11 are macho's
