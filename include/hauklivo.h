@@ -5,7 +5,7 @@
  * For every input whose pieces don't overlap, a call touches nothing but what it is lent. A call that
  * is lent something returns 0 or the number of a refusal (enum hauklivo_number). A refused call changes
  * nothing that it was lent: no byte, no slot, no count, no tally. The calls that are lent nothing
- * (hauklivo_version, hauklivo_version_4, hauklivo_load_store_class) refuse nothing, and what they return
+ * (hauklivo_version, hauklivo_version_5, hauklivo_load_store_class) refuse nothing, and what they return
  * is no such number.
  *
  * Pieces that don't overlap: what a call may write (a section, an image, slots, bytes, a count, a
@@ -44,14 +44,14 @@ extern "C" {
  * also where it returns a number that is added with it: a program that makes the call does not link
  * with a library that was made before it, and any other program links with both and gets the same
  * answers. */
-#define HAUKLIVO_VERSION 4
+#define HAUKLIVO_VERSION 5
 
 /* The version of the library that is linked: HAUKLIVO_VERSION, unless it and this header are of
  * different versions. */
 uint32_t hauklivo_version(void);
 
 /* The same. Only a library of this version has the name: a program that calls it links with no other. */
-uint32_t hauklivo_version_4(void);
+uint32_t hauklivo_version_5(void);
 
 /* What a call that is lent something returns. */
 enum hauklivo_number {
@@ -90,7 +90,13 @@ enum hauklivo_number {
     /* A payload ends within a value or within a hint, or a value of it is 2^64 or more. */
     HAUKLIVO_MALFORMED = 13,
     /* A byte after the kind 0 that closes the list of a payload is not zero. */
-    HAUKLIVO_TRAILING = 14
+    HAUKLIVO_TRAILING = 14,
+    /* In the 8 bytes stored for an AUTHENTICATED_POINTER record bits 51 to 62 are not zero, or bit 63
+     * is clear. */
+    HAUKLIVO_NOT_AUTHENTICATED = 15,
+    /* For an AUTHENTICATED_POINTER entry the target's address plus the addend less the image base,
+     * modulo 2^64, is above 2^32 - 1. */
+    HAUKLIVO_FAR_FROM_IMAGE = 16
 };
 
 /* Relocation types of an arm64 object, those of Apple's <mach-o/arm64/reloc.h>. */
@@ -113,7 +119,9 @@ enum hauklivo_type {
     HAUKLIVO_TLVP_LOAD_PAGE21 = 8,
     HAUKLIVO_TLVP_LOAD_PAGEOFF12 = 9,
     /* The addend of the record after it. */
-    HAUKLIVO_ADDEND = 10
+    HAUKLIVO_ADDEND = 10,
+    /* A pointer of an arm64e object, which is signed before it is used. */
+    HAUKLIVO_AUTHENTICATED_POINTER = 11
 };
 
 /* Relocation types of an x86_64 object, those of Apple's <mach-o/x86_64/reloc.h>. */
@@ -165,8 +173,13 @@ struct hauklivo_reloc {
     uint8_t is_subtracted;
     /* A symbol's number, or HAUKLIVO_SECTION_TARGET plus a section's number, counted from 0. */
     uint32_t target;
-    /* Zero from the reader; ignored elsewhere. */
-    uint32_t spare;
+    /* How an AUTHENTICATED_POINTER is signed: the number that goes into its signature, whether its own
+     * address goes into it, too (1 or 0), and the key: IA, IB, DA and DB are 0, 1, 2 and 3. Of any other
+     * type all three are zero from a reader. The fix-up looks at them for AUTHENTICATED_POINTER only, and
+     * there at the low bit of address_diversity and the low two of key; the hint run never does. */
+    uint16_t diversity;
+    uint8_t address_diversity;
+    uint8_t key;
     /* What is added to the target. */
     int64_t addend;
 };
@@ -176,7 +189,7 @@ HAUKLIVO_ASSERT(sizeof(struct hauklivo_reloc) == 24, "an entry has 24 bytes");
 enum hauklivo_flag {
     /* A library's symbol that dyld binds. Looked at for symbols only. */
     HAUKLIVO_IMPORTED = 1 << 0,
-    /* In thread-local storage: a pointer to it gets the distance from `tls_begin`. */
+    /* In thread-local storage: an UNSIGNED pointer to it gets the distance from `tls_begin`. */
     HAUKLIVO_THREAD_LOCAL = 1 << 1,
     /* Set for every section, and for each symbol that has an address in the image. */
     HAUKLIVO_HAS_ADDRESS = 1 << 2,
@@ -319,8 +332,13 @@ HAUKLIVO_ASSERT(sizeof(struct hauklivo_tally) == 16, "a tally has 16 bytes");
  *   count     gets how many entries were filled; slots after them keep their bytes. It is not read,
  *             and written only where 0 comes back: so every `count` and `reaches` below
  *
+ * An AUTHENTICATED_POINTER record is supported where it is extern, of 8 bytes and not pc-relative. Of
+ * the 8 bytes at its place, as a number, bits 0 to 31 are the addend, in two's complement, in the place
+ * of an ADDEND record's; 32 to 47 are the diversity, 48 the address diversity, 49 and 50 the key. Up to
+ * version 4 such a record was 5: a linker that makes no arm64e images turns its entry down itself.
+ *
  * Numbers, in this order: 1, 2, then record by record 3 (its offset), 4, 5, 3 (the word that it must
- * fit), 6, 3 (a stored addend), 7.
+ * fit), 6, 3 (a stored addend), 15 (a stored word that has bits 51 to 62 not zero or bit 63 clear), 7.
  */
 uint8_t hauklivo_read_relocs(const uint8_t *contents, size_t contents_len, const void *records,
                              size_t records_len, const uint64_t *sections, size_t sections_count,
@@ -353,21 +371,29 @@ uint8_t hauklivo_read_relocs_x86_64(const uint8_t *contents, size_t contents_len
 /*
  * Fixes up a section's bytes by its entries.
  *
- *   section    the section's bytes
- *   base       the address of its first byte
- *   tls_begin  the start of thread-local storage
- *   entries    struct hauklivo_reloc, of an arm64 object
- *   targets    struct hauklivo_resolved, one for each entry
- *   slots      at least 24 bytes for each entry; gets struct hauklivo_report
- *   count      gets how many reports were filled; slots after them keep their bytes
+ *   section     the section's bytes
+ *   base        the address of its first byte
+ *   tls_begin   the start of thread-local storage
+ *   image_base  the address of the image, that of its mach header. Nothing but AUTHENTICATED_POINTER
+ *               entries depends on it
+ *   entries     struct hauklivo_reloc, of an arm64 object
+ *   targets     struct hauklivo_resolved, one for each entry
+ *   slots       at least 24 bytes for each entry; gets struct hauklivo_report
+ *   count       gets how many reports were filled; slots after them keep their bytes
+ *
+ * An AUTHENTICATED_POINTER gets 8 bytes, whatever stood there: in bits 0 to 31 the target's address plus
+ * the addend less `image_base`, modulo 2^64; in 32 to 47 the diversity, in 48 the low bit of the address
+ * diversity, in 49 and 50 the low two of the key, and bit 63 set. For an imported symbol nothing is
+ * written.
  *
  * Numbers, in this order: 1, 2, then entry by entry, but for those that a SUBTRACTOR takes, 3 (its
- * offset), 11, 9, 5, 8, 10, 3 (the bytes that it reads or writes).
+ * offset), 11, 9, 5, 8, 10 (of AUTHENTICATED_POINTER too, for any section), 16 (that difference is above
+ * 2^32 - 1; never for an imported symbol), 3 (the bytes that it reads or writes).
  */
 uint8_t hauklivo_apply_reloc_alloc(uint8_t *section, size_t section_len, uint64_t base,
-                                   uint64_t tls_begin, const void *entries, size_t entries_len,
-                                   const void *targets, size_t targets_len, void *slots,
-                                   size_t slots_len, size_t *count);
+                                   uint64_t tls_begin, uint64_t image_base, const void *entries,
+                                   size_t entries_len, const void *targets, size_t targets_len,
+                                   void *slots, size_t slots_len, size_t *count);
 
 /*
  * Writes the 12 bytes of the stub at `address` that jumps through the pointer at `pointer`.

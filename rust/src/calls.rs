@@ -44,13 +44,31 @@ pub fn version() -> u32 {
 /// assert_eq!(read_relocs(&[0; 4], lone, &[], Reloc::bytes_mut(&mut slots)), Err(Refusal::LoneAddend));
 /// ```
 ///
+/// An AUTHENTICATED_POINTER record is supported where it is extern, of 8 bytes and not pc-relative.
+/// Of the 8 bytes at its place, as a number, bits 0 to 31 are the addend, signed, in the place of
+/// an ADDEND record's; 32 to 47 are the diversity, 48 the address diversity, 49 and 50 the key.
+///
+/// ```
+/// use hauklivo::{MachRel, Record, Refusal, Reloc, read_relocs, ty};
+///
+/// let records = [MachRel::new(0, 2, false, 3, true, ty::AUTHENTICATED_POINTER)];
+/// let mut slots = [Reloc::default(); 1];
+/// let mut read = |word: u64| {
+///     let done = read_relocs(&word.to_le_bytes(), MachRel::bytes(&records), &[], Reloc::bytes_mut(&mut slots));
+///     done.map(|_| (slots[0].addend, slots[0].diversity, slots[0].address_diversity, slots[0].key))
+/// };
+/// assert_eq!(read(0x8001002a00000000), Ok((0, 42, 1, 0))); // _g@AUTH(ia,42,addr)
+/// assert_eq!(read(0x8004fffffffffffd), Ok((-3, 65535, 0, 2))); // (_g - 3)@AUTH(da,65535)
+/// assert_eq!(read(0), Err(Refusal::NotAuthenticated));
+/// ```
+///
 /// # Errors
 ///
 /// In this order: [`Lengths`](Refusal::Lengths), [`Slots`](Refusal::Slots), then record by record
 /// [`Bounds`](Refusal::Bounds) of its offset, [`LoneAddend`](Refusal::LoneAddend),
 /// [`Unsupported`](Refusal::Unsupported), [`Bounds`](Refusal::Bounds) of the word that it must fit,
 /// [`Unfit`](Refusal::Unfit), [`Bounds`](Refusal::Bounds) of a stored addend,
-/// [`NoSection`](Refusal::NoSection).
+/// [`NotAuthenticated`](Refusal::NotAuthenticated), [`NoSection`](Refusal::NoSection).
 pub fn read_relocs(contents: &[u8], records: &[u8], sections: &[u64], slots: &mut [u8]) -> Result<usize, Refusal> {
     let mut count = 0;
     // SAFETY: every pointer comes with its slice's own length, and what is written is borrowed
@@ -138,7 +156,8 @@ pub fn read_relocs_x86_64(
 /// it filled; slots after those keep their bytes.
 ///
 /// `base` is the address of the section's first byte, `tls_begin` the start of thread-local
-/// storage. `entries` holds [`Reloc`](crate::Reloc)s, `targets` a
+/// storage, `image_base` the address of the image, that of its mach header, on which only
+/// AUTHENTICATED_POINTER entries depend. `entries` holds [`Reloc`](crate::Reloc)s, `targets` a
 /// [`Resolved`](crate::Resolved) for each of them, `slots` at least 24 bytes for each: there the
 /// [`Report`](crate::Report)s go.
 ///
@@ -154,6 +173,7 @@ pub fn read_relocs_x86_64(
 ///     &mut section,
 ///     0x1000,
 ///     0,
+///     0,
 ///     Reloc::bytes(&entries),
 ///     Resolved::bytes(&targets),
 ///     Report::bytes_mut(&mut slots),
@@ -164,17 +184,40 @@ pub fn read_relocs_x86_64(
 /// # Ok::<(), hauklivo::Refusal>(())
 /// ```
 ///
+/// An AUTHENTICATED_POINTER gets 8 bytes, whatever stood there: in bits 0 to 31 the target's
+/// address plus the addend less `image_base`, modulo 2^64; in 32 to 47 the diversity, in 48 the low
+/// bit of the address diversity, in 49 and 50 the low two of the key, and bit 63 set. For an
+/// imported symbol nothing is written.
+///
+/// ```
+/// use hauklivo::{Refusal, Reloc, Report, Resolved, flag, ty, typed};
+///
+/// let pointer = Reloc { ty: ty::AUTHENTICATED_POINTER, size: 8, ..Reloc::default() };
+/// let entries = [Reloc { diversity: 0xd9bf, address_diversity: 1, key: 2, ..pointer }];
+/// let targets = [Resolved { address: 0x100008010, flags: flag::HAS_ADDRESS, ..Resolved::default() }];
+/// let (mut section, mut slots) = ([0; 8], [Report::default(); 1]);
+/// let mut fix = |image_base| {
+///     let done = typed::apply_reloc_alloc(&mut section, 0x100004000, 0, image_base, &entries, &targets, &mut slots);
+///     done.map(|_| u64::from_le_bytes(section))
+/// };
+/// assert_eq!(fix(0x100000000), Ok(0x8005d9bf00008010));
+/// assert_eq!(fix(0x100008011), Err(Refusal::FarFromImage)); // the target is below it
+/// ```
+///
 /// # Errors
 ///
-/// In this order: [`Lengths`](Refusal::Lengths), [`Slots`](Refusal::Slots), then entry by entry, but
-/// for those that a SUBTRACTOR takes, [`Bounds`](Refusal::Bounds) of its offset,
-/// [`Flags`](Refusal::Flags), [`Overflow`](Refusal::Overflow), [`Unsupported`](Refusal::Unsupported),
-/// [`LoneSubtractor`](Refusal::LoneSubtractor), [`NeedsSymbol`](Refusal::NeedsSymbol),
-/// [`Bounds`](Refusal::Bounds) of the bytes that it reads or writes.
+/// In this order: [`Lengths`](Refusal::Lengths), [`Slots`](Refusal::Slots), then entry by entry,
+/// but for those that a SUBTRACTOR takes, [`Bounds`](Refusal::Bounds) of its offset,
+/// [`Flags`](Refusal::Flags), [`Overflow`](Refusal::Overflow),
+/// [`Unsupported`](Refusal::Unsupported), [`LoneSubtractor`](Refusal::LoneSubtractor),
+/// [`NeedsSymbol`](Refusal::NeedsSymbol) (of AUTHENTICATED_POINTER too, for any section),
+/// [`FarFromImage`](Refusal::FarFromImage) where that difference is above 2^32 - 1, never for an
+/// imported symbol, [`Bounds`](Refusal::Bounds) of the bytes that it reads or writes.
 pub fn apply_reloc_alloc(
     section: &mut [u8],
     base: u64,
     tls_begin: u64,
+    image_base: u64,
     entries: &[u8],
     targets: &[u8],
     slots: &mut [u8],
@@ -187,6 +230,7 @@ pub fn apply_reloc_alloc(
             section.len(),
             base,
             tls_begin,
+            image_base,
             entries.as_ptr(),
             entries.len(),
             targets.as_ptr(),

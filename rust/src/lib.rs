@@ -32,7 +32,7 @@
 //! // The linker says where symbol 5 is; the section itself goes to 0x1000.
 //! let targets = [Resolved { address: 0x2000, branch: 0x2000, flags: flag::HAS_ADDRESS, ..Resolved::default() }];
 //! let mut reports = [Report::default(); 1];
-//! assert_eq!(typed::apply_reloc_alloc(&mut section, 0x1000, 0, &entries, &targets, &mut reports)?, 0);
+//! assert_eq!(typed::apply_reloc_alloc(&mut section, 0x1000, 0, 0, &entries, &targets, &mut reports)?, 0);
 //! assert_eq!(section[4..], 0x940003ff_u32.to_le_bytes()); // bl 0x2000
 //! # Ok::<(), hauklivo::Refusal>(())
 //! ```

@@ -66,17 +66,25 @@ fn in_table(
 }
 
 /// The position, counted from 0, of the entry for which [`apply_reloc_alloc`] gives `refusal`; no number
-/// depends on `tls_begin`.
+/// depends on `tls_begin`. The `image_base` is that of the refused call, whatever the refusal: by another one
+/// [`FarFromImage`](Refusal::FarFromImage) may come first.
 ///
 /// None for a refusal that is of whole lists, or that these lists are not refused with.
-pub fn in_entries(refusal: Refusal, section: &[u8], base: u64, entries: &[u8], targets: &[u8]) -> Option<usize> {
+pub fn in_entries(
+    refusal: Refusal,
+    section: &[u8],
+    base: u64,
+    image_base: u64,
+    entries: &[u8],
+    targets: &[u8],
+) -> Option<usize> {
     let count = entries.len() / Reloc::SIZE;
     // The numbers depend on the section's length alone, so that a prefix may find it changed by another.
     let mut section = section.to_vec();
     let mut slots = vec![0; Report::SIZE * count];
     position(refusal, count, |n| {
         let (entries, targets) = (prefix::<Reloc>(entries, n, count), prefix::<Resolved>(targets, n, count));
-        apply_reloc_alloc(&mut section, base, 0, entries, targets, &mut slots).err()
+        apply_reloc_alloc(&mut section, base, 0, image_base, entries, targets, &mut slots).err()
     })
 }
 

@@ -16,7 +16,7 @@ unsafe extern "C" {
     pub safe fn hauklivo_version() -> u32;
 
     /// The same, by a name that only a library of this version has.
-    pub safe fn hauklivo_version_4() -> u32;
+    pub safe fn hauklivo_version_5() -> u32;
 
     /// See [`read_relocs`](crate::read_relocs). `sections_count` counts addresses, where every other
     /// length counts bytes.
@@ -53,6 +53,7 @@ unsafe extern "C" {
         section_len: usize,
         base: u64,
         tls_begin: u64,
+        image_base: u64,
         entries: *const u8,
         entries_len: usize,
         targets: *const u8,

@@ -27,7 +27,7 @@ use std::slice;
 ///     offset: u32,
 ///     form: [u8; 4],
 ///     target: u32,
-///     spare: u32,
+///     signing: [u8; 4],
 ///     addend: i64,
 /// }
 ///
@@ -117,6 +117,7 @@ pub mod ty {
     pub const TLVP_LOAD_PAGE21: u8 = 8;
     pub const TLVP_LOAD_PAGEOFF12: u8 = 9;
     pub const ADDEND: u8 = 10;
+    pub const AUTHENTICATED_POINTER: u8 = 11;
 }
 
 /// Relocation types of an x86_64 object, those of Apple's `<mach-o/x86_64/reloc.h>`.
@@ -229,8 +230,15 @@ pub struct Reloc {
     pub is_subtracted: u8,
     /// See [`Reloc::target`].
     pub target: u32,
-    /// Zero from the reader; ignored elsewhere.
-    pub spare: u32,
+    /// How an AUTHENTICATED_POINTER is signed: the number that goes into its signature. This and
+    /// the next two are zero from a reader for every other type. The fix-up looks at them for
+    /// AUTHENTICATED_POINTER only, the hint run never.
+    pub diversity: u16,
+    /// 1 where the pointer's own address goes into its signature, too, else 0. The fix-up takes the
+    /// low bit.
+    pub address_diversity: u8,
+    /// The key: IA, IB, DA and DB are 0, 1, 2 and 3. The fix-up takes the low two bits.
+    pub key: u8,
     /// The addend.
     pub addend: i64,
 }
@@ -256,7 +264,7 @@ impl Reloc {
 pub mod flag {
     /// A library's symbol that dyld binds. Looked at for symbols only.
     pub const IMPORTED: u32 = 1 << 0;
-    /// In thread-local storage: a pointer to it gets the distance from `tls_begin`.
+    /// In thread-local storage: an UNSIGNED pointer to it gets the distance from `tls_begin`.
     pub const THREAD_LOCAL: u32 = 1 << 1;
     /// Set for every section, and for each symbol that has an address in the image.
     pub const HAS_ADDRESS: u32 = 1 << 2;

@@ -51,6 +51,12 @@ pub enum Refusal {
     Malformed,
     /// 14: a byte after the kind 0 that closes the list of a payload is not zero.
     Trailing,
+    /// 15: in the 8 bytes stored for an AUTHENTICATED_POINTER record bits 51 to 62 are not zero, or bit
+    /// 63 is clear.
+    NotAuthenticated,
+    /// 16: for an AUTHENTICATED_POINTER entry the target's address plus the addend less the image base,
+    /// modulo 2^64, is above 2^32 - 1.
+    FarFromImage,
     /// A number that this crate has no name for.
     #[non_exhaustive]
     Unknown(u8),
@@ -73,6 +79,8 @@ impl Refusal {
         Self::NoEntry,
         Self::Malformed,
         Self::Trailing,
+        Self::NotAuthenticated,
+        Self::FarFromImage,
     ];
 
     /// Its number.
@@ -92,6 +100,8 @@ impl Refusal {
             Self::NoEntry => 12,
             Self::Malformed => 13,
             Self::Trailing => 14,
+            Self::NotAuthenticated => 15,
+            Self::FarFromImage => 16,
             Self::Unknown(number) => number,
         }
     }
@@ -120,6 +130,10 @@ impl Refusal {
             Self::NoEntry => "a hint names an entry that is not there",
             Self::Malformed => "a value or a hint of a payload is cut off, or a value is 2^64 or more",
             Self::Trailing => "a byte after a payload's closing kind 0 is not zero",
+            Self::NotAuthenticated => "an authenticated pointer's stored word has a bit of 51 to 62 set, or 63 clear",
+            Self::FarFromImage => {
+                "an authenticated pointer's target plus addend less the image base, modulo 2^64, is above 2^32 - 1"
+            }
             Self::Unknown(_) => "a number that the crate hauklivo has no name for",
         }
     }
@@ -152,13 +166,14 @@ mod tests {
         for number in 1..=u8::MAX {
             let refusal = Refusal::of(number).unwrap();
             assert_eq!(refusal.number(), number);
-            assert_eq!(Refusal::ALL.contains(&refusal), number <= 14);
-            assert_eq!(Refusal::try_from(number), if number <= 14 { Ok(refusal) } else { Err(number) });
+            assert_eq!(Refusal::ALL.contains(&refusal), number <= 16);
+            assert_eq!(Refusal::try_from(number), if number <= 16 { Ok(refusal) } else { Err(number) });
         }
-        let later = Refusal::of(15).unwrap();
-        assert_eq!(later.to_string(), "15: a number that the crate hauklivo has no name for");
-        assert!(Refusal::ALL.is_sorted() && Refusal::Trailing < later);
+        let later = Refusal::of(17).unwrap();
+        assert_eq!(later.to_string(), "17: a number that the crate hauklivo has no name for");
+        assert!(Refusal::ALL.is_sorted() && Refusal::FarFromImage < later);
         assert_eq!(Refusal::of(13), Some(Refusal::Malformed));
         assert_eq!(Refusal::Trailing.to_string(), "14: a byte after a payload's closing kind 0 is not zero");
+        assert_eq!([15, 16].map(Refusal::try_from), [Ok(Refusal::NotAuthenticated), Ok(Refusal::FarFromImage)]);
     }
 }

@@ -17,7 +17,7 @@
 //!
 //! let symbol = Resolved { address: 0x2000, branch: 0x2000, flags: flag::HAS_ADDRESS, ..Resolved::default() };
 //! let mut slots = [Report::default(); 2];
-//! let n = typed::apply_reloc_alloc(&mut section, 0x1000, 0, entries, &[symbol; 2], &mut slots)?;
+//! let n = typed::apply_reloc_alloc(&mut section, 0x1000, 0, 0, entries, &[symbol; 2], &mut slots)?;
 //! let reports = &slots[..n];
 //! assert!(reports.is_empty());
 //! assert_eq!(section, [0x94000400_u32, 0, 0x2010, 0].map(u32::to_le_bytes).concat());
@@ -62,7 +62,8 @@ pub fn read_relocs_x86_64(
 
 /// Fixes up a section's bytes by its entries and their resolved targets, and says how many reports it
 /// filled; slots after those stay. `base` is the address of the section's first byte, `tls_begin` the
-/// start of thread-local storage; `targets` has one for each entry, `slots` at least one place for each.
+/// start of thread-local storage, `image_base` the address of the image; `targets` has one for each entry,
+/// `slots` at least one place for each.
 ///
 /// # Errors
 ///
@@ -71,12 +72,13 @@ pub fn apply_reloc_alloc(
     section: &mut [u8],
     base: u64,
     tls_begin: u64,
+    image_base: u64,
     entries: &[Reloc],
     targets: &[Resolved],
     slots: &mut [Report],
 ) -> Result<usize, Refusal> {
     let (entries, targets) = (Reloc::bytes(entries), Resolved::bytes(targets));
-    crate::apply_reloc_alloc(section, base, tls_begin, entries, targets, Report::bytes_mut(slots))
+    crate::apply_reloc_alloc(section, base, tls_begin, image_base, entries, targets, Report::bytes_mut(slots))
 }
 
 /// Works hints on an image whose bytes are fixed up, and says what became of them. The order of work,

@@ -5,4 +5,4 @@
 /// script refuses an archive of another version. A call that is added leaves it, also where it gives a
 /// number that is added with it: a program that makes the call does not link with an archive from
 /// before it.
-pub const VERSION: u32 = 4;
+pub const VERSION: u32 = 5;

@@ -133,7 +133,16 @@ fn x86_64_reader_reads() {
     for (offset, ty, p2size, is_pcrel, section, is_subtracted, addend) in TABLE {
         let (idx, target) = section.map_or((5, 5), |n| (n + 1, Target::Section(n).pack()));
         records.push(MachRel::new(offset, idx, is_pcrel == 1, p2size, section.is_none(), ty));
-        entries.push(Reloc { offset, ty, size: 1 << p2size, is_pcrel, is_subtracted, target, spare: 0, addend });
+        entries.push(Reloc {
+            offset,
+            ty,
+            size: 1 << p2size,
+            is_pcrel,
+            is_subtracted,
+            target,
+            addend,
+            ..Reloc::default()
+        });
     }
     assert_eq!(read_all_x86_64(&records), Ok(entries));
     assert!((0..10).all(|ty| TABLE.iter().any(|row| row.1 == ty)));
@@ -219,8 +228,8 @@ fn x86_64_numbers_in_order() {
     }
 }
 
-/// A section after a fix-up at 0x1000 with thread-local storage from 0x100, and the reports. What
-/// is not to be written must keep its bytes.
+/// A section after a fix-up with thread-local storage from 0x100, and the reports. What is not to be
+/// written must keep its bytes.
 fn fix_bytes(
     section: &[u8],
     base: u64,
@@ -230,7 +239,7 @@ fn fix_bytes(
 ) -> Result<(Vec<u8>, Vec<Report>), Refusal> {
     let mut after = section.to_vec();
     let mut slots = vec![FILL; slots];
-    let done = hauklivo::apply_reloc_alloc(&mut after, base, 0x100, entries, targets, &mut slots);
+    let done = hauklivo::apply_reloc_alloc(&mut after, base, 0x100, 0, entries, targets, &mut slots);
     let kept = 24 * done.unwrap_or(0);
     assert!(slots[kept..].iter().all(|&b| b == FILL));
     assert!(done.is_ok() || after == section);
@@ -493,7 +502,7 @@ fn typed_calls() {
     let (mut section, mut reports) = (contents.clone(), [filler; 3]);
     let mut fix = |targets: &[Resolved], room: usize| {
         let slots = &mut reports[..room];
-        let done = typed::apply_reloc_alloc(&mut section, 0x1000, 0, &entries[..2], targets, slots);
+        let done = typed::apply_reloc_alloc(&mut section, 0x1000, 0, 0, &entries[..2], targets, slots);
         (done, section.clone(), reports)
     };
     assert_eq!(fix(&targets[..1], 3), (Err(Refusal::Lengths), contents.clone(), [filler; 3]));
@@ -656,7 +665,7 @@ fn refused_calls_leave_numbers() {
         assert_eq!((number, count), (5, 77));
         let mut b = none;
         let b = b.as_mut_ptr();
-        let number = raw::hauklivo_apply_reloc_alloc(b, 0, 0, 0, [0; 7].as_ptr(), 7, s, 0, p, 24, &mut count);
+        let number = raw::hauklivo_apply_reloc_alloc(b, 0, 0, 0, 0, [0; 7].as_ptr(), 7, s, 0, p, 24, &mut count);
         assert_eq!((number, count), (1, 77));
         assert_eq!((raw::hauklivo_write_stub(b, 0, 0, 0, &mut reaches), reaches), (3, 77));
         assert_eq!(raw::hauklivo_write_thunk(b, 0, 0, 0), 3);

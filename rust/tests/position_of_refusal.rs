@@ -75,7 +75,7 @@ const SECTIONS: [u64; 2] = [0x4000, 0x8000];
 
 /// The first refusal among records, by docs/RULES.md, chapter 4.
 fn scan_records(contents: &[u8], records: &[MachRel]) -> Option<(usize, Refusal)> {
-    let forms = [4, 6, 0xc, 0xe, 0x1c, 0x1e, 0x2d, 0x3d, 0x4c, 0x5d, 0x6c, 0x7d, 0x8d, 0x9c, 0xa4];
+    let forms = [4, 6, 0xc, 0xe, 0x1c, 0x1e, 0x2d, 0x3d, 0x4c, 0x5d, 0x6c, 0x7d, 0x8d, 0x9c, 0xa4, 0xbe];
     let mut i = 0;
     while i < records.len() {
         let Some(place) = contents.get(records[i].offset as usize..) else { return Some((i, Refusal::Bounds)) };
@@ -85,7 +85,7 @@ fn scan_records(contents: &[u8], records: &[MachRel]) -> Option<(usize, Refusal)
         let Some(own) = records.get(i) else { return Some((i - 1, Refusal::LoneAddend)) };
         let is_subtracted = i > 0 && records[i - 1].ty() == ty::SUBTRACTOR;
         let bytes = match own.ty() {
-            ty::UNSIGNED => 1 << own.p2size(),
+            ty::UNSIGNED | ty::AUTHENTICATED_POINTER => 1 << own.p2size(),
             ty::GOT_LOAD_PAGEOFF12 | ty::TLVP_LOAD_PAGEOFF12 => 4,
             _ => 0,
         };
@@ -96,6 +96,8 @@ fn scan_records(contents: &[u8], records: &[MachRel]) -> Option<(usize, Refusal)
             return Some((i, Refusal::Bounds));
         } else if bytes == 4 && own.ty() != ty::UNSIGNED && word != Some(LDR_X) {
             return Some((i, Refusal::Unfit));
+        } else if own.ty() == ty::AUTHENTICATED_POINTER && (place[6] & 0xf8, place[7]) != (0, 0x80) {
+            return Some((i, Refusal::NotAuthenticated));
         } else if !own.is_extern() && !(1..=SECTIONS.len() as u32).contains(&own.idx()) {
             return Some((i, Refusal::NoSection));
         }
@@ -127,10 +129,11 @@ fn tables(
 
 #[test]
 fn records() {
-    let contents = [LDR_X, NOP, 0, 0].map(u32::to_le_bytes).concat();
+    let contents = [LDR_X, NOP, 0, 1 << 31].map(u32::to_le_bytes).concat();
     let record = |offset, bits| MachRel { offset, bits };
     let good = [
         record(0, 0x2d000005),
+        record(8, 0xbe000005),
         record(8, 0x06000002),
         record(16, 0x1c000005), // SUBTRACTOR
         record(0, 0x6c000005),
@@ -147,6 +150,8 @@ fn records() {
         record(14, 0x9c000005), // past the contents with its word
         record(4, 0x9c000005),
         record(12, 0x0e000005), // past the contents with its bytes
+        record(4, 0xbe000005),  // no authenticated pointer's bytes
+        record(9, 0xbe000005),
         record(0, 0x06000000),
         record(0, 0x06000003),
     ];
@@ -156,7 +161,7 @@ fn records() {
         |list, slots| typed::read_relocs(&contents, list, &SECTIONS, slots),
         |refusal, list| position_of_refusal::in_records(refusal, &contents, list, &SECTIONS),
     );
-    met.everywhere(&[3, 4, 5, 6, 7]);
+    met.everywhere(&[3, 4, 5, 6, 7, 15]);
 }
 
 /// The first refusal among records of an x86_64 object, in a section of 16 bytes.
@@ -210,42 +215,15 @@ fn records_x86_64() {
     met.everywhere(&[3, 5, 7]);
 }
 
+/// The image base of all fix-ups here.
+const IMAGE: u64 = 0x1800;
+
 /// The first refusal among entries of a section of 16 bytes, by docs/RULES.md, 5.6.
 fn scan_entries(base: u64, list: &[(Reloc, Resolved)]) -> Option<(usize, Refusal)> {
     let mut i = 0;
     while i < list.len() {
         let (entry, target) = list[i];
-        let is = |flag: u32| target.flags & flag != 0;
-        let is_section = matches!(entry.target(), Target::Section(_));
-        let width = match entry.ty {
-            ty::UNSIGNED if !is_section && is(flag::IMPORTED) => 0,
-            ty::UNSIGNED => 8,
-            ty::SUBTRACTOR if entry.size != 4 => 8,
-            ty::PAGE21 | ty::PAGEOFF12 if !is(flag::HAS_ADDRESS) => 0,
-            _ => 4,
-        };
-        let needs_symbol = match entry.ty {
-            ty::GOT_LOAD_PAGE21 => !is(flag::HAS_HELPER),
-            other => (ty::GOT_LOAD_PAGEOFF12..=ty::TLVP_LOAD_PAGEOFF12).contains(&other),
-        };
-        let found = if entry.offset > 16 {
-            Some(Refusal::Bounds)
-        } else if target.flags > 0x1ff || is(flag::PROBE) && is(flag::IS_ENABLED) || target.zero != 0 {
-            Some(Refusal::Flags)
-        } else if base.checked_add(entry.offset.into()).is_none() {
-            Some(Refusal::Overflow)
-        } else if entry.ty >= ty::ADDEND {
-            Some(Refusal::Unsupported)
-        } else if entry.ty == ty::SUBTRACTOR && i + 1 == list.len() {
-            Some(Refusal::LoneSubtractor)
-        } else if is_section && needs_symbol {
-            Some(Refusal::NeedsSymbol)
-        } else if 16 - entry.offset < width {
-            Some(Refusal::Bounds)
-        } else {
-            None
-        };
-        if let Some(refusal) = found {
+        if let Some(refusal) = scan_entry(base, entry, target, i + 1 == list.len()) {
             return Some((i, refusal));
         }
         i += if entry.ty == ty::SUBTRACTOR { 2 } else { 1 };
@@ -253,10 +231,51 @@ fn scan_entries(base: u64, list: &[(Reloc, Resolved)]) -> Option<(usize, Refusal
     None
 }
 
-#[test]
-fn entries() {
-    let plain = Resolved { address: 0x2000, branch: 0x2000, flags: flag::HAS_ADDRESS, ..Resolved::default() };
-    let entry = |offset, ty, size| (Reloc { offset, ty, size, ..Reloc::default() }, plain);
+/// The first refusal of an entry.
+fn scan_entry(base: u64, entry: Reloc, target: Resolved, is_last: bool) -> Option<Refusal> {
+    let is = |flag: u32| target.flags & flag != 0;
+    let is_section = matches!(entry.target(), Target::Section(_));
+    let width = match entry.ty {
+        ty::UNSIGNED | ty::AUTHENTICATED_POINTER if !is_section && is(flag::IMPORTED) => 0,
+        ty::UNSIGNED | ty::AUTHENTICATED_POINTER => 8,
+        ty::SUBTRACTOR if entry.size != 4 => 8,
+        ty::PAGE21 | ty::PAGEOFF12 if !is(flag::HAS_ADDRESS) => 0,
+        _ => 4,
+    };
+    let needs_symbol = match entry.ty {
+        ty::GOT_LOAD_PAGE21 => !is(flag::HAS_HELPER),
+        ty::AUTHENTICATED_POINTER => true,
+        other => (ty::GOT_LOAD_PAGEOFF12..=ty::TLVP_LOAD_PAGEOFF12).contains(&other),
+    };
+    let distance = target.address.wrapping_add_signed(entry.addend).wrapping_sub(IMAGE);
+    let numbers = [
+        (Refusal::Bounds, entry.offset > 16),
+        (Refusal::Flags, target.flags > 0x1ff || is(flag::PROBE) && is(flag::IS_ENABLED) || target.zero != 0),
+        (Refusal::Overflow, base.checked_add(entry.offset.into()).is_none()),
+        (Refusal::Unsupported, entry.ty >= ty::ADDEND && entry.ty != ty::AUTHENTICATED_POINTER),
+        (Refusal::LoneSubtractor, entry.ty == ty::SUBTRACTOR && is_last),
+        (Refusal::NeedsSymbol, is_section && needs_symbol),
+        (Refusal::FarFromImage, entry.ty == ty::AUTHENTICATED_POINTER && width == 8 && distance >> 32 != 0),
+        (Refusal::Bounds, entry.offset + width > 16),
+    ];
+    numbers.into_iter().find(|(_, applies)| *applies).map(|(refusal, _)| refusal)
+}
+
+/// An entry of a symbol, with its target.
+fn entry(offset: u32, ty: u8, size: u8) -> (Reloc, Resolved) {
+    let target = Resolved { address: 0x2000, branch: 0x2000, flags: flag::HAS_ADDRESS, ..Resolved::default() };
+    (Reloc { offset, ty, size, ..Reloc::default() }, target)
+}
+
+/// An authenticated pointer, with its target.
+fn signed(offset: u32, address: u64, flags: u32) -> (Reloc, Resolved) {
+    let (entry, target) = entry(offset, ty::AUTHENTICATED_POINTER, 8);
+    (entry, Resolved { address, flags, ..target })
+}
+
+/// Entries with their targets: those that are fixed up, and those that are refused in some list.
+fn good_and_bad_entries() -> [Vec<(Reloc, Resolved)>; 2] {
+    let plain = entry(0, ty::UNSIGNED, 8).1;
     let section = |offset, ty| (Reloc { offset, ty, target: Target::SECTION, ..Reloc::default() }, plain);
     let with = |flags, zero| (entry(0, ty::UNSIGNED, 8).0, Resolved { flags, zero, ..plain });
     let good = [
@@ -266,6 +285,8 @@ fn entries() {
         entry(12, ty::PAGEOFF12, 4),
         section(0, ty::UNSIGNED),
         (entry(13, ty::UNSIGNED, 8).0, Resolved { flags: flag::IMPORTED, ..plain }),
+        signed(8, IMAGE + 0xffff_ffff, 0),
+        signed(13, 0, flag::IMPORTED),
     ];
     let bad = [
         entry(8, ty::SUBTRACTOR, 8), // takes the entry after it, or is last
@@ -284,24 +305,34 @@ fn entries() {
         entry(0, 200, 4),
         section(0, ty::POINTER_TO_GOT),
         section(0, ty::GOT_LOAD_PAGE21),
+        section(13, ty::AUTHENTICATED_POINTER),
+        signed(0, IMAGE + (1 << 32), 0),
+        signed(13, IMAGE - 1, 0), // past the section with its bytes, too
+        signed(13, IMAGE, 0),
     ];
+    [good.to_vec(), bad.to_vec()]
+}
+
+#[test]
+fn entries() {
+    let [good, bad] = good_and_bad_entries();
     let mut met = Met::default();
     for base in [0x1000, u64::MAX - 12] {
         lists(&good, &bad, |list| {
             let due = scan_entries(base, list);
             let (entries, targets): (Vec<_>, Vec<_>) = list.iter().copied().unzip();
             let (mut bytes, mut slots) = ([0; 16], vec![Report::default(); list.len()]);
-            let done = typed::apply_reloc_alloc(&mut bytes, base, 0, &entries, &targets, &mut slots);
+            let done = typed::apply_reloc_alloc(&mut bytes, base, 0, IMAGE, &entries, &targets, &mut slots);
             assert_eq!(done.err(), due.map(|(_, refusal)| refusal), "{list:x?}");
             let (entries, targets) = (Reloc::bytes(&entries), Resolved::bytes(&targets));
             for refusal in Refusal::ALL {
-                let found = position_of_refusal::in_entries(*refusal, &[0; 16], base, entries, targets);
+                let found = position_of_refusal::in_entries(*refusal, &[0; 16], base, IMAGE, entries, targets);
                 assert_eq!(found, due.filter(|due| due.1 == *refusal).map(|due| due.0), "{refusal}: {list:x?}");
             }
             met.note(list.len(), due);
         });
     }
-    met.everywhere(&[3, 5, 8, 9, 10, 11]);
+    met.everywhere(&[3, 5, 8, 9, 10, 11, 16]);
 }
 
 /// The first refusal among hints of an image of 16 bytes with 2 entries, by docs/RULES.md, 3.6.
@@ -379,9 +410,9 @@ fn whole_lists() {
     assert_eq!(position_of_refusal::in_records_x86_64(Refusal::Lengths, &[], &bad[..7], &[]), None);
     assert_eq!(position_of_refusal::in_records_x86_64(Refusal::Unsupported, &[], &bad[..7], &[]), None);
     assert_eq!(position_of_refusal::in_records_x86_64(Refusal::Unsupported, &[], &bad[..8], &[]), Some(0));
-    assert_eq!(position_of_refusal::in_entries(Refusal::Bounds, &[], 0, &bad[..48], &bad[..48]), None);
-    assert_eq!(position_of_refusal::in_entries(Refusal::Bounds, &[], 0, &bad[..24], &bad[..48]), Some(0));
-    assert_eq!(position_of_refusal::in_entries(Refusal::Bounds, &[], 0, &bad[..25], &bad[..48]), None);
+    assert_eq!(position_of_refusal::in_entries(Refusal::Bounds, &[], 0, 0, &bad[..48], &bad[..48]), None);
+    assert_eq!(position_of_refusal::in_entries(Refusal::Bounds, &[], 0, 0, &bad[..24], &bad[..48]), Some(0));
+    assert_eq!(position_of_refusal::in_entries(Refusal::Bounds, &[], 0, 0, &bad[..25], &bad[..48]), None);
     assert_eq!(position_of_refusal::in_hints(Refusal::Bounds, &[], &bad[..63], &[]), None);
 }
 

@@ -9,7 +9,7 @@ use hauklivo::{VERSION, raw};
 #[test]
 fn the_linked_archive() {
     assert_eq!(hauklivo::version(), VERSION);
-    assert_eq!(raw::hauklivo_version_4(), VERSION);
+    assert_eq!(raw::hauklivo_version_5(), VERSION);
 }
 
 /// An archive that has nothing but a table of symbols, in fields of `width` bytes.

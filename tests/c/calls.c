@@ -27,6 +27,13 @@ static void put_word(uint8_t *bytes, size_t at, uint32_t word)
         bytes[at + i] = (uint8_t)(word >> 8 * i);
 }
 
+/* Puts a word of 8 bytes at the start. */
+static void put_pointer(uint8_t *bytes, uint64_t word)
+{
+    put_word(bytes, 0, (uint32_t)word);
+    put_word(bytes, 4, (uint32_t)(word >> 32));
+}
+
 static int filled(const void *bytes, size_t len)
 {
     const uint8_t *b = bytes;
@@ -34,6 +41,12 @@ static int filled(const void *bytes, size_t len)
         if (b[i] != FILL)
             return 0;
     return 1;
+}
+
+/* Whether an entry does not say how a pointer is signed. */
+static int without_signing(const struct hauklivo_reloc *entry)
+{
+    return entry->diversity == 0 && entry->address_diversity == 0 && entry->key == 0;
 }
 
 /* A call of the reader that must answer `number` and leave slots and count. */
@@ -65,7 +78,7 @@ static void reader(void)
     CHECK(count == 1);
     CHECK(slots[0].offset == 4 && slots[0].type == HAUKLIVO_PAGE21 && slots[0].size == 4);
     CHECK(slots[0].is_pcrel == 1 && slots[0].is_subtracted == 0 && slots[0].target == 5);
-    CHECK(slots[0].spare == 0 && slots[0].addend == -1);
+    CHECK(without_signing(slots) && slots[0].addend == -1);
     CHECK(filled(slots + 1, sizeof slots - sizeof slots[0]));
 
     /* A pointer into section 1, whose address is taken off. */
@@ -173,7 +186,7 @@ static void reader_x86_64(void)
         const struct x86_64_row *row = x86_64_rows + i;
         CHECK(slots[i].offset == row->record.offset && slots[i].type == row->type && slots[i].size == row->size);
         CHECK(slots[i].is_pcrel == row->is_pcrel && slots[i].is_subtracted == row->is_subtracted);
-        CHECK(slots[i].target == row->target && slots[i].spare == 0 && slots[i].addend == row->addend);
+        CHECK(slots[i].target == row->target && without_signing(slots + i) && slots[i].addend == row->addend);
     }
 
     /* Sums wrap: 2^64 - 4 and 8, 4, 0x2004, less 0x4000. */
@@ -216,6 +229,9 @@ static void refused_x86_64(void)
     refused_reading_x86_64(HAUKLIVO_BOUNDS, lists[1], 24, 72);
 }
 
+/* The image base of fix-ups of authenticated pointers, and of those that must be refused. */
+static const uint64_t image_base = UINT64_C(0x100000000);
+
 /* A fix-up of one or two entries that must answer `number` and leave section, slots and count. */
 static void refused_fixing(uint8_t number, uint64_t base, const struct hauklivo_reloc *entries,
                            size_t entries_len, const struct hauklivo_resolved *targets, size_t targets_len,
@@ -226,7 +242,7 @@ static void refused_fixing(uint8_t number, uint64_t base, const struct hauklivo_
     size_t count = UNTOUCHED;
     memset(section, FILL, sizeof section);
     memset(slots, FILL, sizeof slots);
-    CHECK(hauklivo_apply_reloc_alloc(section, sizeof section, base, 0, entries, entries_len, targets,
+    CHECK(hauklivo_apply_reloc_alloc(section, sizeof section, base, 0, image_base, entries, entries_len, targets,
                                      targets_len, slots, slots_len, &count) == number);
     CHECK(filled(section, sizeof section));
     CHECK(filled(slots, sizeof slots));
@@ -254,7 +270,7 @@ static void fixup(void)
     memset(slots, FILL, sizeof slots);
 
     /* BL back by one word; LDR X of an address that 8 does not divide; a relaxed GOT load. */
-    CHECK(hauklivo_apply_reloc_alloc(section, sizeof section, 0x1000, 0, entries, sizeof entries, targets,
+    CHECK(hauklivo_apply_reloc_alloc(section, sizeof section, 0x1000, 0, 0, entries, sizeof entries, targets,
                                      sizeof targets, slots, sizeof slots, &count) == HAUKLIVO_DONE);
     CHECK(word_at(section, 0) == 0x97ffffff);
     CHECK(word_at(section, 4) == 0xf9400000);
@@ -266,7 +282,7 @@ static void fixup(void)
 
     /* Empty lists succeed. */
     count = UNTOUCHED;
-    CHECK(hauklivo_apply_reloc_alloc(section, 0, 0, 0, entries, 0, targets, 0, slots, 0, &count) == HAUKLIVO_DONE);
+    CHECK(hauklivo_apply_reloc_alloc(section, 0, 0, 0, 0, entries, 0, targets, 0, slots, 0, &count) == HAUKLIVO_DONE);
     CHECK(count == 0);
 
     const struct hauklivo_reloc pointer = {.type = HAUKLIVO_UNSIGNED, .size = 8};
@@ -285,6 +301,115 @@ static void fixup(void)
     refused_fixing(HAUKLIVO_OVERFLOW, UINT64_MAX, &at4, 24, &plain, 48, 24);
     refused_fixing(HAUKLIVO_NEEDS_SYMBOL, 0, &got, 24, &plain, 48, 24);
     refused_fixing(HAUKLIVO_FLAGS, 0, &pointer, 24, &odd, 48, 24);
+}
+
+/* A stored word that must be read as these fields. */
+static void reads_pointer(uint64_t word, int64_t addend, uint16_t diversity, uint8_t address_diversity, uint8_t key)
+{
+    const struct hauklivo_mach_rel record = {0, 0xbe000002};
+    const uint64_t sections[1] = {0};
+    struct hauklivo_reloc entry;
+    uint8_t contents[8];
+    size_t count;
+    put_pointer(contents, word);
+    CHECK(hauklivo_read_relocs(contents, 8, &record, 8, sections, 0, &entry, 24, &count) == HAUKLIVO_DONE);
+    CHECK(count == 1);
+    CHECK(entry.offset == 0 && entry.type == HAUKLIVO_AUTHENTICATED_POINTER && entry.size == 8 && entry.target == 2);
+    CHECK(entry.is_pcrel == 0 && entry.is_subtracted == 0 && entry.addend == addend);
+    CHECK(entry.diversity == diversity && entry.address_diversity == address_diversity && entry.key == key);
+    const uint8_t *bytes = (const uint8_t *)&entry;
+    CHECK(bytes[12] == (diversity & 0xff) && bytes[13] == diversity >> 8);
+    CHECK(bytes[14] == address_diversity && bytes[15] == key);
+}
+
+static void reader_of_pointers(void)
+{
+    const struct hauklivo_mach_rel good = {0, 0xbe000002}, past = {9, 0xbe000002}, narrow = {0, 0xbc000002};
+    const struct hauklivo_mach_rel pcrel = {0, 0xbf000002}, section = {0, 0xb6000001}, section_past = {9, 0xb6000001};
+    uint8_t contents[16] = {0};
+
+    reads_pointer(UINT64_C(0x8001002a00000000), 0, 42, 1, 0);
+    reads_pointer(UINT64_C(0x8006000000000007), 7, 0, 0, 3);
+    reads_pointer(UINT64_C(0x8004fffffffffffd), -3, 65535, 0, 2);
+    reads_pointer(UINT64_C(0x8000000000000000), 0, 0, 0, 0);
+
+    /* Bits 51 to 62 are zero, and bit 63 is set. */
+    for (int bit = 51; bit < 64; bit++) {
+        put_pointer(contents, UINT64_C(0x8000000000000000) ^ UINT64_C(1) << bit);
+        refused_reading(HAUKLIVO_NOT_AUTHENTICATED, contents, 16, &good, 8, 24);
+    }
+
+    /* Of 4 bytes, pc-relative, of a section; the form before the bytes, and those before what they hold. */
+    refused_reading(HAUKLIVO_UNSUPPORTED, contents, 16, &narrow, 8, 24);
+    refused_reading(HAUKLIVO_UNSUPPORTED, contents, 16, &pcrel, 8, 24);
+    refused_reading(HAUKLIVO_UNSUPPORTED, contents, 16, &section, 8, 24);
+    refused_reading(HAUKLIVO_UNSUPPORTED, contents, 16, &section_past, 8, 24);
+    refused_reading(HAUKLIVO_BOUNDS, contents, 16, &past, 8, 24);
+}
+
+/* Of a fix-up of one entry of 8 bytes the number; what it leaves goes to `word`. */
+static uint8_t fixes_pointer(const struct hauklivo_reloc *entry, const struct hauklivo_resolved *target, uint64_t image,
+                             uint64_t *word)
+{
+    struct hauklivo_report report;
+    uint8_t section[8];
+    size_t count = UNTOUCHED;
+    memset(section, FILL, sizeof section);
+    uint8_t number =
+        hauklivo_apply_reloc_alloc(section, 8, 0x1000, 0x100, image, entry, 24, target, 48, &report, 24, &count);
+    CHECK(count == (number ? UNTOUCHED : 0));
+    *word = word_at(section, 0) | (uint64_t)word_at(section, 4) << 32;
+    return number;
+}
+
+static void fixup_of_pointers(void)
+{
+    const uint64_t kept = UINT64_C(0xa5a5a5a5a5a5a5a5);
+    struct hauklivo_reloc entry = {.type = HAUKLIVO_AUTHENTICATED_POINTER, .size = 8};
+    struct hauklivo_resolved target = {.address = UINT64_C(0x100008010), .flags = HAUKLIVO_HAS_ADDRESS};
+    uint64_t word;
+
+    entry.diversity = 0xd9bf, entry.address_diversity = 1, entry.key = 2;
+    CHECK(fixes_pointer(&entry, &target, image_base, &word) == 0 && word == UINT64_C(0x8005d9bf00008010));
+    /* Of the two bytes the low bit and the low two count; an addend is added. */
+    entry.address_diversity = 0xfe, entry.key = 0xfd, entry.addend = -0x10;
+    CHECK(fixes_pointer(&entry, &target, image_base, &word) == 0 && word == UINT64_C(0x8002d9bf00008000));
+
+    /* From the image base on, up to 2^32 - 1. */
+    target.address = image_base + 0x10;
+    CHECK(fixes_pointer(&entry, &target, image_base, &word) == 0 && word == UINT64_C(0x8002d9bf00000000));
+    CHECK(fixes_pointer(&entry, &target, image_base + 1, &word) == HAUKLIVO_FAR_FROM_IMAGE && word == kept);
+    target.address += UINT32_MAX;
+    CHECK(fixes_pointer(&entry, &target, image_base, &word) == 0 && word == UINT64_C(0x8002d9bfffffffff));
+    CHECK(fixes_pointer(&entry, &target, image_base - 1, &word) == HAUKLIVO_FAR_FROM_IMAGE && word == kept);
+
+    /* Nothing for an imported symbol, however far, also where the section is too short. */
+    target.flags = HAUKLIVO_IMPORTED;
+    entry.offset = 4;
+    CHECK(fixes_pointer(&entry, &target, 0, &word) == 0 && word == kept);
+
+    /* A pointer of another type does not count from the image base. */
+    const struct hauklivo_reloc plain = {.type = HAUKLIVO_UNSIGNED, .size = 8, .diversity = 7, .key = 3};
+    target.flags = 0;
+    CHECK(fixes_pointer(&plain, &target, image_base, &word) == 0 && word == image_base + 0x10 + UINT32_MAX);
+}
+
+static void refused_pointers(void)
+{
+    const struct hauklivo_reloc entry = {.offset = 4, .type = HAUKLIVO_AUTHENTICATED_POINTER, .size = 8};
+    const struct hauklivo_resolved near = {.address = image_base}, far = {.address = image_base - 1};
+    const struct hauklivo_resolved odd = {.flags = 0x200};
+    struct hauklivo_reloc section = entry, other = entry;
+    section.target = HAUKLIVO_SECTION_TARGET;
+    other.type = 12;
+
+    /* In this order: 11, 9, 5, 10, 16, 3. */
+    refused_fixing(HAUKLIVO_FLAGS, UINT64_MAX, &entry, 24, &odd, 48, 24);
+    refused_fixing(HAUKLIVO_OVERFLOW, UINT64_MAX, &other, 24, &far, 48, 24);
+    refused_fixing(HAUKLIVO_UNSUPPORTED, 0, &other, 24, &far, 48, 24);
+    refused_fixing(HAUKLIVO_NEEDS_SYMBOL, 0, &section, 24, &far, 48, 24);
+    refused_fixing(HAUKLIVO_FAR_FROM_IMAGE, 0, &entry, 24, &far, 48, 24);
+    refused_fixing(HAUKLIVO_BOUNDS, 0, &entry, 24, &near, 48, 24);
 }
 
 static void stub_and_thunk(void)
@@ -622,7 +747,8 @@ static void unallocated(uint32_t word, uint8_t size)
     /* From x2; then from x1, with the greatest offset, in the last page. */
     declines(HAUKLIVO_ADRP_ADD_LDR, 3, 0x1000, (const uint32_t[3]){0x90000001, 0x91004022, word | 0x43});
     declines(HAUKLIVO_ADRP_LDR, 2, LAST_PAGE, (const uint32_t[3]){0x90000001, word | 0x3ffc20});
-    CHECK(hauklivo_apply_reloc_alloc(bytes, 4, 0x1000, 0, &entry, 24, &odd, 48, &report, 24, &count) == HAUKLIVO_DONE);
+    CHECK(hauklivo_apply_reloc_alloc(bytes, 4, 0x1000, 0, 0, &entry, 24, &odd, 48, &report, 24, &count)
+          == HAUKLIVO_DONE);
     CHECK(count == 1 && report.kind == HAUKLIVO_REPORT_ALIGNMENT && report.size == size && word_at(bytes, 0) == word);
 }
 
@@ -641,7 +767,7 @@ static void register_31(void)
 static void version(void)
 {
     CHECK(hauklivo_version() == HAUKLIVO_VERSION);
-    CHECK(hauklivo_version_4() == HAUKLIVO_VERSION);
+    CHECK(hauklivo_version_5() == HAUKLIVO_VERSION);
 }
 
 int main(void)
@@ -651,6 +777,9 @@ int main(void)
     reader_x86_64();
     refused_x86_64();
     fixup();
+    reader_of_pointers();
+    fixup_of_pointers();
+    refused_pointers();
     stub_and_thunk();
     hints();
     payloads();

@@ -1,6 +1,6 @@
 //! An object linked by the port and by the Rust.
 
-use relink::{Linked, Object, Options, PORT, link};
+use relink::{Fault, Linked, Object, Options, PORT, link};
 
 use crate::rust::RUST;
 
@@ -27,14 +27,21 @@ pub const LAYOUTS: [NamedLayout; 6] = [
     layout("at 8 GiB", TEXT + (1 << 33)),
 ];
 
-/// The linked object, where the port and the Rust agree on it.
-pub fn compare(object: &Object, layout: &NamedLayout) -> Result<Linked, String> {
+/// Whether a link is refused by 16: an authenticated pointer's target is too far from the image base.
+fn is_far(fault: &Fault) -> bool {
+    fault.to_string().contains(": number 16: ")
+}
+
+/// The linked object, where the port and the Rust agree on it; None where both refuse it by 16, in the same section.
+/// For which entry, is not compared: the words of a fault have the one that the library finds.
+pub fn compare(object: &Object, layout: &NamedLayout) -> Result<Option<Linked>, String> {
     let port = link(object, &layout.options, &PORT);
     let rust = link(object, &layout.options, &RUST);
     let (port, rust) = match (port, rust) {
         (Ok(port), Ok(rust)) => (port, rust),
+        (Err(port), Err(rust)) if port == rust && is_far(&port) => return Ok(None),
         (port, rust) => {
-            let words = |done: Result<Linked, relink::Fault>| match done {
+            let words = |done: Result<Linked, Fault>| match done {
                 Ok(_) => "links".into(),
                 Err(fault) => fault.to_string(),
             };
@@ -51,7 +58,7 @@ pub fn compare(object: &Object, layout: &NamedLayout) -> Result<Linked, String> 
     ];
     let unequal: Vec<_> = parts.iter().filter(|(_, equal)| !equal).map(|(name, _)| *name).collect();
     match unequal[..] {
-        [] => Ok(port),
+        [] => Ok(Some(port)),
         _ => Err(format!("port and Rust differ in {}", unequal.join(", "))),
     }
 }

@@ -1,5 +1,6 @@
 //! Real objects: the port against the unchanged Rust, and both against the LLVM tools.
 
+mod authenticated;
 #[path = "../driver/binding.rs"]
 mod binding;
 mod forms;
@@ -17,6 +18,7 @@ use std::process::ExitCode;
 
 use relink::{Machine, Object, PORT, entries};
 
+use authenticated::Pointers;
 use forms::Forms;
 use linking::LAYOUTS;
 use table::Table;
@@ -28,6 +30,7 @@ struct Run {
     table: Table,
     together: [Together; LAYOUTS.len()],
     forms: Forms,
+    pointers: Pointers,
 }
 
 fn main() -> ExitCode {
@@ -47,10 +50,14 @@ fn main() -> ExitCode {
     }
     run.table.print();
     run.forms.print();
-    let (hints, records) = (run.table.missing(), run.forms.missing());
-    hints.iter().for_each(|hint| println!("NO HINT: {hint}"));
-    records.iter().for_each(|form| println!("NO X86_64 RECORD: {form}"));
-    let missing = hints.len() + records.len();
+    run.pointers.print();
+    let has_arm64e = files.iter().any(|file| file.contains("/arm64e/"));
+    let pointers = if has_arm64e { run.pointers.missing() } else { Vec::new() };
+    let lists = [("HINT", run.table.missing()), ("X86_64 RECORD", run.forms.missing()), ("POINTER", pointers)];
+    for (what, missing) in &lists {
+        missing.iter().for_each(|one| println!("NO {what}: {one}"));
+    }
+    let missing: usize = lists.iter().map(|(_, missing)| missing.len()).sum();
     println!("{} objects, {differences} differences, {missing} kinds of hint or record missing", files.len());
     match differences == 0 && missing == 0 && !files.is_empty() {
         true => ExitCode::SUCCESS,
@@ -81,7 +88,11 @@ fn linked(object: &Object, file: &Path, show_all: bool, run: &mut Run) -> Vec<St
     let mut found = Vec::new();
     for (layout, together) in LAYOUTS.iter().zip(&mut run.together) {
         match linking::compare(object, layout) {
-            Ok(linked) => {
+            Ok(None) => run.pointers.far += 1,
+            Ok(Some(linked)) => {
+                if layout.name == LAYOUTS[0].name {
+                    run.pointers.count(&linked);
+                }
                 run.table.count(object, &linked, layout);
                 together.add(&linked);
                 sample::show(file, layout.name, &linked, show_all, &mut run.table);

@@ -5,6 +5,7 @@ use std::path::Path;
 use relink::hauklivo::{Reloc, Target, ty};
 use relink::{Machine, Object, PORT, Section, type_name};
 
+use crate::authenticated;
 use crate::llvm::{self, Row};
 use crate::rust::RUST;
 
@@ -58,7 +59,10 @@ fn named(object: &Object, row: &Row, entry: &Reloc) -> bool {
         Machine::Arm64 => "ARM64_RELOC_",
         Machine::X86_64 => "X86_64_RELOC_",
     };
-    let is_type = row.type_name.strip_prefix(prefix) == Some(type_name(object.machine, entry.ty));
+    // LLVM 14 has no name for AUTHENTICATED_POINTER.
+    let is_unknown =
+        row.type_name == "Unknown" && (object.machine, entry.ty) == (Machine::Arm64, ty::AUTHENTICATED_POINTER);
+    let is_type = is_unknown || row.type_name.strip_prefix(prefix) == Some(type_name(object.machine, entry.ty));
     let name = object.name(entry.target()).expect("a target of the object");
     is_type && row.name == if row.is_symbol { name } else { name.split(',').next_back().unwrap() }
 }
@@ -98,12 +102,12 @@ fn entry(row: &Row, offset: u32, is_subtracted: bool, addend: i64, addresses: &[
         is_pcrel: row.is_pcrel.into(),
         is_subtracted: is_subtracted.into(),
         target: target.pack(),
-        spare: 0,
         addend,
+        ..Reloc::default()
     }
 }
 
-/// The entries that records come to, by RULES 4.2 to 4.12.
+/// The entries that records come to, by RULES 4.2 to 4.12; those of authenticated pointers by authenticated.rs.
 fn expected(rows: &[Row], contents: &[u8], addresses: &[u64]) -> Vec<Reloc> {
     let mut entries = Vec::new();
     let mut i = 0;
@@ -119,7 +123,13 @@ fn expected(rows: &[Row], contents: &[u8], addresses: &[u64]) -> Vec<Reloc> {
             addend = stored(row, contents, offset);
         }
         let is_subtracted = i > 0 && rows[i - 1].ty == ty::SUBTRACTOR;
-        entries.push(entry(row, offset, is_subtracted, addend, addresses));
+        let plain = entry(row, offset, is_subtracted, addend, addresses);
+        entries.push(match row.ty {
+            ty::AUTHENTICATED_POINTER => {
+                authenticated::entry(plain, contents).expect("an authenticated pointer's word")
+            }
+            _ => plain,
+        });
         i += 1;
     }
     entries

@@ -2,7 +2,7 @@
 
 use std::collections::{BTreeMap, BTreeSet};
 
-use relink::hauklivo::{ReportKind, kind};
+use relink::hauklivo::{ReportKind, kind, ty};
 use relink::{Linked, Machine, Object, Outcome, Rewrite, kind_name, type_name};
 
 use crate::linking::{LAYOUTS, NamedLayout};
@@ -61,8 +61,8 @@ impl Table {
 
     pub fn print(&self) {
         println!("\nentries of all arm64 objects");
-        for ty in 0..=9 {
-            println!("  {:20} {:6}", type_name(Machine::Arm64, ty), self.entries.get(&ty).unwrap_or(&0));
+        for number in (0..=ty::AUTHENTICATED_POINTER).filter(|&number| number != ty::ADDEND) {
+            println!("  {:21} {:6}", type_name(Machine::Arm64, number), self.entries.get(&number).unwrap_or(&0));
         }
         print!("\n{:64}", "hints, by where the data are");
         LAYOUTS.iter().for_each(|layout| print!(" {:>10}", layout.name));

@@ -17,11 +17,12 @@ pub type ReadRelocsX86_64 = fn(
     slots: &mut [Reloc],
 ) -> Result<usize, Refusal>;
 
-/// Fixes up a section of a base address, with the start of thread-local storage; how many reports.
+/// Fixes up a section of a base address, with the start of thread-local storage and the image base; how many reports.
 pub type ApplyRelocAlloc = fn(
     section: &mut [u8],
     base: u64,
     tls_begin: u64,
+    image_base: u64,
     entries: &[Reloc],
     targets: &[Resolved],
     slots: &mut [Report],

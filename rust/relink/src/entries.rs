@@ -21,7 +21,7 @@ pub fn chosen(object: &Object, calls: &Calls, choice: impl Fn(&Section) -> bool)
     let (machine, sections) = (object.machine, &object.sections);
     let addresses: Vec<u64> = sections.iter().map(|s| s.address).collect();
     let read = |s: &Section| match choice(s) {
-        true => calls.entries(machine, s, &addresses).map_err(|r| refused::reading(machine, s, &addresses, r)),
+        true => calls.entries(machine, s, &addresses).map_err(|r| refused::reading(object, s, &addresses, r)),
         false => Ok(Vec::new()),
     };
     sections.iter().map(read).collect()

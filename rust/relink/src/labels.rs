@@ -4,6 +4,7 @@ use hauklivo::{Reloc, Resolved, Target, flag, ty};
 
 use crate::link::{Linked, LinkedSection};
 use crate::object::Object;
+use crate::signing::signing;
 use crate::words::{branch_target, word_at};
 
 /// Where the word of a BRANCH26 entry goes.
@@ -39,6 +40,15 @@ fn way(entry: &Reloc, target: &Resolved, place: u64, word: u32) -> Way {
         Way::Thunk
     } else {
         Way::Elsewhere(to)
+    }
+}
+
+/// A text and an addend.
+pub fn with_addend(text: &str, addend: i64) -> String {
+    match addend {
+        0 => text.into(),
+        addend if addend < 0 => format!("{text} - {:#x}", addend.unsigned_abs()),
+        addend => format!("{text} + {addend:#x}"),
     }
 }
 
@@ -90,21 +100,13 @@ impl<'a> Labels<'a> {
         self.object.name(self.section.entries[number].target()).expect("the target is resolved")
     }
 
-    /// A text and the addend of an entry.
-    fn with_addend(&self, number: usize, text: &str) -> String {
-        match self.section.entries[number].addend {
-            0 => text.into(),
-            addend if addend < 0 => format!("{text} - {:#x}", addend.unsigned_abs()),
-            addend => format!("{text} + {addend:#x}"),
-        }
-    }
-
     /// What an entry refers to: a symbol or section, and its addend.
     pub fn reference(&self, number: usize) -> String {
-        self.with_addend(number, self.name(number))
+        with_addend(self.name(number), self.section.entries[number].addend)
     }
 
-    /// What an entry refers to, and by way of what; of a branch, what the word goes to.
+    /// What an entry refers to, and by way of what; of a branch, what the word goes to; of an authenticated pointer, how
+    /// it is signed.
     pub fn label(&self, number: usize) -> String {
         let (entry, target) = (&self.section.entries[number], &self.section.targets[number]);
         let (name, reference) = (self.name(number), self.reference(number));
@@ -112,14 +114,14 @@ impl<'a> Labels<'a> {
         match (entry.ty, self.way(number)) {
             _ if self.is_taken(number) => reference,
             (_, Some(Way::Stub)) if entry.addend == 0 => format!("stub of {name}"),
-            (_, Some(Way::Stub)) => self.with_addend(number, &format!("(stub of {name})")),
+            (_, Some(Way::Stub)) => with_addend(&format!("(stub of {name})"), entry.addend),
             (_, Some(Way::Thunk)) => format!("thunk entry of {name}"),
             (_, Some(Way::Elsewhere(to))) => format!("{to:x}, not {reference}"),
             (_, Some(Way::Site)) => format!("DTrace site {reference}"),
             (_, Some(Way::NoBranch)) => format!("{reference}, no branch"),
             (ty::POINTER_TO_GOT, _) => format!("GOT slot of {reference}"),
             (ty::GOT_LOAD_PAGE21..=ty::TLVP_LOAD_PAGEOFF12, _) if !is_relaxed => format!("GOT slot of {reference}"),
-            _ => reference,
+            _ => reference + &signing(entry),
         }
     }
 }

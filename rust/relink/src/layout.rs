@@ -69,12 +69,14 @@ pub struct Layout {
     pub commons: BTreeMap<u32, u64>,
     /// Start of thread-local storage; 0 where there is none.
     pub tls_begin: u64,
+    /// Address of the mach header, which is not made: the page before that of the text, if there is one.
+    pub image_base: u64,
     /// Bytes of the image.
     pub image_size: usize,
     next: u64,
 }
 
-/// The page size of the platform; data start on a page of their own.
+/// The page size of the platform; data start on a page of their own, and the mach header has one.
 const PAGE: u64 = 0x4000;
 
 /// Bytes of a GOT slot, and of a stub or thunk entry.
@@ -84,7 +86,8 @@ const JUMP: u64 = 12;
 impl Layout {
     /// Lays out `object` with what its entries need.
     pub(crate) fn new(object: &Object, options: &Options, needs: &Needs) -> Result<Self, Fault> {
-        let mut layout = Self { next: options.text, ..Self::default() };
+        let image_base = (options.text & !(PAGE - 1)).saturating_sub(PAGE);
+        let mut layout = Self { next: options.text, image_base, ..Self::default() };
         layout.sections = vec![None; object.sections.len()];
         layout.place_sections(object, options, |s| s.is_text())?;
         layout.stubs = layout.place_table(Holds::Stubs, &needs.stubs, JUMP, 2)?;

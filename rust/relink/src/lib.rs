@@ -19,6 +19,7 @@ mod needs;
 mod object;
 mod refused;
 mod reports;
+pub mod signing;
 mod targets;
 mod types;
 pub mod words;

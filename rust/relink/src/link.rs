@@ -148,10 +148,11 @@ fn fix_up(laid: Laid, calls: &Calls, linked: &mut LinkedSection, bytes: &mut [u8
         let target = laid.resolve(entry, place);
         linked.targets.push(target.ok_or_else(|| Fault::no_symbol(laid.object, section, entry))?);
     }
-    let (base, tls_begin) = (linked.address, laid.layout.tls_begin);
-    let mut reports = vec![Report::default(); linked.entries.len()];
-    let count = (calls.apply_reloc_alloc)(bytes, base, tls_begin, &linked.entries, &linked.targets, &mut reports)
-        .map_err(|r| refused::fixing(section, linked, r))?;
+    let &Layout { tls_begin, image_base, .. } = laid.layout;
+    let (base, entries, targets) = (linked.address, &linked.entries, &linked.targets);
+    let mut reports = vec![Report::default(); entries.len()];
+    let count = (calls.apply_reloc_alloc)(bytes, base, tls_begin, image_base, entries, targets, &mut reports)
+        .map_err(|r| refused::fixing(laid, linked, r))?;
     reports.truncate(count);
     linked.reports = reports;
     Ok(())

@@ -11,6 +11,7 @@ use crate::layout::{Holds, Part};
 use crate::link::{Linked, LinkedSection};
 use crate::object::{Object, Section};
 use crate::reports::reports;
+use crate::signing::signing;
 use crate::types::type_name;
 use crate::words::{text, word_at};
 
@@ -67,6 +68,9 @@ fn layout(out: &mut String, object: &Object, linked: &Linked) {
     }
     if linked.layout.tls_begin != 0 {
         line!(out, "  thread-local storage starts at {:x}", linked.layout.tls_begin);
+    }
+    if linked.sections.iter().flat_map(|s| &s.entries).any(|entry| entry.ty == ty::AUTHENTICATED_POINTER) {
+        line!(out, "  the image base, from which authenticated pointers count, is {:x}", linked.layout.image_base);
     }
     line!(out, "");
 }
@@ -134,7 +138,7 @@ fn entry_row(object: &Object, section: &Section, number: usize, entry: &Reloc) -
         entry.size.to_string(),
         mark(entry.is_pcrel),
         mark(entry.is_subtracted),
-        name.into(),
+        format!("{name}{}", signing(entry)),
         format!("{sign}{:#x}", entry.addend.unsigned_abs()),
     ])
 }
@@ -147,7 +151,9 @@ fn entries(out: &mut String, object: &Object, linked: &Linked, section: &LinkedS
         let [before, after] = [&linked.before, &linked.fixed].map(|i| shown(&i[bytes.clone()], section.address, entry));
         let (before, after) = match entry.ty {
             _ if labels.is_taken(number) => (String::new(), "taken by the SUBTRACTOR before it".into()),
-            ty::UNSIGNED if target.flags & flag::IMPORTED != 0 => (before, "left for dyld to bind".into()),
+            ty::UNSIGNED | ty::AUTHENTICATED_POINTER if target.flags & flag::IMPORTED != 0 => {
+                (before, "left for dyld to bind".into())
+            }
             ty::PAGE21 | ty::PAGEOFF12 if labels.lacks_address(number) => {
                 (before, "left, the target has no address".into())
             }
@@ -166,7 +172,7 @@ fn shown(section: &[u8], base: u64, entry: &Reloc) -> String {
     let at = entry.offset as usize;
     let Some(word) = word_at(section, at) else { return String::new() };
     match (entry.ty, entry.size) {
-        (ty::UNSIGNED, _) | (ty::SUBTRACTOR, 8) => match word_at(section, at + 4) {
+        (ty::UNSIGNED | ty::AUTHENTICATED_POINTER, _) | (ty::SUBTRACTOR, 8) => match word_at(section, at + 4) {
             Some(high) => format!("{high:08x}{word:08x}"),
             None => format!("{word:08x}"),
         },

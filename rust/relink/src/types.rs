@@ -25,6 +25,7 @@ fn arm64(number: u8) -> &'static str {
         ty::TLVP_LOAD_PAGE21 => "TLVP_LOAD_PAGE21",
         ty::TLVP_LOAD_PAGEOFF12 => "TLVP_LOAD_PAGEOFF12",
         ty::ADDEND => "ADDEND",
+        ty::AUTHENTICATED_POINTER => "AUTHENTICATED_POINTER",
         _ => "unknown",
     }
 }

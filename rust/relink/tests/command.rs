@@ -11,6 +11,7 @@ use relink::{Object, Options, PORT, link};
 
 const EXAMPLE: &[u8] = include_bytes!("../example/thermo.o");
 const X86_64: &[u8] = include_bytes!("../example/thermo-x86_64.o");
+const ARM64E: &[u8] = include_bytes!("../example/pointers.o");
 
 fn relink(words: &[&str]) -> Output {
     Command::new(env!("CARGO_BIN_EXE_relink")).args(words).output().unwrap()
@@ -149,12 +150,101 @@ Entries of __DATA,__const
     assert!(x86_64.ends_with("\nx86_64: 20 entries of 20 relocation records.\n"));
 }
 
+/// The example for arm64e: how each pointer is signed, and what stands there before and after.
+#[test]
+fn authenticated_pointers() {
+    let file = written("arm64e", ARM64E);
+    let done = relink(&[&file]);
+    assert!(done.status.success() && done.stderr.is_empty());
+    let listing = String::from_utf8(done.stdout).unwrap();
+    assert!(listing.contains("\n  the image base, from which authenticated pointers count, is 100000000\n"));
+    assert!(listing.contains(
+        "
+Entries of __DATA,__data
+  no  address    type                   target                                                            before            after
+  3   100008020  AUTHENTICATED_POINTER  _type_j (key ib, diversity 42)                                    8002002a00000000  8002002a00004010
+  2   100008028  AUTHENTICATED_POINTER  _type_k (key ia, diversity 55743, address diversity)              8001d9bf00000000  8001d9bf00004000
+  1   100008030  AUTHENTICATED_POINTER  _coefficients + 0x8 (key da, diversity 65535, address diversity)  8005ffff00000008  8005ffff00008008
+  0   100008038  AUTHENTICATED_POINTER  _coefficients - 0x8 (key db, diversity 0)                         80060000fffffff8  8006000000007ff8
+
+Entries of __DATA,__const
+  no  address    type                   target                         before            after
+  2   100008040  AUTHENTICATED_POINTER  _type_k (key ia, diversity 0)  8000000000000000  8000000000004000
+  1   100008048  AUTHENTICATED_POINTER  _type_j (key ia, diversity 0)  8000000000000000  8000000000004010
+  0   100008050  AUTHENTICATED_POINTER  _custom (key ia, diversity 0)  8000000000000000  left for dyld to bind
+
+No reports.
+"
+    ));
+    assert!(listing.ends_with("\nTally: 5 rewritten, 0 skipped, 0 declined, 0 turned down by 9; 0 not run.\n"));
+
+    let entries = listed(&[&file]);
+    assert!(entries.contains(
+        "
+  1   c8       AUTHENTICATED_POINTER  8     -            -           _coefficients (key da, diversity 65535, address diversity)  0x8
+  0   d0       AUTHENTICATED_POINTER  8     -            -           _coefficients (key db, diversity 0)                         -0x8\n"
+    ));
+    assert!(entries.ends_with("\narm64: 17 entries of 21 relocation records.\n"));
+}
+
+/// An authenticated pointer that cannot be: a stored word that has bit 62 set, and data too far from the image base.
+#[test]
+fn refused_pointers() {
+    let stored = 0x80060000fffffff8_u64;
+    let at = ARM64E.windows(8).position(|bytes| bytes == stored.to_le_bytes()).unwrap();
+    let mut odd = ARM64E.to_vec();
+    odd[at + 7] |= 0x40;
+    let file = written("odd-pointer", &odd);
+    for words in [&[&*file][..], &["--entries", &file]] {
+        assert_eq!(
+            error(words, 1).replace(&file, "FILE"),
+            "relink: FILE: the relocation records of section __DATA,__data: number 15: an authenticated pointer's stored \
+             word has a bit of 51 to 62 set, or 63 clear: record 0, offset 0x38, bits 0xbe000006; c0060000fffffff8 is \
+             stored for the pointer to _coefficients\n"
+        );
+    }
+    let file = written("far-pointer", ARM64E);
+    for (data, expected) in [
+        (
+            "0x1fffffff8",
+            "entry 1, record 1, offset 0x30, bits 0xbe000006; the pointer at 200000028 is to _coefficients + 0x8 at 200000000",
+        ),
+        (
+            "0x100000000",
+            "entry 0, record 0, offset 0x38, bits 0xbe000006; the pointer at 100000038 is to _coefficients - 0x8 at fffffff8",
+        ),
+    ] {
+        assert_eq!(
+            error(&[&file, "--data", data], 1).replace(&file, "FILE"),
+            format!(
+                "relink: FILE: the fix-up of section __DATA,__data: number 16: an authenticated pointer's target plus \
+                 addend less the image base, modulo 2^64, is above 2^32 - 1: {expected}, and the image base is 100000000\n"
+            )
+        );
+    }
+}
+
+/// Authenticated pointers at both limits of their distance: the largest that data at multiples of 8 have, and 0.
+#[test]
+fn pointers_at_the_limits() {
+    let file = written("limit-pointer", ARM64E);
+    for (data, word) in [
+        ("0x1fffffff0", "8005ffff00000008  8005fffffffffff8\n"),
+        ("0x100000008", "80060000fffffff8  8006000000000000\n"),
+    ] {
+        let done = relink(&[&file, "--data", data]);
+        assert_eq!(done.status.code(), Some(0));
+        assert!(String::from_utf8(done.stdout).unwrap().contains(word));
+    }
+}
+
 /// The lines that the README shows are the program's.
 #[test]
 fn readme_listing() {
     let readme = include_str!("../../../README.md");
     let mut blocks = readme.split("```text\n").skip(1).map(|rest| rest.split("```").next().unwrap());
-    let listings = [&[][..], &["--entries", &written("readme", X86_64)]].map(|words| relink(words).stdout);
+    let [arm64e, x86_64] = [("readme-arm64e", ARM64E), ("readme", X86_64)].map(|(name, bytes)| written(name, bytes));
+    let listings = [&[][..], &[&*arm64e], &["--entries", &x86_64]].map(|words| relink(words).stdout);
     for listing in listings {
         let shown = blocks.next().expect("a listing in the README");
         let listing = String::from_utf8(listing).unwrap();
@@ -162,6 +252,19 @@ fn readme_listing() {
         for line in shown.lines() {
             assert!(lines.any(|l| l == line), "{line}");
         }
+    }
+}
+
+/// Which arm64 an object is for, by the cpu subtype in its header, changes nothing.
+#[test]
+fn subtypes() {
+    for example in [EXAMPLE, ARM64E] {
+        let listings = [0_u32, 1, 2, 0x8000_0002, u32::MAX].map(|subtype| {
+            let mut other = example.to_vec();
+            other[8..12].copy_from_slice(&subtype.to_le_bytes());
+            relink(&[&written("subtype", &other)])
+        });
+        assert!(listings.iter().all(|done| done.status.success() && done.stdout == listings[0].stdout));
     }
 }
 

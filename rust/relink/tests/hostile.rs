@@ -9,6 +9,7 @@ use relink::{Fault, Object, Options, PORT, entries, entry_listing, link, listing
 
 const EXAMPLE: &[u8] = include_bytes!("../example/thermo.o");
 const X86_64: &[u8] = include_bytes!("../example/thermo-x86_64.o");
+const ARM64E: &[u8] = include_bytes!("../example/pointers.o");
 
 /// Numbers that are the same in every run.
 struct Numbers(u64);
@@ -73,24 +74,35 @@ const LAYOUTS: [Options; 4] = [
     Options { text: 0x4000, data: Some(u64::MAX - 0x800), debug: true },
 ];
 
-#[test]
-fn in_this_process() {
-    for options in &LAYOUTS {
-        assert!(links(EXAMPLE, options));
-        let cut = (0..EXAMPLE.len()).filter(|&end| links(&EXAMPLE[..end], options)).count();
+/// An example is linked in each layout, its beginnings are not, and damaged copies come to either.
+fn damaged_links(example: &[u8], layouts: &[Options], cases: usize) {
+    for options in layouts {
+        assert!(links(example, options));
+        let cut = (0..example.len()).filter(|&end| links(&example[..end], options)).count();
         assert!(cut < 16, "only padding can be missing: {cut}");
     }
     let mut numbers = Numbers(0x9e37_79b9_7f4a_7c15);
-    let cases = 60_000;
-    let linked = (0..cases).filter(|i| links(&numbers.damaged(EXAMPLE), &LAYOUTS[i % 4])).count();
+    let linked = (0..cases).filter(|i| links(&numbers.damaged(example), &layouts[i % layouts.len()])).count();
     assert!(linked > cases / 20 && linked < cases / 20 * 19, "both ends are reached: {linked} of {cases}");
 }
 
-/// The same, of the listing of entries, for both machines.
+#[test]
+fn in_this_process() {
+    damaged_links(EXAMPLE, &LAYOUTS, 60_000);
+}
+
+/// The same of the example for arm64e, in the layouts that have its data within 4 GiB above the image base.
+#[test]
+fn arm64e_in_this_process() {
+    damaged_links(ARM64E, &[LAYOUTS[0], LAYOUTS[2]], 40_000);
+    assert!([1, 3].iter().all(|&far| !links(ARM64E, &LAYOUTS[far])));
+}
+
+/// The same, of the listing of entries.
 #[test]
 fn entries_in_this_process() {
     let mut numbers = Numbers(0x2545_f491_4f6c_dd1d);
-    for (example, cases) in [(EXAMPLE, 20_000), (X86_64, 60_000)] {
+    for (example, cases) in [(EXAMPLE, 20_000), (ARM64E, 20_000), (X86_64, 60_000)] {
         assert!(lists(example));
         let cut = (0..example.len()).filter(|&end| lists(&example[..end])).count();
         assert!(cut < 16, "only padding can be missing: {cut}");
@@ -160,6 +172,12 @@ fn as_a_program() {
     let out = concat!(env!("CARGO_TARGET_TMPDIR"), "/hostile.out");
     let statuses = statuses(EXAMPLE, "hostile.o", &["-o", out]);
     assert!([0, 1, 3].iter().all(|&status| statuses[status] > 30), "{statuses:?}");
+}
+
+#[test]
+fn arm64e_as_a_program() {
+    let statuses = statuses(ARM64E, "hostile-arm64e.o", &[]);
+    assert!(statuses[0] > 30 && statuses[1] > 30, "{statuses:?}");
 }
 
 #[test]

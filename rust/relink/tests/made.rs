@@ -1,5 +1,5 @@
-//! Small objects that are made here: what a refusal names, what a branch goes to, what makes a link a broken one, and
-//! the entries of x86_64 records.
+//! Small objects that are made here: what a refusal names, what a branch goes to, what becomes of authenticated pointers,
+//! what makes a link a broken one, and the entries of x86_64 records.
 
 use std::fs;
 use std::process::Command;
@@ -56,7 +56,7 @@ fn object(sections: &[Part], symbols: &[(&str, Place)]) -> Vec<u8> {
 /// A record of a symbol.
 fn of(symbol: u32, offset: u32, ty: u8) -> MachRel {
     let is_pcrel = matches!(ty, ty::BRANCH26 | ty::PAGE21 | ty::GOT_LOAD_PAGE21 | ty::POINTER_TO_GOT);
-    let p2size = if matches!(ty, ty::UNSIGNED | ty::SUBTRACTOR) { 3 } else { 2 };
+    let p2size = if matches!(ty, ty::UNSIGNED | ty::SUBTRACTOR | ty::AUTHENTICATED_POINTER) { 3 } else { 2 };
     MachRel::new(offset, symbol, is_pcrel, p2size, true, ty)
 }
 
@@ -196,6 +196,100 @@ fn labels_of_branches() {
         branches(1 << 33, &[branch(1, 0), branch(1, 8)]),
         [label("100000000, not _b", 0x94000000), label("100000000, not _b", 0x97fffffe)]
     );
+}
+
+/// The stored or finished word of an authenticated pointer: addend or distance, and how it is signed.
+fn signed(low: u32, diversity: u16, address_diversity: u64, key: u64) -> u64 {
+    1 << 63 | key << 49 | address_diversity << 48 | u64::from(diversity) << 32 | u64::from(low)
+}
+
+/// An object whose data are these 8-byte words, with records; `_a` is the first word of the text, `_b` the second of the
+/// data.
+fn pointers(words: &[u64], records: &[MachRel]) -> Vec<u8> {
+    let words: Vec<u32> = words.iter().flat_map(|&word| [word as u32, (word >> 32) as u32]).collect();
+    let sections = [("__TEXT", "__text", &[NOP][..], &[][..]), ("__DATA", "__data", &words[..], records)];
+    object(&sections, &[("_a", Some((0, 0))), ("_b", Some((1, 8))), ("_lib", None)])
+}
+
+/// Every key, with and without address diversity, addends and diversities of either end: a finished word is the stored
+/// one, but for the distance from the image base in the addend's place.
+#[test]
+fn authenticated_pointers() {
+    let (mut stored, mut due) = (Vec::new(), Vec::new());
+    for (key, address_diversity) in (0..8).map(|i| (i / 2, i % 2)) {
+        for (addend, diversity) in [(0, 0), (-0x4000, 42), (7, 65535), (0x7fff_0000, 0x8000)] {
+            stored.push(signed(addend as u32, diversity, address_diversity, key));
+            due.push(signed((0x8008 + addend) as u32, diversity, address_diversity, key));
+        }
+    }
+    let records: Vec<_> = (0..32).map(|i| of(1, 8 * i, ty::AUTHENTICATED_POINTER)).collect();
+    let bytes = pointers(&stored, &records);
+    let object = Object::parse(&bytes).unwrap();
+    let linked = link(&object, &Options::default(), &PORT).unwrap();
+    let data = &linked.sections[1];
+    assert_eq!((linked.layout.image_base, data.address), (0x1_0000_0000, 0x1_0000_8000));
+    let finished = |at: usize| u64::from_le_bytes(linked.image[data.start + 8 * at..][..8].try_into().unwrap());
+    assert_eq!((0..32).map(finished).collect::<Vec<_>>(), due);
+}
+
+/// What an ADDEND record, a SUBTRACTOR and an imported symbol make of it.
+#[test]
+fn rows_of_authenticated_pointers() {
+    let pointer = |symbol, offset| of(symbol, offset, ty::AUTHENTICATED_POINTER);
+    let stored = [signed(0, 0, 0, 0), signed(5, 42, 1, 0), signed(0, 7, 0, 3), signed(4, 0, 0, 2)];
+    let records = [addend(8, 9), pointer(0, 0), pointer(2, 16), of(0, 24, ty::SUBTRACTOR), pointer(1, 24)];
+    let bytes = pointers(&stored, &records);
+    let object = Object::parse(&bytes).unwrap();
+    let listing = listing(&object, &link(&object, &Options::default(), &PORT).unwrap());
+    let rows = "
+  0   100008008  AUTHENTICATED_POINTER  _a + 0x5 (key ia, diversity 42, address diversity)  8001002a00000005  8001002a00004005
+  1   100008010  AUTHENTICATED_POINTER  _lib (key db, diversity 7)                          8006000700000000  left for dyld to bind
+  2   100008018  SUBTRACTOR             _a                                                  8004000000000004  000000000000400c
+  3   100008018  AUTHENTICATED_POINTER  _b + 0x4                                                              taken by the SUBTRACTOR before it
+";
+    assert!(listing.contains(rows), "{listing}");
+}
+
+/// A refusal for an authenticated pointer is shown with what is stored, or with where the pointer is and what it is to.
+#[test]
+fn refused_authenticated_pointers() {
+    let pointer = |symbol, offset| of(symbol, offset, ty::AUTHENTICATED_POINTER);
+    let fault = |words: &[u64], records: &[MachRel]| {
+        let bytes = pointers(words, records);
+        let options = Options { data: Some(0x2_0000_0000), ..Options::default() };
+        link(&Object::parse(&bytes).unwrap(), &options, &PORT).unwrap_err().to_string()
+    };
+    let good = signed(0, 0, 0, 0);
+    let reading = "the relocation records of section __DATA,__data: number 15: an authenticated pointer's stored word has \
+                   a bit of 51 to 62 set, or 63 clear: record";
+    for (records, expected) in [
+        (
+            &[pointer(0, 0), pointer(2, 8)][..],
+            "1, offset 0x8, bits 0xbe000002; 0000000000000007 is stored for the pointer to _lib",
+        ),
+        (
+            &[pointer(0, 0), addend(8, 1), pointer(9, 0)],
+            "2, offset 0x0, bits 0xbe000009; 0000000000000007 is stored for the pointer to no symbol",
+        ),
+    ] {
+        assert_eq!(fault(&[good, 7], records), format!("{reading} {expected}"));
+    }
+    let fixing = "the fix-up of section __DATA,__data: number 16: an authenticated pointer's target plus addend less \
+                  the image base, modulo 2^64, is above 2^32 - 1: entry";
+    for (records, expected) in [
+        (
+            &[addend(0, 1), pointer(0, 8), pointer(1, 8)][..],
+            "1, record 2, offset 0x8, bits 0xbe000001; the pointer at 200000008 is to _b + 0x10 at 200000018, and the image \
+             base is 100000000",
+        ),
+        (
+            &[pointer(2, 0), addend(8, 1), pointer(1, 0)],
+            "1, record 2, offset 0x0, bits 0xbe000001; the pointer at 200000008 is to _b + 0x10 at 200000018, and the image \
+             base is 100000000",
+        ),
+    ] {
+        assert_eq!(fault(&[good, good | 0x10], records), format!("{fixing} {expected}"));
+    }
 }
 
 /// What the program says of an object: its status, the reports of its listing, and its error.

@@ -31,6 +31,7 @@ pub struct Context<E> {
     pub symbols: Vec<Symbol>,
     pub stubs: Stubs,
     pub tls_begin: u64,
+    pub image_base: u64,
     /// What was noted and reported.
     pub told: RefCell<Vec<String>>,
     pub machine: PhantomData<E>,

@@ -28,7 +28,9 @@ pub struct Reloc {
     pub is_pcrel: u8,
     pub is_subtracted: u8,
     pub target: u32,
-    pub spare: u32,
+    pub diversity: u16,
+    pub address_diversity: u8,
+    pub key: u8,
     pub addend: i64,
 }
 
@@ -86,7 +88,7 @@ fn facts(ctx: &Context<Arm64>, isec_id: usize, rels: &[Reloc], i: usize, base: u
         return;
     }
     match (r.ty, sym) {
-        (ty::UNSIGNED, _) => {
+        (ty::UNSIGNED | ty::AUTHENTICATED_POINTER, _) => {
             isec.check_text_reloc(ctx, isec_id, rels, i, p);
             t.flags |= flag::IMPORTED * u32::from(sym.is_some_and(|id| ctx.symbols[id].binds_as_import(ctx)));
             t.flags |= flag::THREAD_LOCAL * u32::from(r.refers_to_tls(ctx, file));
@@ -119,14 +121,14 @@ fn apply_reloc_alloc(ctx: &Context<Arm64>, rels: &[Reloc], isec_id: usize, base:
     let mut reports = vec![Report::default(); rels.len()]; // better kept by the thread, like targets
     let (entries, targets) = (Reloc::bytes(rels), Resolved::bytes(&targets));
     let slots = Report::bytes_mut(&mut reports);
-    match hauklivo::apply_reloc_alloc(buf, base, ctx.tls_begin, entries, targets, slots) {
+    match hauklivo::apply_reloc_alloc(buf, base, ctx.tls_begin, ctx.image_base, entries, targets, slots) {
         Ok(n) => {
             for report in &reports[..n] {
                 tell(ctx, isec, &rels[report.entry as usize], report);
             }
         }
         Err(refusal) => {
-            let at = position_of_refusal::in_entries(refusal, buf, base, entries, targets);
+            let at = position_of_refusal::in_entries(refusal, buf, base, ctx.image_base, entries, targets);
             let at = at.map(|i| format!(": relocation {i} at 0x{:x}", rels[i].offset)).unwrap_or_default();
             fatal!("{}: {refusal}{at}", ctx.objs[isec.file as usize].mf.name.display())
         }
@@ -263,6 +265,7 @@ fn context(rels: Vec<Reloc>) -> Context<Arm64> {
         symbols: vec![near, far, probe],
         stubs: Stubs { symbols: vec![1] },
         tls_begin: 0,
+        image_base: 0x800,
         told: Default::default(),
         machine: Default::default(),
     }
@@ -293,6 +296,19 @@ fn reads_fixes_and_works_hints() {
     apply_hints(&ctx, &mut section);
     assert_eq!(section[..8], bytes(&[0x10008080, 0xd503201f])); // adr x0, 0x2010; nop
     assert_eq!(section[8..], bytes(&fixed)[8..]);
+}
+
+/// Of two authenticated pointers one counts from the image base, the other is left for dyld.
+#[test]
+fn fixes_authenticated_pointers() {
+    let stored = 0x8001002a00000000_u64;
+    let mut section = [stored; 2].map(u64::to_le_bytes).concat();
+    let records = [0, 1].map(|idx| record(8 * idx, idx, false, 3, ty::AUTHENTICATED_POINTER));
+    let ctx = context(read_relocs(Path::new("a.o"), &[], &MachSection::default(), &section, &records));
+    apply_reloc_alloc(&ctx, &ctx.objs[0].rels, 0, 0x1000, &mut section);
+    assert_eq!(ctx.symbols[0].addr - ctx.image_base, 0x1810);
+    assert_eq!(section, [0x8001002a00001810, stored].map(u64::to_le_bytes).concat());
+    assert_eq!(*ctx.told.borrow(), ["pointer 0 at 1000", "pointer 1 at 1008"]);
 }
 
 #[test]
