@@ -5,7 +5,7 @@ use oracle::{Arm64, Entries, FixingUp, Given, Linked, Reading, X86_64};
 
 use crate::hints::Sequences;
 use crate::payload::Payload;
-use crate::records::{BASE, TLS_BEGIN, Table};
+use crate::records::{BASE, IMAGE_BASE, TLS_BEGIN, Table};
 use crate::records_x86_64::ADDRESS;
 
 /// One side of a comparison.
@@ -134,6 +134,7 @@ impl Job for PortFix<'_> {
             &mut self.section,
             BASE,
             TLS_BEGIN,
+            IMAGE_BASE,
             Reloc::bytes(self.entries),
             Resolved::bytes(self.targets),
             Report::bytes_mut(&mut self.reports),

@@ -6,6 +6,7 @@ use crate::rng::Rng;
 
 pub const BASE: u64 = 0x1_0000_0000;
 pub const TLS_BEGIN: u64 = 0x1_0800_0000;
+pub const IMAGE_BASE: u64 = 0x1_0000_0000;
 pub const SECTIONS: u32 = 40;
 
 /// What a reader is lent.

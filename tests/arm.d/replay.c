@@ -32,8 +32,8 @@ result read_relocs(const uint8_t *, size_t, const void *, size_t, const uint64_t
     CALL(read_relocs);
 result read_relocs_x86_64(const uint8_t *, size_t, const void *, size_t, const uint64_t *, size_t, uint64_t, void *, size_t,
                           size_t *) CALL(read_relocs_x86_64);
-result apply_reloc_alloc(uint8_t *, size_t, uint64_t, uint64_t, const void *, size_t, const void *, size_t, void *, size_t,
-                         size_t *) CALL(apply_reloc_alloc);
+result apply_reloc_alloc(uint8_t *, size_t, uint64_t, uint64_t, uint64_t, const void *, size_t, const void *, size_t, void *,
+                         size_t, size_t *) CALL(apply_reloc_alloc);
 result write_stub(uint8_t *, size_t, uint64_t, uint64_t, uint8_t *) CALL(write_stub);
 result write_thunk(uint8_t *, size_t, uint64_t, uint64_t) CALL(write_thunk);
 result apply_hints(uint8_t *, size_t, const void *, size_t, const void *, size_t, struct hauklivo_tally *) CALL(apply_hints);
@@ -144,15 +144,15 @@ static int holds_read(const struct head *h, const uint8_t *body)
 
 static int holds_fix(const struct head *h, const uint8_t *body)
 {
-    const uint8_t *section = body + 16, *entries = section + h->v[0], *targets = entries + h->v[1];
+    const uint8_t *section = body + 24, *entries = section + h->v[0], *targets = entries + h->v[1];
     const uint8_t *after = targets + h->v[2], *reports = after + h->v[0];
     size_t count = UNCOUNTED;
     if (reports + 24 * h->v[4] != body + h->len)
         return fails("the record's lengths");
     lend(&first, section, h->v[0]);
     lend(&second, NULL, h->v[3]);
-    result number = apply_reloc_alloc(first.bytes, h->v[0], read64(body), read64(body + 8), entries, h->v[1], targets, h->v[2],
-                                      second.bytes, h->v[3], &count);
+    result number = apply_reloc_alloc(first.bytes, h->v[0], read64(body), read64(body + 8), read64(body + 16), entries, h->v[1],
+                                      targets, h->v[2], second.bytes, h->v[3], &count);
     if (!counted(h, number, count, h->v[4]))
         return 0;
     if (!became(&first, after, h->v[0]))

@@ -1,5 +1,7 @@
-//! The lists of answers that the gate replays (crates/replay_reader, replay_fixup, replay_hints): cases chosen so that each row of the table is
-//! covered, and each row of docs/DIFFERENCES.md, each with what is expected of it. And a list of every case, for tests/arm.
+//! The lists of answers that the gate replays (crates/replay_reader, replay_fixup, replay_hints): cases chosen so that
+//! each row of the table is covered, and each row of docs/DIFFERENCES.md, each with what is expected of it. Left out are
+//! cases whose answer is modelled, by the driver's own rule, those of authenticated pointers, and the rows that only
+//! they reach. And a list of every case, for tests/arm.
 //!
 //! A list is a chain of records of 16 bytes and a body. A record is: what it is (u8), the answer's number (u8), the
 //! body's length (u16), and six values (u16). Numbers are little-endian.
@@ -7,8 +9,8 @@
 //! - 0, a title. Body: a row's name; the answers before it, back to the last title, were chosen for that row.
 //! - 1, read_relocs. Values: bytes of contents, bytes of records, sections, bytes of slots, entries filled. Body: contents,
 //!   records, sections (u64), entries.
-//! - 2, apply_reloc_alloc. Values: bytes of the section, of entries, of targets, of slots, reports filled. Body: base and
-//!   thread-local start (u64), section, entries, targets, section after, reports.
+//! - 2, apply_reloc_alloc. Values: bytes of the section, of entries, of targets, of slots, reports filled. Body: base,
+//!   thread-local start and image base (u64), section, entries, targets, section after, reports.
 //! - 3, write_stub. Values: bytes lent, whether ADRP reaches. Body: address and pointer (u64), bytes after.
 //! - 4, write_thunk. Values: bytes lent, 1. Body: address and target (u64), bytes after.
 //! - 5, apply_hints. Values: bytes of the image, of hints, of entries. Body: tally (four u32), image, hints, entries, image
@@ -78,12 +80,14 @@ fn is_wanted(table: &Table, kept: &[Vec<u32>], (block, cell): (usize, usize)) ->
     }
 }
 
-/// The cells that must be reached and that no answer covers; of a block that is shown as one line, the line.
-fn uncovered(table: &Table, kept: &[Vec<u32>]) -> Vec<String> {
+/// The cells that must be reached and that no answer covers, but for those that only cases left out have reached; of a
+/// block that is shown as one line, the line.
+fn uncovered(table: &Table, kept: &[Vec<u32>], only_left_out: &[Vec<Option<bool>>]) -> Vec<String> {
     let mut bare = Vec::new();
-    for (block, kept) in table.blocks().iter().zip(kept) {
+    for ((block, kept), only_left_out) in table.blocks().iter().zip(kept).zip(only_left_out) {
         let columns = block.columns.len();
-        let is_bare = |&cell: &usize| kept[cell] == 0 && (block.required)(cell / columns, cell % columns);
+        let is_required = |cell| (block.required)(cell / columns, cell % columns) && only_left_out[cell] != Some(true);
+        let is_bare = |&cell: &usize| kept[cell] == 0 && is_required(cell);
         let cells: Vec<_> = (0..kept.len()).filter(is_bare).collect();
         if !block.condensed {
             bare.extend(cells.iter().map(|cell| format!("{}: {}", block.title, block.rows[cell / columns])));
@@ -99,24 +103,38 @@ fn changed(world: &World) -> Vec<u64> {
     world.differences.counts().iter().map(|row| row.changed).collect()
 }
 
-/// Writes each list to `data/answers` of its crate below a folder, and to the crate's file `stdout` what a replay of it
-/// writes. The cases are those of a short run, in its order, on one thread.
-pub fn write(groups: &[Group], world: &World, folder: &Path) -> Result<(), Difference> {
-    let mut table = Table::noting(blocks());
-    let mut kept: Vec<Vec<u32>> = table.blocks().iter().map(|b| vec![0; b.rows.len() * b.columns.len()]).collect();
-    // The answers of each row; the last row is for the cases of each group.
+/// Of how many cases a row held so far whose answers are modelled.
+fn modelled(world: &World) -> u64 {
+    world.differences.counts().iter().filter(|row| row.is_modelled).map(|row| row.reached).sum()
+}
+
+/// A value for each cell of the table.
+fn of_cells<T: Clone>(table: &Table, value: T) -> Vec<Vec<T>> {
+    table.blocks().iter().map(|b| vec![value.clone(); b.rows.len() * b.columns.len()]).collect()
+}
+
+/// The answers of each row, and last those of the cases of each group. The cases are those of a short run, in its order, on
+/// one thread.
+fn chosen(groups: &[Group], world: &World, table: &mut Table) -> Result<Vec<Vec<Vec<u8>>>, Difference> {
+    let (mut kept, mut only_left_out) = (of_cells(table, 0), of_cells(table, None));
     let mut rows: Vec<Vec<Vec<u8>>> = vec![Vec::new(); kept.len() + 1];
-    let mut shown = vec![false; world.differences.counts().len()];
+    let mut shown: Vec<_> = world.differences.counts().iter().map(|row| row.is_modelled).collect();
     for group in groups {
         let count = group.count(true);
         for i in 0..count {
-            let before = changed(world);
-            group.verdict(group.index(i, true), world, &mut table)?;
+            let (before, modelled_before) = (changed(world), modelled(world));
+            group.verdict(group.index(i, true), world, table)?;
             let note = table.take_note();
-            let wanted = note.cells.iter().copied().find(|&cell| is_wanted(&table, &kept, cell));
+            let is_modelled = modelled(world) > modelled_before;
+            for &(block, cell) in &note.cells {
+                let only: &mut Option<bool> = &mut only_left_out[block][cell];
+                *only = Some(is_modelled && only.unwrap_or(true));
+            }
+            let wanted = note.cells.iter().copied().find(|&cell| is_wanted(table, &kept, cell));
             let row = wanted.map(|cell| cell.0).or((i % count.div_ceil(OF_GROUP) == 0).then_some(kept.len()));
             if let Some(row) = row
                 && (16..=LONGEST).contains(&note.answer.len())
+                && !is_modelled
             {
                 rows[row].push(note.answer);
                 note.cells.iter().for_each(|&(block, cell)| kept[block][cell] += 1);
@@ -125,10 +143,18 @@ pub fn write(groups: &[Group], world: &World, folder: &Path) -> Result<(), Diffe
             }
         }
     }
-    let mut bare = uncovered(&table, &kept);
+    let mut bare = uncovered(table, &kept, &only_left_out);
     let counts = world.differences.counts();
     bare.extend(counts.iter().zip(shown).filter(|row| !row.1).map(|row| row.0.name.into()));
     assert!(bare.is_empty(), "rows that no answer covers: {bare:?}");
+    Ok(rows)
+}
+
+/// Writes each list to `data/answers` of its crate below a folder, and to the crate's file `stdout` what a replay of it
+/// writes.
+pub fn write(groups: &[Group], world: &World, folder: &Path) -> Result<(), Difference> {
+    let mut table = Table::noting(blocks());
+    let rows = chosen(groups, world, &mut table)?;
     for (name, calls) in FILES {
         let (mut written, mut total) = (String::new(), 0);
         let titles = table.blocks().iter().map(|b| b.title).chain(["Some of each group of cases"]);

@@ -12,6 +12,7 @@ use hauklivo::{MachRel, Record, Reloc, Resolved, Target, flag};
 
 use crate::fixup::{self, is_section, steps};
 use crate::reader_arm64::Arm64;
+use crate::run::Verdict;
 use crate::{Difference, World, class, hint_steps, hints, payload_reader, payload_writer, reader, reader_x86_64, stub};
 
 /// How a row changes what is expected of a case.
@@ -22,6 +23,9 @@ enum Change<C: Call> {
     Answered(fn(&C, &mut C::Answer)),
     /// The Rust is asked something else, and its answer to that is changed.
     Both(fn(&mut C), fn(&C, &mut C::Answer)),
+    /// The Rust must turn the case down for what it does not take. It is asked for all around that, and the driver's
+    /// own rule for it, of the case as it was, changes the answer.
+    Around(fn(&C, &C::Answer, &World) -> Verdict, fn(&mut C), fn(&C, &mut C::Answer)),
 }
 
 /// The cases of a call, with the names that the table has for it.
@@ -35,9 +39,14 @@ trait Call: Clone + 'static {
 
 impl Call for reader::Case<Arm64> {
     type Answer = reader::Answer;
-    const PREDICATES: &[(&str, fn(&Self) -> bool)] =
-        &[("tlvp_on_unallocated", |c| !c.tlvp_on_unallocated().is_empty())];
-    const CHANGES: &[(&str, Change<Self>)] = &[("as_got_page_offset", Change::Asked(as_got_page_offset))];
+    const PREDICATES: &[(&str, fn(&Self) -> bool)] = &[
+        ("tlvp_on_unallocated", |c| !c.tlvp_on_unallocated().is_empty()),
+        ("authenticated_record", |c| !c.authenticated().is_empty()),
+    ];
+    const CHANGES: &[(&str, Change<Self>)] = &[
+        ("as_got_page_offset", Change::Asked(as_got_page_offset)),
+        ("as_unsigned_record", Change::Around(Self::check_turned_down, Self::as_unsigned, Self::authenticate)),
+    ];
 
     fn rust(&self, world: &World) -> Result<Self::Answer, Difference> {
         reader::rust(self, world)
@@ -62,10 +71,12 @@ impl Call for fixup::Case {
     type Answer = fixup::Answer;
     const PREDICATES: &[(&str, fn(&Self) -> bool)] = &[
         ("section_without_address", |c| !without_address(c, true).is_empty()),
+        ("authenticated_entry", |c| !c.authenticated().is_empty()),
         ("symbol_without_address", |c| !without_address(c, false).is_empty()),
     ];
     const CHANGES: &[(&str, Change<Self>)] = &[
         ("as_symbol_without_address", Change::Asked(as_symbols)),
+        ("as_unsigned_entry", Change::Around(Self::check_turned_down, Self::as_unsigned, Self::refuse)),
         ("no_error_without_kind", Change::Answered(no_error)),
     ];
 
@@ -190,10 +201,12 @@ pub enum Of {
     Hints,
 }
 
-/// A row's name, what it holds of, of how many of these it held, and how many of them it changed.
+/// A row's name, what it holds of, whether its answers are modelled by the driver, of how many it held, and how many of
+/// them it changed.
 pub struct Count<'a> {
     pub name: &'a str,
     pub of: Of,
+    pub is_modelled: bool,
     pub reached: u64,
     pub changed: u64,
 }
@@ -209,6 +222,7 @@ impl Count<'_> {
 pub struct Met {
     name: String,
     of: Of,
+    is_modelled: bool,
     reached: AtomicU64,
     changed: AtomicU64,
 }
@@ -216,7 +230,7 @@ pub struct Met {
 impl Met {
     pub fn new(name: &str, of: Of) -> Self {
         let (reached, changed) = (AtomicU64::new(0), AtomicU64::new(0));
-        Self { name: name.into(), of, reached, changed }
+        Self { name: name.into(), of, is_modelled: false, reached, changed }
     }
 
     pub fn add(&self, is_changed: bool) {
@@ -226,7 +240,7 @@ impl Met {
 
     fn count(&self) -> Count<'_> {
         let (reached, changed) = (self.reached.load(Ordering::Relaxed), self.changed.load(Ordering::Relaxed));
-        Count { name: &self.name, of: self.of, reached, changed }
+        Count { name: &self.name, of: self.of, is_modelled: self.is_modelled, reached, changed }
     }
 }
 
@@ -241,7 +255,8 @@ impl<C: Call> Row<C> {
     fn named([name, predicate, change]: [&str; 3]) -> Option<Self> {
         let holds = C::PREDICATES.iter().find(|n| n.0 == predicate)?.1;
         let change = &C::CHANGES.iter().find(|n| n.0 == change)?.1;
-        Some(Self { met: Met::new(name, Of::Cases), holds, change })
+        let is_modelled = matches!(change, Change::Around(..));
+        Some(Self { met: Met { is_modelled, ..Met::new(name, Of::Cases) }, holds, change })
     }
 }
 
@@ -263,6 +278,13 @@ fn expected<C: Call>(rows: &[Row<C>], asked: &mut C, world: &World) -> Result<C:
                 change_asked(asked);
                 answer = asked.rust(world)?;
                 change_answer(asked, &mut answer);
+            }
+            Change::Around(check_turned_down, change_asked, change_answer) => {
+                let case = asked.clone();
+                check_turned_down(&case, &answer, world)?;
+                change_asked(asked);
+                answer = asked.rust(world)?;
+                change_answer(&case, &mut answer);
             }
         }
         row.met.add(answer != before);
@@ -382,7 +404,7 @@ impl Differences {
         let mut text = String::from("Expected differences\n");
         let mut idle = Vec::new();
         for row in self.counts() {
-            let Count { name, of, reached, changed } = row;
+            let Count { name, of, reached, changed, .. } = row;
             let of = if of == Of::Cases { "cases" } else { "hints" };
             text += &format!("  {name}: holds in {reached} {of}, changes {changed} of them\n");
             if !row.is_met() {

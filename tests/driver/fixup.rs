@@ -4,7 +4,8 @@ use hauklivo::{Record, Reloc, Report, Resolved, Target, flag, raw};
 
 use crate::answers::{FIX, record};
 use crate::lent::{Lent, filled, hex, pattern};
-use crate::rows::{FIXUP_NUMBERS, FIXUP_TYPE_NUMBERS, Rows, Way};
+use crate::rng::Rng;
+use crate::rows::{FIXUP_NUMBERS, FIXUP_TYPE_NUMBERS, Rows, Way, type_row};
 use crate::table::Table;
 use crate::{Difference, World};
 
@@ -13,6 +14,7 @@ pub struct Case {
     pub section: Vec<u8>,
     pub base: u64,
     pub tls_begin: u64,
+    pub image_base: u64,
     pub entries: Vec<u8>,
     pub targets: Vec<u8>,
     /// Bytes of slots.
@@ -30,17 +32,12 @@ pub struct Answer {
 }
 
 impl Case {
-    /// A case with thread-local storage from 0x1234_5678 and just the slots that its entries need.
+    /// A case with thread-local storage from 0x1234_5678, some image base, and just the slots that its entries need.
     pub fn new(section: Vec<u8>, base: u64, pairs: &[(Reloc, Resolved)]) -> Self {
         let (entries, targets): (Vec<_>, Vec<_>) = pairs.iter().copied().unzip();
-        Self {
-            section,
-            base,
-            tls_begin: 0x1234_5678,
-            entries: Reloc::bytes(&entries).to_vec(),
-            targets: Resolved::bytes(&targets).to_vec(),
-            slots: 24 * pairs.len(),
-        }
+        let (entries, targets) = (Reloc::bytes(&entries).to_vec(), Resolved::bytes(&targets).to_vec());
+        let image_base = some_image_base(&[&section, &entries, &targets]);
+        Self { section, base, tls_begin: 0x1234_5678, image_base, entries, targets, slots: 24 * pairs.len() }
     }
 
     /// The pairs of whole lists that agree.
@@ -50,21 +47,28 @@ impl Case {
         entries.into_iter().zip(targets).collect()
     }
 
-    fn refused(&self, number: u8) -> Answer {
+    pub fn refused(&self, number: u8) -> Answer {
         let section = self.section.clone();
         Answer { number, section, reports: Vec::new(), without_address: Vec::new() }
     }
 
-    fn show(&self) -> String {
-        let Self { base, tls_begin, slots, .. } = self;
+    pub fn show(&self) -> String {
+        let Self { base, tls_begin, image_base, slots, .. } = self;
         format!(
-            "apply_reloc_alloc: section {}\n    base {base:#x}, thread-local start {tls_begin:#x}\n    \
-             entries {}\n    targets {}\n    {slots} bytes of slots",
+            "apply_reloc_alloc: section {}\n    base {base:#x}, thread-local start {tls_begin:#x}, \
+             image base {image_base:#x}\n    entries {}\n    targets {}\n    {slots} bytes of slots",
             hex(&self.section),
             hex(&self.entries),
             hex(&self.targets)
         )
     }
+}
+
+/// An image base that is another for each case, and that nothing of the case has to do with.
+fn some_image_base(lists: &[&[u8]]) -> u64 {
+    let bytes = lists.iter().copied().flatten();
+    let number = bytes.fold(7, |n: u64, &byte| n.wrapping_mul(0x100_0000_01b3).wrapping_add(byte.into()));
+    Rng::new("image base", number).next()
 }
 
 impl Answer {
@@ -103,7 +107,7 @@ pub fn of_lengths(entries: usize, targets: usize, slots: usize) -> Option<u8> {
 }
 
 /// Number 11, of a target's flags and last bytes.
-fn is_flawed(t: &Resolved) -> bool {
+pub fn is_flawed(t: &Resolved) -> bool {
     let both = flag::PROBE | flag::IS_ENABLED;
     t.flags >> 9 != 0 || t.flags & both == both || t.zero != 0
 }
@@ -142,6 +146,27 @@ fn expected(case: &Case, world: &World) -> Result<Answer, Difference> {
 /// The count before a call.
 const COUNT: usize = 0x5eed;
 
+/// The port's number; `section` stands for the case's own.
+fn port(case: &Case, section: &mut [u8], slots: &mut [u8], count: &mut usize) -> u8 {
+    // SAFETY: slices, none of which is lent twice.
+    unsafe {
+        raw::hauklivo_apply_reloc_alloc(
+            section.as_mut_ptr(),
+            section.len(),
+            case.base,
+            case.tls_begin,
+            case.image_base,
+            case.entries.as_ptr(),
+            case.entries.len(),
+            case.targets.as_ptr(),
+            case.targets.len(),
+            slots.as_mut_ptr(),
+            slots.len(),
+            count,
+        )
+    }
+}
+
 /// Holds the port to the expected answer on a case.
 pub fn check(case: &Case, world: &World, table: &mut Table) -> Result<Answer, Difference> {
     let due = expected(case, world)?;
@@ -149,22 +174,7 @@ pub fn check(case: &Case, world: &World, table: &mut Table) -> Result<Answer, Di
     let mut section = Lent::new(&case.section);
     let mut slots = Lent::slots(case.slots);
     let mut count = COUNT;
-    // SAFETY: slices of this function, none lent twice.
-    let number = unsafe {
-        raw::hauklivo_apply_reloc_alloc(
-            section.bytes().as_mut_ptr(),
-            case.section.len(),
-            case.base,
-            case.tls_begin,
-            lent.entries.as_ptr(),
-            lent.entries.len(),
-            lent.targets.as_ptr(),
-            lent.targets.len(),
-            slots.bytes().as_mut_ptr(),
-            case.slots,
-            &mut count,
-        )
-    };
+    let number = port(&lent, section.bytes(), slots.bytes(), &mut count);
     let (count_due, slots_due) = match due.number {
         0 => (due.reports.len() / 24, filled(&due.reports, case.slots)),
         _ => (COUNT, pattern(case.slots)),
@@ -190,7 +200,7 @@ pub fn check(case: &Case, world: &World, table: &mut Table) -> Result<Answer, Di
 }
 
 fn noted(case: &Case, answer: &Answer) -> Vec<u8> {
-    let bases = [case.base, case.tls_begin].map(u64::to_le_bytes).concat();
+    let bases = [case.base, case.tls_begin, case.image_base].map(u64::to_le_bytes).concat();
     let lists = [&case.section, &case.entries, &case.targets].map(Vec::len);
     let values = [&lists[..], &[case.slots, answer.reports.len() / 24]].concat();
     let parts = [&bases[..], &case.section, &case.entries, &case.targets, &answer.section, &answer.reports];
@@ -212,13 +222,13 @@ fn record_answer(case: &Case, answer: &Answer, table: &mut Table) {
     let steps = steps(&pairs);
     if answer.number == 0 {
         for &i in steps.iter().filter(|&&i| pairs[i].0.ty == 1) {
-            table.hit(Rows::FixupConsumed as usize, pairs[i + 1].0.ty.min(10) as usize);
+            table.hit(Rows::FixupConsumed as usize, type_row(pairs[i + 1].0.ty));
         }
     }
     if let [0] = steps[..] {
         let (e, t) = &pairs[0];
         let column = number(&FIXUP_TYPE_NUMBERS).expect("a number of an entry");
-        table.hit_cell(Rows::FixupType as usize, e.ty.min(10) as usize, column);
+        table.hit_cell(Rows::FixupType as usize, type_row(e.ty), column);
         if answer.number == 0 {
             table.hit(Rows::FixupWay as usize, way(case, e, t, reports.first()) as usize);
         }
@@ -236,10 +246,6 @@ fn report_row(r: &Report) -> usize {
 /// How a single entry that was worked ends.
 fn way(case: &Case, e: &Reloc, t: &Resolved, report: Option<&Report>) -> Way {
     let has = |f| t.flags & f != 0;
-    let word = || {
-        let at = e.offset as usize;
-        u32::from_le_bytes(case.section[at..at + 4].try_into().expect("4 bytes"))
-    };
     let far = report.is_some();
     match e.ty {
         0 if !is_section(e) && has(flag::IMPORTED) => Way::UnsignedImported,
@@ -255,52 +261,51 @@ fn way(case: &Case, e: &Reloc, t: &Resolved, report: Option<&Report>) -> Way {
         3 => Way::PageSymbol,
         4 if !has(flag::HAS_ADDRESS) => Way::OffsetNoAddress,
         4 if far => Way::OffsetMisaligned,
-        4 => offset_way(word()),
+        4 => offset_way(word(case, e)),
         5 if has(flag::HAS_HELPER) && is_section(e) => Way::GotHelperSection,
         5 if has(flag::HAS_HELPER) && has(flag::HELPER_OWN) => Way::GotHelperOwn,
         5 if has(flag::HAS_HELPER) => Way::GotHelper,
-        5 => pick(
-            has(flag::RELAXES_GOT),
-            far,
-            [Way::GotPageRelaxed, Way::GotPageRelaxedFar, Way::GotPageSlot, Way::GotPageSlotFar],
-        ),
-        8 => pick(
-            has(flag::RELAXES_GOT),
-            far,
-            [Way::TlvpPageRelaxed, Way::TlvpPageRelaxedFar, Way::TlvpPageSlot, Way::TlvpPageSlotFar],
-        ),
-        6 if !has(flag::RELAXES_GOT) => {
-            if far {
-                Way::GotSlotMisaligned
-            } else {
-                Way::GotSlot
-            }
-        }
-        9 if !has(flag::RELAXES_GOT) => {
-            if far {
-                Way::TlvpSlotMisaligned
-            } else {
-                Way::TlvpSlot
-            }
-        }
-        6 => match word() >> 22 {
-            0x2e5 => Way::GotLdrW,
-            0x3e5 => Way::GotLdrX,
-            0x244 => Way::GotAdd,
-            _ => Way::GotNonLdr,
-        },
-        9 => match word() >> 22 {
-            0x2e5 => Way::TlvpLdrW,
-            0x3e5 => Way::TlvpLdrX,
-            0x244 => Way::TlvpAddNonLdr,
-            _ => Way::TlvpNonLdr,
-        },
+        5 | 8 => slot_page_way(e, has(flag::RELAXES_GOT), far),
+        6 | 9 if has(flag::RELAXES_GOT) => relaxed_way(e, word(case, e)),
+        6 if far => Way::GotSlotMisaligned,
+        6 => Way::GotSlot,
+        9 if far => Way::TlvpSlotMisaligned,
+        9 => Way::TlvpSlot,
+        11 if has(flag::IMPORTED) => Way::PointerImported,
+        11 if has(flag::THREAD_LOCAL) => Way::PointerTls,
+        11 if !has(flag::HAS_ADDRESS) => Way::PointerNoAddress,
+        11 => Way::PointerAddress,
         _ => Way::PointerToGot,
     }
 }
 
-fn pick(first: bool, far: bool, ways: [Way; 4]) -> Way {
-    ways[2 * usize::from(!first) + usize::from(far)]
+/// The word at an entry's place.
+fn word(case: &Case, e: &Reloc) -> u32 {
+    let at = e.offset as usize;
+    u32::from_le_bytes(case.section[at..at + 4].try_into().expect("4 bytes"))
+}
+
+/// Of GOT_LOAD_PAGE21 without a helper and of TLVP_LOAD_PAGE21.
+fn slot_page_way(e: &Reloc, is_relaxed: bool, far: bool) -> Way {
+    let ways = match e.ty {
+        5 => [Way::GotPageRelaxed, Way::GotPageRelaxedFar, Way::GotPageSlot, Way::GotPageSlotFar],
+        _ => [Way::TlvpPageRelaxed, Way::TlvpPageRelaxedFar, Way::TlvpPageSlot, Way::TlvpPageSlotFar],
+    };
+    ways[2 * usize::from(!is_relaxed) + usize::from(far)]
+}
+
+/// Of GOT_LOAD_PAGEOFF12 and TLVP_LOAD_PAGEOFF12, relaxed.
+fn relaxed_way(e: &Reloc, word: u32) -> Way {
+    match (e.ty, word >> 22) {
+        (6, 0x2e5) => Way::GotLdrW,
+        (6, 0x3e5) => Way::GotLdrX,
+        (6, 0x244) => Way::GotAdd,
+        (6, _) => Way::GotNonLdr,
+        (_, 0x2e5) => Way::TlvpLdrW,
+        (_, 0x3e5) => Way::TlvpLdrX,
+        (_, 0x244) => Way::TlvpAddNonLdr,
+        (_, _) => Way::TlvpNonLdr,
+    }
 }
 
 fn branch_way(case: &Case, e: &Reloc, t: &Resolved, far: bool) -> Way {

@@ -19,8 +19,8 @@ const ADRP: u32 = 0x9000_0000;
 const BL: u32 = 0x9400_0000;
 const B: u32 = 0x1400_0000;
 
-const BASE: u64 = 0x1_0000_4000;
-const SECTION: u32 = Target::SECTION;
+pub const BASE: u64 = 0x1_0000_4000;
+pub const SECTION: u32 = Target::SECTION;
 
 pub fn groups() -> Vec<Group> {
     vec![
@@ -29,23 +29,23 @@ pub fn groups() -> Vec<Group> {
         Group::new("fixup/alignment", 6 * 4096 * 2 * 2, 30_000, alignment),
         Group::new("fixup/branches", 65 * 8 * 5 * 4 * 4, 10_000, branches),
         Group::new("fixup/pages", 5 * 19 * 4 * 2 * 4 * 4 * 3, 10_000, pages),
-        Group::new("fixup/flags", 512 * 10 * 2 * 3, 30_720, flags),
-        Group::new("fixup/flawed", 64 * 12 * 2, 1_536, flawed),
-        Group::new("fixup/bounds", 12 * 20 * 18 * 4 * 2 * 4, 20_000, bounds),
+        Group::new("fixup/flags", 512 * 11 * 2 * 3, 33_792, flags),
+        Group::new("fixup/flawed", 64 * 13 * 2, 1_664, flawed),
+        Group::new("fixup/bounds", 14 * 20 * 18 * 4 * 2 * 4, 24_000, bounds),
         Group::new("fixup/differences", 256 * 14 * 5 * 3, 10_000, differences),
-        Group::new("fixup/runs", 5 * 6u64.pow(5), 4_000, runs),
-        Group::new("fixup/overflow", 20 * 21 * 12 * 2, 4_000, overflow),
+        Group::new("fixup/runs", 5 * 7u64.pow(5), 8_000, runs),
+        Group::new("fixup/overflow", 20 * 21 * 13 * 2, 4_000, overflow),
         Group::new("fixup/lengths", 76 * 151 * 6, 6_000, lengths),
         Group::new("fixup/lists", 900_000, 30_000, lists),
         Group::new("fixup/damaged", 900_000, 30_000, damaged),
     ]
 }
 
-fn entry(offset: u32, ty: u8, size: u8) -> Reloc {
+pub fn entry(offset: u32, ty: u8, size: u8) -> Reloc {
     Reloc { offset, ty, size, target: 5, ..Reloc::default() }
 }
 
-fn at(address: u64) -> Resolved {
+pub fn at(address: u64) -> Resolved {
     Resolved { address, flags: flag::HAS_ADDRESS, ..Resolved::default() }
 }
 
@@ -179,23 +179,30 @@ fn five(place: usize, flags: u32) -> Resolved {
     }
 }
 
+/// The case with an image base from which an authenticated pointer reaches what is near the section.
+fn near(case: Case) -> Case {
+    let image_base = BASE.wrapping_sub(case.image_base >> 33);
+    Case { image_base, ..case }
+}
+
 /// Every combination of the nine flags, for each type, of a symbol and of a section.
 fn flags(index: u64, world: &World, table: &mut Table) -> Verdict {
     let mut d = Digits(index);
-    let (flags, ty, kind, place) = (d.next(512), d.next(10), d.next(2), d.next(3));
-    let e = Reloc { target: [5, SECTION + 5][kind], ..entry(0, ty as u8, 8) };
+    let (flags, row, kind, place) = (d.next(512), d.next(11), d.next(2), d.next(3));
+    let ty = [0, 1, 2, 3, 4, 5, 6, 7, 8, 9, 11][row];
+    let e = Reloc { target: [5, SECTION + 5][kind], ..entry(0, ty, 8) };
     let next = (entry(0, 0, 8), at(0x1357_9bdf));
     let pairs = [(e, five(place, flags as u32)), next];
     let pairs = &pairs[..if ty == 1 { 2 } else { 1 }];
-    check(&Case::new(bytes(&[LDR_X | 0x21, NOP]), BASE, pairs), world, table)?;
-    table.hit(Rows::FixupFlags as usize, (kind * 10 + ty) * 512 + flags);
+    check(&near(Case::new(bytes(&[LDR_X | 0x21, NOP]), BASE, pairs)), world, table)?;
+    table.hit(Rows::FixupFlags as usize, (kind * 11 + row) * 512 + flags);
     Ok(())
 }
 
 /// Flags that no target has, and last bytes that are not zero, for each type.
 fn flawed(index: u64, world: &World, table: &mut Table) -> Verdict {
     let mut d = Digits(index);
-    let (flaw, ty, kind) = (d.next(64), d.next(12), d.next(2));
+    let (flaw, ty, kind) = (d.next(64), d.next(13), d.next(2));
     let mut t = five(0, flag::HAS_ADDRESS);
     match flaw {
         0..32 => t.flags |= 1 << flaw,
@@ -212,14 +219,14 @@ fn flawed(index: u64, world: &World, table: &mut Table) -> Verdict {
 /// Every type at each offset of sections of each small length.
 fn bounds(index: u64, world: &World, table: &mut Table) -> Verdict {
     let mut d = Digits(index);
-    let (ty, offset, len) = (d.pick(&[0, 1, 2, 3, 4, 5, 6, 7, 8, 9, 10, 255]), d.next(20), d.next(18));
+    let (ty, offset, len) = (d.pick(&[0, 1, 2, 3, 4, 5, 6, 7, 8, 9, 10, 11, 12, 255]), d.next(20), d.next(18));
     let size = d.pick(&[4, 8, 0, 255]);
     let target = d.pick(&[5, SECTION]);
     let flags = d.pick(&[flag::HAS_ADDRESS, 0, flag::IMPORTED | flag::HAS_ADDRESS, flag::HAS_HELPER]);
     let e = Reloc { target, ..entry(offset as u32, ty, size) };
     let pairs = [(e, five(0, flags)), (entry(0, 0, 8), at(0x1357_9bdf))];
     let pairs = &pairs[..if ty == 1 { 2 } else { 1 }];
-    check(&Case::new(vec![0xee; len], BASE, pairs), world, table).map(|_| ())
+    check(&near(Case::new(vec![0xee; len], BASE, pairs)), world, table).map(|_| ())
 }
 
 /// SUBTRACTOR with each size field, before each type, good or bad in what is not looked at.
@@ -244,25 +251,25 @@ fn differences(index: u64, world: &World, table: &mut Table) -> Verdict {
     check(&Case::new(vec![0xee; len], BASE, &[own, taken]), world, table).map(|_| ())
 }
 
-/// Every run of one to five entries of six kinds, SUBTRACTOR among them, on the same bytes.
+/// Every run of one to five entries of seven kinds, SUBTRACTOR among them, on the same bytes.
 fn runs(index: u64, world: &World, table: &mut Table) -> Verdict {
     let mut d = Digits(index);
     let n = 1 + d.next(5);
     let pairs: Vec<_> = (0..n)
         .map(|i| {
-            let kind = d.next(6);
-            let ty = [0, 1, 2, 4, 1, 10][kind];
+            let kind = d.next(7);
+            let ty = [0, 1, 2, 4, 1, 10, 11][kind];
             let size = if kind == 4 { 4 } else { 8 };
             (entry(4 * (i as u32 % 2), ty, size), five(i % 3, flag::HAS_ADDRESS))
         })
         .collect();
-    check(&Case::new(bytes(&[LDR_X, BL, NOP]), BASE, &pairs), world, table).map(|_| ())
+    check(&near(Case::new(bytes(&[LDR_X, BL, NOP]), BASE, &pairs)), world, table).map(|_| ())
 }
 
 /// Places around the end of the address space.
 fn overflow(index: u64, world: &World, table: &mut Table) -> Verdict {
     let mut d = Digits(index);
-    let (under, offset, ty, target) = (d.next(20), d.next(21), d.next(12), d.pick(&[5, SECTION]));
+    let (under, offset, ty, target) = (d.next(20), d.next(21), d.next(13), d.pick(&[5, SECTION]));
     let base = u64::MAX - under as u64;
     let e = Reloc { target, ..entry(offset as u32, ty as u8, 8) };
     let pairs = [(e, five(0, flag::HAS_ADDRESS)), (entry(0, 0, 8), at(0x1357_9bdf))];
@@ -326,6 +333,35 @@ fn some_flags(rng: &mut Rng) -> u32 {
     flags
 }
 
+/// An entry in a section of `len` bytes at `base`, with its target, that is mostly fixed up.
+fn good_pair(rng: &mut Rng, base: u64, len: u64) -> (Reloc, Resolved) {
+    let offset = rng.below(len - 7) & !rng.pick(&[3, 3, 3, 0]);
+    let ty = rng.pick(&[0, 1, 2, 3, 4, 5, 6, 7, 8, 9, 11, 11]);
+    let place = base.wrapping_add(offset);
+    let flags = some_flags(rng);
+    let needs_symbol = ty >= 5 && !(ty == 5 && flags & flag::HAS_HELPER != 0);
+    let is_section = !needs_symbol && rng.one_in(3);
+    let addend = match rng.below(4) {
+        0 | 1 => 0,
+        2 => rng.below(1 << 13) as i64 - (1 << 12),
+        _ => rng.next() as i64,
+    };
+    let size = rng.pick(&[4, 4, 8, 8, 1, 2, 16, 0]);
+    let target = rng.word() & !SECTION | if is_section { SECTION } else { 0 };
+    let e = Reloc { offset: offset as u32, ty, size, target, addend, ..some_rest(rng) };
+    let near = |rng: &mut Rng| some_address(rng, place).wrapping_add_signed(i64::wrapping_neg(addend));
+    let t = Resolved {
+        address: near(rng),
+        got: near(rng),
+        branch: near(rng),
+        thunk: some_address(rng, place),
+        helper: some_address(rng, place),
+        flags,
+        zero: 0,
+    };
+    (e, t)
+}
+
 /// A list of entries that is mostly fixed up.
 fn good_list(rng: &mut Rng) -> Case {
     let n = rng.pick(&[0, 1, 1, 1, 2, 3, 4, 6]);
@@ -336,45 +372,22 @@ fn good_list(rng: &mut Rng) -> Case {
         2 => 0,
         _ => BASE + 4 * rng.below(1 << 12),
     };
-    let len = 4 * words.len() as u64;
-    let pairs: Vec<_> = (0..n)
-        .map(|_| {
-            let offset = rng.below(len - 7) & !rng.pick(&[3, 3, 3, 0]);
-            let ty = rng.below(10) as u8;
-            let place = base.wrapping_add(offset);
-            let flags = some_flags(rng);
-            let needs_symbol = (5..10).contains(&ty) && !(ty == 5 && flags & flag::HAS_HELPER != 0);
-            let is_section = !needs_symbol && rng.one_in(3);
-            let addend = match rng.below(4) {
-                0 | 1 => 0,
-                2 => rng.below(1 << 13) as i64 - (1 << 12),
-                _ => rng.next() as i64,
-            };
-            let size = rng.pick(&[4, 4, 8, 8, 1, 2, 16, 0]);
-            let target = rng.word() & !SECTION | if is_section { SECTION } else { 0 };
-            let e = Reloc { offset: offset as u32, ty, size, target, addend, ..some_rest(rng) };
-            let near = |rng: &mut Rng| some_address(rng, place).wrapping_add_signed(i64::wrapping_neg(addend));
-            let t = Resolved {
-                address: near(rng),
-                got: near(rng),
-                branch: near(rng),
-                thunk: some_address(rng, place),
-                helper: some_address(rng, place),
-                flags,
-                zero: 0,
-            };
-            (e, t)
-        })
-        .collect();
+    let pairs: Vec<_> = (0..n).map(|_| good_pair(rng, base, 4 * words.len() as u64)).collect();
     let mut case = Case::new(bytes(&words), base, &pairs);
     case.tls_begin = rng.next();
+    case.image_base = match rng.below(8) {
+        0 => rng.next(),
+        1 => base.wrapping_add(rng.below(1 << 33)),
+        _ => base.wrapping_sub(rng.below(1 << 32)),
+    };
     case
 }
 
-/// The fields of an entry that a fix-up does not look at.
-fn some_rest(rng: &mut Rng) -> Reloc {
-    let (is_pcrel, is_subtracted) = (rng.next() as u8, rng.next() as u8);
-    Reloc { is_pcrel, is_subtracted, spare: rng.word(), ..Reloc::default() }
+/// The fields of an entry that a fix-up does not look at, unless it is an authenticated pointer's.
+pub fn some_rest(rng: &mut Rng) -> Reloc {
+    let [is_pcrel, is_subtracted, address_diversity, key] = rng.word().to_le_bytes();
+    let diversity = rng.next() as u16;
+    Reloc { is_pcrel, is_subtracted, diversity, address_diversity, key, ..Reloc::default() }
 }
 
 fn lists(index: u64, world: &World, table: &mut Table) -> Verdict {
@@ -427,6 +440,7 @@ pub fn long_lists(reserved: &[u8]) -> Result<u64, Difference> {
         let number = unsafe {
             hauklivo::raw::hauklivo_apply_reloc_alloc(
                 section.as_mut_ptr(),
+                0,
                 0,
                 0,
                 0,

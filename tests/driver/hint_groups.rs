@@ -17,7 +17,7 @@ pub fn groups() -> Vec<Group> {
     vec![
         Group::new("hints/classes", classed * 1024 * 4 * 3, 40_000, classes),
         Group::new("hints/limits", measured().len() as u64 * 47 * 6 * 4 * 2, 26_000, limits),
-        Group::new("hints/entries", 8 * 12 * 12 * 3 * 4, 13_824, entries),
+        Group::new("hints/entries", 8 * 13 * 13 * 3 * 4, 16_224, entries),
         Group::new("hints/registers", 256 * 8 * 2 * 2 * 2, 8_000, registers),
         Group::new("hints/counts", 256 * 256, 8_000, counts),
         Group::new("hints/folds", 4096 * 5 * 4 * 6 * 2, 30_000, folds),
@@ -184,23 +184,23 @@ fn measure(shape: &mut Shape, reach: Reach, distance: i64, other: u64) {
     }
 }
 
-/// Every pair of types of entries, with targets, addends and spare bytes that differ, and a third entry.
+/// Every pair of types of entries, with targets, addends and other fields that differ, and a third entry.
 fn entries(index: u64, world: &World, table: &mut Table) -> Verdict {
     let mut d = Digits(index);
-    let (kind, a, b, third, pair) = (d.next(8), d.next(12), d.next(12), d.next(3), d.next(4));
+    let (kind, a, b, third, pair) = (d.next(8), d.next(13), d.next(13), d.next(3), d.next(4));
     let mut shape = Shape::new(kind as u8 + 1);
-    let of = |ty: usize| if ty == 11 { None } else { entry(ty as u8) };
+    let of = |ty: usize| if ty == 12 { None } else { entry(ty as u8) };
     shape.entries = [of(a), of(b), [None, entry(0), entry(4)][third]];
     if let Some(e) = &mut shape.entries[1] {
         match pair {
             0 => {}
             1 => e.target ^= 1 << 31,
             2 => e.addend = 1 << 32,
-            _ => (e.spare, e.size, e.offset, e.is_pcrel) = (7, 8, 9, 1),
+            _ => (e.diversity, e.size, e.offset, e.is_pcrel) = (7, 8, 9, 1),
         }
     }
     check(&shape.case(), world, table)?;
-    table.hit(Rows::HintEntry as usize, (kind * 12 + a) * 12 + b);
+    table.hit(Rows::HintEntry as usize, (kind * 13 + a) * 13 + b);
     Ok(())
 }
 

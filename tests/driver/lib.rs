@@ -2,12 +2,14 @@
 //!
 //! A group is a numbered family of cases; a case is one call of the port, held against the answer
 //! of the Rust on the same input. Numbers 1, 2 and 11 are about lent lists, which the Rust does not
-//! have: there each module's own model says what is expected. `main.rs` binds the Rust.
+//! have, and it turns authenticated pointers down: there each module's own model says what is expected.
+//! `main.rs` binds the Rust.
 
 mod answers;
 mod class;
 mod differences;
 mod fixup;
+mod fixup_authenticated;
 mod fixup_groups;
 mod hint_groups;
 mod hint_register31;
@@ -22,6 +24,7 @@ mod payload_reader;
 mod payload_writer;
 mod reader;
 mod reader_arm64;
+mod reader_authenticated;
 mod reader_groups;
 mod reader_lists;
 mod reader_x86_64;

@@ -5,7 +5,7 @@ use hauklivo::{MachRel, raw};
 use crate::answers::READ;
 use crate::class::is_unallocated;
 use crate::reader::{Answer, Case, Lists, Machine};
-use crate::rows::Rows;
+use crate::rows::{READER_NUMBERS, Rows};
 use crate::table::Table;
 use crate::{Difference, Oracle, Stop, World};
 
@@ -23,6 +23,7 @@ impl Machine for Arm64 {
             2 | 3 | 5 | 7 | 8 => form == 13,
             4 | 6 | 9 => form == 12,
             10 => form == 4,
+            11 => form == 14,
             _ => false,
         }
     }
@@ -57,7 +58,9 @@ impl Machine for Arm64 {
     }
 
     fn record_answer(case: &Case<Self>, answer: &Answer, table: &mut Table) {
-        table.hit(Rows::ReaderNumber as usize, answer.as_ref().map_or_else(|&n| n as usize, |_| 0));
+        let number = answer.as_ref().err().copied().unwrap_or(0);
+        let row = READER_NUMBERS.iter().position(|&n| n == number).expect("a number of the reader");
+        table.hit(Rows::ReaderNumber as usize, row);
         if answer.is_err() {
             return;
         }
@@ -101,14 +104,21 @@ impl Case<Arm64> {
 }
 
 /// A turn of the reader: the place, and the number of the record that says the rest, which may stand after an ADDEND.
-struct Turn {
-    offset: usize,
-    own: usize,
-    is_after_addend: bool,
+pub struct Turn {
+    pub offset: usize,
+    pub own: usize,
+    pub is_after_addend: bool,
+}
+
+impl Turn {
+    /// The number of its first record.
+    pub fn first(&self) -> usize {
+        self.own - usize::from(self.is_after_addend)
+    }
 }
 
 /// The turns over a list; an ADDEND that is the last record has none.
-fn turns(list: &[MachRel]) -> Vec<Turn> {
+pub fn turns(list: &[MachRel]) -> Vec<Turn> {
     let mut turns = Vec::new();
     let mut i = 0;
     while i < list.len() {

@@ -5,6 +5,7 @@ use hauklivo::MachRel;
 use crate::class::{UNALLOCATED, with_neighbours};
 use crate::reader::{self, check, supported};
 use crate::reader_arm64::Arm64;
+use crate::reader_authenticated::{put64, some_pointer};
 use crate::reader_lists::{SECTIONS, check_damaged, check_good, record, short_lists, some_address, some_index};
 use crate::rng::{Digits, Rng};
 use crate::rows::{OnUnallocated, Rows};
@@ -28,9 +29,9 @@ pub fn groups() -> Vec<Group> {
         Group::new("reader/forms", 256 * 5 * 6 * 4 * 2, 16_000, forms),
         Group::new("reader/words", 1024 * 2 * 5 * 4, 10_000, words),
         Group::new("reader/unallocated", 14 * 4 * 6 * 5 * 2 * 3 * 2, 20_160, unallocated),
-        Group::new("reader/bounds", 15 * 13 * 15 * 3, 8_775, bounds),
+        Group::new("reader/bounds", 16 * 13 * 15 * 3, 9_360, bounds),
         Group::new("reader/lengths", 41 * 131 * 2, 2_000, lengths),
-        Group::new("reader/addends", 11 * 8192, 4_000, addends),
+        Group::new("reader/addends", 12 * 8192, 4_000, addends),
         Group::new("reader/lists", 900_000, 30_000, lists),
         Group::new("reader/damaged", 900_000, 30_000, damaged),
     ]
@@ -131,6 +132,9 @@ fn bounds(index: u64, world: &World, table: &mut Table) -> Verdict {
     let (len, offset) = (d.next(13), d.next(15));
     let mut contents = vec![0; len];
     put(&mut contents, offset, LDR_X);
+    if ty == 11 {
+        put64(&mut contents, offset, 1 << 63);
+    }
     let own = record(offset as u32, ty, form, 1);
     let records = match d.next(3) {
         0 => vec![own],
@@ -139,7 +143,11 @@ fn bounds(index: u64, world: &World, table: &mut Table) -> Verdict {
     };
     let alone = records.len() == 1;
     let answer = check(&Case::new(Arm64, contents, &records, &SECTIONS), world, table)?;
-    let width = [0, 4, 8][usize::from([6, 9].contains(&ty)) + 2 * usize::from(ty == 0 && form & 2 == 2)];
+    let width = match ty {
+        6 | 9 => 4,
+        0 | 11 => 4 * (form & 2),
+        _ => 0,
+    };
     let row = match (offset as i64 - len as i64, offset + width) {
         (1, _) if alone && ty != 10 && answer == Err(3) => Some(0),
         (0, _) if alone && width == 0 && answer.is_ok() => Some(1),
@@ -164,12 +172,15 @@ fn lengths(index: u64, world: &World, table: &mut Table) -> Verdict {
 /// Addends over the whole 24 bits, in front of each type.
 fn addends(index: u64, world: &World, table: &mut Table) -> Verdict {
     let mut d = Digits(index);
-    let (ty, i) = (d.next(11), d.next(8192));
+    let (ty, i) = (d.next(12), d.next(8192));
     let form = supported::<Arm64>().filter(|p| p.0 == ty).last().expect("a form").1;
     let near = [0, 1, 0x7f_ffff, 0x80_0000, 0x80_0001, 0xff_ffff];
     let idx = near.get(i).copied().unwrap_or((i as u32).wrapping_mul(2047) & 0xff_ffff);
     let mut contents = vec![0; 16];
     put(&mut contents, 4, LDR_X);
+    if ty == 11 {
+        put64(&mut contents, 4, 1 << 63 | u64::from(idx) << 8);
+    }
     let records = [record(4, 10, i % 16, idx), record(i as u32, ty, form, 1)];
     check(&Case::new(Arm64, contents, &records, &SECTIONS), world, table).map(|_| ())
 }
@@ -200,11 +211,15 @@ fn good_list(rng: &mut Rng) -> Case {
 /// record whose own offset does not count.
 fn some_place(rng: &mut Rng, contents: &mut [u8], ty: usize, form: usize) -> (u32, u32) {
     let width = match ty {
-        0 => 4 + 4 * (form / 2 % 2),
+        0 | 11 => 4 + 4 * (form / 2 % 2),
         6 | 9 => 4,
         _ => 0,
     };
     let at = rng.len(contents.len() - width + 1);
+    if ty == 11 {
+        let wrong = if rng.one_in(16) { 1 << (51 + rng.below(13)) } else { 0 };
+        put64(contents, at, some_pointer(rng) ^ wrong);
+    }
     let fit: &[u32] = match ty {
         6 => &[LDR_X, LDR_D, ADD_X, ADD_W],
         9 => &[LDR_X, LDR_W, LDR_B, LDR_Q, LDR_D],

@@ -22,6 +22,10 @@ pub enum Rows {
     ReaderClass,
     ReaderUnallocated,
     ReaderBounds,
+    ReaderPointer,
+    ReaderSigning,
+    ReaderNotAuthenticated,
+    ReaderPointerOrder,
     X86Number,
     X86Read,
     X86Unsupported,
@@ -42,6 +46,10 @@ pub enum Rows {
     FixupBranchLimit,
     FixupAdrpLimit,
     FixupFlags,
+    FixupPointerOrder,
+    FixupDistance,
+    FixupConsumedDistance,
+    FixupSigning,
     StubAndThunk,
     HintNumber,
     HintKind,
@@ -83,12 +91,14 @@ pub const TYPES: [&str; 16] = [
     "TLVP_LOAD_PAGE21",
     "TLVP_LOAD_PAGEOFF12",
     "ADDEND",
-    "type 11",
+    "AUTHENTICATED_POINTER",
     "type 12",
     "type 13",
     "type 14",
     "type 15",
 ];
+
+pub const READER_NUMBERS: [u8; 9] = [0, 1, 2, 3, 4, 5, 6, 7, 15];
 
 /// An entry of 4 bytes that is no term of a difference is unsupported, too.
 fn can_be_unsupported(ty: usize, form: usize) -> bool {
@@ -140,6 +150,38 @@ pub const READER_BOUNDS: [&str; 7] = [
     "pointer that just fits: fine",
     "4 bytes of a difference 1 byte short: 3",
 ];
+
+/// An authenticated pointer that is read.
+#[derive(Clone, Copy)]
+#[rustfmt::skip]
+pub enum Pointer {
+    Zero, Positive, Negative, Largest, Least, NoDiversity, LargestDiversity, AfterAddend, AfterSubtractor, JustFits,
+}
+
+const POINTERS: [&str; 10] = [
+    "addend of 0",
+    "positive addend",
+    "negative addend",
+    "addend of 2^31 - 1",
+    "addend of -2^31",
+    "diversity 0",
+    "diversity ffff",
+    "after ADDEND: its own addend, the ADDEND's offset",
+    "after SUBTRACTOR",
+    "at the end of the contents",
+];
+
+/// The record before an authenticated pointer.
+const BEFORE_POINTER: [&str; 3] = ["none", "ADDEND", "SUBTRACTOR"];
+
+/// Where an authenticated pointer stands beside a record that is refused, and that record's number.
+pub const POINTER_BESIDE: [(&str, u8); 9] =
+    [(AFTER, 3), (AFTER, 5), (AFTER, 6), (AFTER, 7), (BEFORE, 3), (BEFORE, 4), (BEFORE, 5), (BEFORE, 6), (BEFORE, 7)];
+pub const AFTER: &str = "after";
+pub const BEFORE: &str = "before";
+
+/// How an authenticated pointer by itself ends.
+const POINTER_ENDS: [&str; 4] = ["read", "15", "short: 3", "past: 3"];
 
 const X86_TYPES: [&str; 16] = [
     "UNSIGNED",
@@ -226,16 +268,23 @@ pub const X86_ORDER: [&str; 11] = [
     "too few slots, a record refused: 2",
 ];
 
-pub const FIXUP_NUMBERS: [u8; 9] = [0, 1, 2, 3, 5, 8, 9, 10, 11];
-pub const FIXUP_TYPE_NUMBERS: [u8; 7] = [0, 3, 5, 8, 9, 10, 11];
+pub const FIXUP_NUMBERS: [u8; 10] = [0, 1, 2, 3, 5, 8, 9, 10, 11, 16];
+pub const FIXUP_TYPE_NUMBERS: [u8; 8] = [0, 3, 5, 8, 9, 10, 11, 16];
 
-/// Which numbers an entry of a type can get; row 10 stands for all types from 10 on.
+/// The row of an entry's type; the last stands for all types from 12 on.
+pub fn type_row(ty: u8) -> usize {
+    ty.min(12) as usize
+}
+
+/// Which numbers an entry of a type can get.
 fn fixup_type_number(ty: usize, column: usize) -> bool {
+    let is_worked = ty < 10 || ty == 11;
     match FIXUP_TYPE_NUMBERS[column] {
-        0 => ty < 10,
-        5 => ty == 10,
+        0 => is_worked,
+        5 => !is_worked,
         8 => ty == 1,
-        10 => (5..10).contains(&ty),
+        10 => (5..10).contains(&ty) || ty == 11,
+        16 => ty == 11,
         _ => true,
     }
 }
@@ -255,9 +304,10 @@ pub enum Way {
     PointerToGot,
     TlvpPageRelaxed, TlvpPageSlot, TlvpPageRelaxedFar, TlvpPageSlotFar,
     TlvpLdrW, TlvpLdrX, TlvpAddNonLdr, TlvpNonLdr, TlvpSlot, TlvpSlotMisaligned,
+    PointerImported, PointerTls, PointerNoAddress, PointerAddress,
 }
 
-pub const WAYS: [&str; 52] = [
+pub const WAYS: [&str; 56] = [
     "UNSIGNED of an imported symbol: left",
     "UNSIGNED of a thread-local: less the start",
     "UNSIGNED of an address",
@@ -310,7 +360,31 @@ pub const WAYS: [&str; 52] = [
     "TLVP_LOAD_PAGEOFF12 relaxed, other word: report 4",
     "TLVP_LOAD_PAGEOFF12 of the slot",
     "TLVP_LOAD_PAGEOFF12 of the slot, misaligned: report 3",
+    "AUTHENTICATED_POINTER of an imported symbol: left",
+    "AUTHENTICATED_POINTER of a thread-local: less the image base",
+    "AUTHENTICATED_POINTER, has-address flag clear: written",
+    "AUTHENTICATED_POINTER of an address",
 ];
+
+/// What is wrong with an entry that is an authenticated pointer, in the order of their numbers.
+const POINTER_FAULTS: [&str; 6] = ["offset past: 3", "flawed: 11", "P: 9", "section: 10", "far: 16", "short: 3"];
+
+/// S + A less the image base.
+pub const DISTANCES: [(u64, &str); 10] = [
+    (0, "0"),
+    (1, "1"),
+    (0x8000_0000, "2^31"),
+    (0xffff_ffff, "2^32 - 1"),
+    (0x1_0000_0000, "2^32: far"),
+    (0x1_0000_0001, "2^32 + 1: far"),
+    (1 << 63, "2^63: far"),
+    (0xffff_ffff_0000_0000, "-2^32: far"),
+    (0xffff_ffff_8000_0000, "-2^31: far"),
+    (u64::MAX, "-1, the base one above: far"),
+];
+
+/// How the sums of such an entry come about, and what it is.
+pub const SUMMED: [&str; 6] = ["plain", "S + A wraps", "high base", "imported", "at end", "imp. at end"];
 
 /// Kinds of report: 1, 2, 3 by size, 4.
 pub const REPORTS: [&str; 7] =
@@ -515,15 +589,29 @@ fn all(_: usize, _: usize) -> bool {
 
 fn reader_blocks() -> Vec<Block> {
     vec![
-        Block::list("Reader, calls by number", 0..8),
+        Block::list("Reader, calls by number", READER_NUMBERS),
         Block::grid("Reader, entries read by type and form", TYPES, 0..16, Arm64::takes),
         Block::grid("Reader, refused by 5, by type and form", TYPES, 0..16, can_be_unsupported),
-        Block::list("Reader, entries after an ADDEND record", &TYPES[..11]),
+        Block::list("Reader, entries after an ADDEND record", &TYPES[..12]),
         Block::list("Reader, entries", READER_KINDS),
         Block::list("Reader, words", READER_WORDS),
         Block::condensed("Reader, classes of bits 31..22 under GOT and TLVP page offsets", 2 * 1024),
         Block::grid("Reader, TLVP page offsets on unallocated words", ON_UNALLOCATED, named(UNALLOCATED), all),
         Block::list("Reader, bounds", READER_BOUNDS),
+        Block::list("Reader, authenticated pointers", POINTERS),
+        Block::grid("Reader, authenticated pointers by address diversity and key", 0..2, 0..4, all),
+        Block::grid(
+            "Reader, refused by 15, by the one bit that is wrong and the record before",
+            51..64,
+            BEFORE_POINTER,
+            all,
+        ),
+        Block::grid(
+            "Reader, authenticated pointers beside a record that is refused",
+            POINTER_BESIDE.map(|(place, number)| format!("{place} one refused by {number}")),
+            POINTER_ENDS,
+            all,
+        ),
     ]
 }
 
@@ -544,8 +632,9 @@ fn x86_blocks() -> Vec<Block> {
 }
 
 fn fixup_blocks() -> Vec<Block> {
-    let with_rest = || TYPES[..10].iter().copied().chain(["types from 10 on"]);
+    let with_rest = || TYPES[..12].iter().copied().chain(["types from 12 on"]);
     let on_unallocated = ON_UNALLOCATED_FIXED.map(|row| row.2);
+    let distances = DISTANCES.map(|row| row.1);
     vec![
         Block::list("Fix-up, calls by number", FIXUP_NUMBERS),
         Block::grid("Fix-up, single entries by type and number", with_rest(), FIXUP_TYPE_NUMBERS, fixup_type_number),
@@ -557,7 +646,16 @@ fn fixup_blocks() -> Vec<Block> {
         Block::condensed("Fix-up, page offsets under an access of 1, 2, 4, 8, 16 bytes and ADD", 6 * 4096),
         Block::condensed("Fix-up, branch displacements around -2^27, 0 and 2^27", 57),
         Block::condensed("Fix-up, page differences around -2^32, 0 and 2^32, five kinds of page", 5 * 15),
-        Block::condensed("Fix-up, flags by type, of symbols and sections", 2 * 10 * 512),
+        Block::condensed("Fix-up, flags by type, of symbols and sections", 2 * 11 * 512),
+        Block::grid(
+            "Fix-up, authenticated pointers: which of two numbers comes",
+            &POINTER_FAULTS[..5],
+            POINTER_FAULTS,
+            |first, second| first < second,
+        ),
+        Block::grid("Fix-up, authenticated pointers: S + A less the image base", distances, SUMMED, all),
+        Block::list("Fix-up, authenticated pointers that SUBTRACTOR takes, by S + A less the image base", distances),
+        Block::condensed("Fix-up, authenticated pointers: bytes of the address diversity and of the key", 2 * 256),
         Block::list("Stub and thunk entries", STUB_AND_THUNK),
     ]
 }
@@ -607,7 +705,7 @@ fn hint_blocks() -> Vec<Block> {
             LIMITED.len() * 39,
         ),
         Block::condensed("Hints, ADD immediates under folds into 1, 2, 4, 8 and 16 bytes", 5 * 4096),
-        Block::condensed("Hints, types of the entries of each kind", 8 * 12 * 12),
+        Block::condensed("Hints, types of the entries of each kind", 8 * 13 * 13),
     ]
 }
 

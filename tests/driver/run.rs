@@ -16,8 +16,8 @@ use crate::reader_arm64::Arm64;
 use crate::rows::blocks;
 use crate::table::Table;
 use crate::{
-    Difference, Oracle, World, answers, class, fixup_groups, hint_groups, hint_register31, hint_unallocated,
-    payload_groups, reader_groups, reader_lists, reader_x86_64_groups, stub,
+    Difference, Oracle, World, answers, class, fixup_authenticated, fixup_groups, hint_groups, hint_register31,
+    hint_unallocated, payload_groups, reader_authenticated, reader_groups, reader_lists, reader_x86_64_groups, stub,
 };
 
 pub type Verdict = Result<(), Difference>;
@@ -245,8 +245,10 @@ pub fn main(oracle: &Oracle) -> ExitCode {
     let world = World { oracle, differences: &differences };
     let calls = [
         reader_groups::groups,
+        reader_authenticated::groups,
         reader_x86_64_groups::groups,
         fixup_groups::groups,
+        fixup_authenticated::groups,
         stub::groups,
         hint_groups::groups,
         hint_unallocated::groups,

@@ -18,7 +18,7 @@ fn is_answer(answer: Answer, number: u8, filled: usize) -> bool {
     }
 }
 
-// Whether the fix-up answers by a number and how many reports it filled. `bases` has the base and the start of thread-local storage.
+// Whether the fix-up answers by a number and how many reports it filled. `bases` has the base, the start of thread-local storage and the image base.
 fn answers(
     section: &mut [u8],
     bases: &[u8],
@@ -28,13 +28,14 @@ fn answers(
     number: u8,
     filled: usize,
 ) -> bool
-    requires { ⌜ 16 ≤ length (now bases) ⌝ }
+    requires { ⌜ 24 ≤ length (now bases) ⌝ }
 {
     is_answer(
         apply_reloc_alloc(
             section,
             read64(bases, 0),
             read64(bases, 8),
+            read64(bases, 16),
             entries,
             targets,
             slots,
@@ -53,10 +54,10 @@ fn fixes(
     number: u8,
     filled: usize,
 ) -> bool
-    requires { ⌜ (16 + length (now section) ≤ targets) × (targets ≤ length (now given)) ⌝ }
+    requires { ⌜ (24 + length (now section) ≤ targets) × (targets ≤ length (now given)) ⌝ }
 {
-    let entries = 16 + section.len();
-    copy(&given[16..entries], section);
+    let entries = 24 + section.len();
+    copy(&given[24..entries], section);
     put_pattern(slots);
     answers(
         section,
@@ -89,7 +90,7 @@ fn holds_in(
 ) -> bool
     requires { ⌜ (length (now section) < 0x10000) × (filled < 0x10000) ⌝ }
 {
-    let start = 16 + section.len() + entries as usize;
+    let start = 24 + section.len() + entries as usize;
     let after = start + targets as usize;
     if body.len() != after + section.len() + 24 * filled {
         return false;
