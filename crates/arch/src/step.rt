@@ -8,7 +8,7 @@ use macho::refusal::Refusal;
 use macho::reloc::Reloc;
 
 // What stands at a record: an entry and the number of the record after it, or a refusal.
-#[derive(Drop)]
+#[derive(Clone, Copy)]
 pub enum Step {
     Read(Reloc, usize),
     Refused(Refusal),

@@ -9,7 +9,7 @@ use macho::reloc::TARGET_SECTION;
 use util::wrapping_sub;
 
 // The target field of an entry, with bit 31 set for a section, and the entry's addend.
-#[derive(Drop)]
+#[derive(Clone, Copy)]
 pub enum Target {
     Named(u32, u64),
     Refused(Refusal),

@@ -10,7 +10,7 @@ use macho::refusal::{Check, Refusal};
 use util::write32;
 
 // What became of a stub entry: written, and whether its ADRP reaches the pointer's page.
-#[derive(Drop)]
+#[derive(Clone, Copy)]
 pub enum StubAnswer {
     Reaches,
     OutOfReach,

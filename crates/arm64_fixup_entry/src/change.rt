@@ -21,14 +21,14 @@ use macho::report::Report;
 use macho::resolved::Resolved;
 
 // An entry's number, and P: base plus offset.
-#[derive(Drop)]
+#[derive(Clone, Copy)]
 pub struct Site {
     pub entry: u32,
     pub addr: u64,
 }
 
 // What an entry stores at its offset.
-#[derive(Drop)]
+#[derive(Clone, Copy)]
 pub enum Write {
     Nothing,
     Word(u32),
@@ -36,21 +36,21 @@ pub enum Write {
 }
 
 // What an entry reports.
-#[derive(Drop)]
+#[derive(Clone, Copy)]
 pub enum Told {
     Silent,
     Report(Report),
 }
 
 // What an entry does.
-#[derive(Drop)]
+#[derive(Clone, Copy)]
 pub struct Change {
     pub write: Write,
     pub told: Told,
 }
 
 // What the branch of a tracing site becomes.
-#[derive(Drop)]
+#[derive(Clone, Copy)]
 pub enum Traced {
     Insn(u32),
     Untraced,

@@ -10,7 +10,7 @@ use macho::reloc::Reloc;
 use macho::resolved::Resolved;
 
 // The address of the section's first byte, the start of thread-local storage, and the address that an authenticated pointer counts from.
-#[derive(Drop)]
+#[derive(Clone, Copy)]
 pub struct Bases {
     pub base: u64,
     pub tls_begin: u64,

@@ -11,7 +11,7 @@ use arm64_insn::ldst::{LoadStore, LoadStoreWord};
 use arm64_insn::page::within_1mb;
 
 // The address that ADRP and ADD make, the ADD, and the access through it; or a sum above 2^64 - 1; or neither.
-#[derive(Drop)]
+#[derive(Clone, Copy)]
 pub enum Through {
     At(u64, Add, LoadStore),
     Over,

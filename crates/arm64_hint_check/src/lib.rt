@@ -1,4 +1,6 @@
 // Which number a hint run is turned down with (RULES 3.6, 3.20). Nothing is written here.
+#![tactic(auto)]
+
 ghost use Rattle.std.specs.Prelude.{◌≡◌, false, ◌<◌};
 ghost use Rattle.macho.specs.Hint.{hint_count};
 ghost use Rattle.arm64_hint_order.specs.Cursor.{object_at};
@@ -15,7 +17,7 @@ use macho::reloc::Reloc;
 use macho::rule_record::RuleRecord;
 
 // What the check of all hints says: Fit(rises), whether they come by rising object number, or the first refusal.
-#[derive(Drop)]
+#[derive(Clone, Copy)]
 pub enum Checked {
     Fit(bool),
     Refused(Refusal),

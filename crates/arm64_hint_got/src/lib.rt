@@ -1,4 +1,6 @@
 // The hint rules of a GOT load: ADRP_LDR_GOT, ADRP_LDR_GOT_LDR and ADRP_LDR_GOT_STR (arch/arm64.rs).
+#![tactic(auto)]
+
 ghost use Rattle.std.specs.Prelude.{◌≡◌, ◌<◌};
 ghost use Rattle.arm64_hint_terms.specs.Operands.{Operands};
 ghost use Rattle.arm64_hint_got.specs.Got.{loads_slot, slot_load, relaxed_load, got_load, adrp_ldr_got, got_literal};
@@ -14,7 +16,7 @@ use arm64_insn::ldst::{LoadStore, LoadStoreWord};
 use arm64_insn::page::within_1mb;
 
 // The GOT load as it now stands: a load of the slot at an address, or an ADD that makes the target; or a sum above 2^64 - 1; or neither.
-#[derive(Drop)]
+#[derive(Clone, Copy)]
 pub enum GotLoad {
     Slot(u64, LoadStore),
     Relaxed(u64, Add),

@@ -26,7 +26,7 @@ use Rattle.arm64_hint_check.proofs.Listed.{listed-lists, with-room, without-room
 use Rattle.arm64_hint_work.specs.Step.{steps_of}
 use Rattle.arm64_hint_work.specs.declared.tally.Tally.{Tally}
 use Rattle.arm64_hint_run.specs.Run as Run
-use Rattle.arm64_hint_run.specs.Run.{worked, answer_by, left_by, run_of}
+use Rattle.arm64_hint_run.specs.Run.{worked, answer_by, image_by, run_of}
 use Rattle.arm64_hint_run.specs.declared.run.RunAnswer.TheVariants as A
 use Rattle.arm64_hint_run.specs.Records.{record_of, records_of, filled}
 use Rattle.arm64_hint_listed.specs.Listed.{listed_check, listed_of, image_of, slots_of}
@@ -41,7 +41,7 @@ module _ (image hints entries slots : List ℕ) where
   same-run l =
       let e = with-room (length image) hints (length entries) (length slots) l in (
         ap (λ (c : Check). answer_by c (worked image hints entries (order_of hints)).tally) e,
-        ap (λ (c : Check). left_by c image (worked image hints entries (order_of hints)).image) e,
+        ap (λ (c : Check). image_by c image (worked image hints entries (order_of hints)).image) e,
       )
 
   -- what the slots hold changes neither answer nor image
@@ -51,7 +51,7 @@ module _ (image hints entries slots : List ℕ) where
   slots-ignored others e =
       let same = ap (λ (n : ℕ). check_listed (length image) hints (length entries) n) e in (
         ap (λ (c : Check). answer_by c (worked image hints entries (order_of hints)).tally) same,
-        ap (λ (c : Check). left_by c image (worked image hints entries (order_of hints)).image) same,
+        ap (λ (c : Check). image_by c image (worked image hints entries (order_of hints)).image) same,
       )
 
   -- number 1, whatever the slots
@@ -76,8 +76,8 @@ module _ (image hints entries slots : List ℕ) where
   refused-leaves x e = go (listed_check image hints entries slots) e
     where
       go : (c : Check) → answer_by c (worked image hints entries (order_of hints)).tally ≡ A.Refused x
-          → (left_by c image (worked image hints entries (order_of hints)).image ≡ image)
-          × (left_by c slots (filled (records_of image hints entries (order_of hints)) slots) ≡ slots)
+          → (image_by c image (worked image hints entries (order_of hints)).image ≡ image)
+          × (image_by c slots (filled (records_of image hints entries (order_of hints)) slots) ≡ slots)
       go C.Fit q = let z : ◌≡◌ {A = ℕ} 0 1 = cc in absurd (omega arith)
       go (C.Refused y) q = (refl, refl)
 
@@ -103,7 +103,7 @@ module _ (image hints entries slots : List ℕ) where
 
     fills : slots_of image hints entries slots ≡ filled (records_of image hints entries (order_of hints)) slots
     unfolding slots_of
-    fills = ap (λ (c : Check). left_by c slots (filled (records_of image hints entries (order_of hints)) slots)) fit.0
+    fills = ap (λ (c : Check). image_by c slots (filled (records_of image hints entries (order_of hints)) slots)) fit.0
 
     -- the slots hold the records, and after them what they held
     pub slots_filled : slots_of image hints entries slots

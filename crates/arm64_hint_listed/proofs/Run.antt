@@ -8,7 +8,7 @@ use Rattle.macho.specs.declared.refusal.Check.TheVariants as C
 use Rattle.arm64_hint_order.specs.Cursor.{order_of}
 use Rattle.arm64_hint_work.specs.declared.tally.Tally.{Tally}
 use Rattle.arm64_hint_run.specs.declared.run.RunAnswer.TheVariants as A
-use Rattle.arm64_hint_run.specs.Run.{worked, answer_by, left_by}
+use Rattle.arm64_hint_run.specs.Run.{worked, answer_by, image_by}
 use Rattle.arm64_hint_run.specs.Records.{records_of, filled}
 use Rattle.arm64_hint_listed.specs.Listed.{listed_check, listed_of, image_of, slots_of}
 
@@ -19,8 +19,8 @@ module _ (image hints entries slots : List ℕ) where
   listed-refused x e = (
     sym (ap (λ (c : Check). answer_by c (worked image hints entries (order_of hints)).tally) e),
     (
-      sym (ap (λ (c : Check). left_by c image (worked image hints entries (order_of hints)).image) e),
-      sym (ap (λ (c : Check). left_by c slots (filled (records_of image hints entries (order_of hints)) slots)) e),
+      sym (ap (λ (c : Check). image_by c image (worked image hints entries (order_of hints)).image) e),
+      sym (ap (λ (c : Check). image_by c slots (filled (records_of image hints entries (order_of hints)) slots)) e),
     ),
   )
 
@@ -31,7 +31,7 @@ module _ (image hints entries slots : List ℕ) where
   listed-done e told left fills = (
     ap A.Done told ∙ sym (ap (λ (c : Check). answer_by c (worked image hints entries (order_of hints)).tally) e),
     (
-      left ∙ sym (ap (λ (c : Check). left_by c image (worked image hints entries (order_of hints)).image) e),
-      fills ∙ sym (ap (λ (c : Check). left_by c slots (filled (records_of image hints entries (order_of hints)) slots)) e),
+      left ∙ sym (ap (λ (c : Check). image_by c image (worked image hints entries (order_of hints)).image) e),
+      fills ∙ sym (ap (λ (c : Check). image_by c slots (filled (records_of image hints entries (order_of hints)) slots)) e),
     ),
   )

@@ -4,7 +4,7 @@ use Rattle.macho.specs.declared.refusal.Check.{Check}
 use Rattle.arm64_hint_order.specs.Cursor.{order_of}
 use Rattle.arm64_hint_check.specs.Check.{check_listed}
 use Rattle.arm64_hint_run.specs.declared.run.RunAnswer.{RunAnswer}
-use Rattle.arm64_hint_run.specs.Run.{worked, answer_by, left_by}
+use Rattle.arm64_hint_run.specs.Run.{worked, answer_by, image_by}
 use Rattle.arm64_hint_run.specs.Records.{records_of, filled}
 
 -- what is turned down of what a listed run is lent
@@ -17,8 +17,8 @@ listed_of image hints entries slots = answer_by (listed_check image hints entrie
 
 -- the image that it leaves: unchanged where it is turned down
 unfoldable pub image_of : List ℕ → List ℕ → List ℕ → List ℕ → List ℕ
-image_of image hints entries slots = left_by (listed_check image hints entries slots) image (worked image hints entries (order_of hints)).image
+image_of image hints entries slots = image_by (listed_check image hints entries slots) image (worked image hints entries (order_of hints)).image
 
 -- and the slots: unchanged where it is turned down, else with the records of the order of work
 unfoldable pub slots_of : List ℕ → List ℕ → List ℕ → List ℕ → List ℕ
-slots_of image hints entries slots = left_by (listed_check image hints entries slots) slots (filled (records_of image hints entries (order_of hints)) slots)
+slots_of image hints entries slots = image_by (listed_check image hints entries slots) slots (filled (records_of image hints entries (order_of hints)) slots)

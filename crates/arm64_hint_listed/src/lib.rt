@@ -1,4 +1,6 @@
 // The listed hint run: as the hint run, with a record of each hint in the order of work (arch/arm64.rs, `apply_hints`).
+#![tactic(auto)]
+
 ghost use Rattle.std.specs.Prelude.{◌≡◌};
 ghost use Rattle.arm64_hint_run.specs.Run.{end_of};
 ghost use Rattle.arm64_hint_listed.specs.Listed.{listed_of, image_of, slots_of};

@@ -2,6 +2,8 @@
 // each the hints of other kinds and then the ADRP_ADRP hints, by list position. Where the records come grouped by rising object number, which the
 // caller tells, a walk over all of them takes time linear in their number; any other order of the records is right too, and costs three passes
 // over the list for each object.
+#![tactic(auto)]
+
 ghost use Rattle.std.specs.Prelude.{◌≡◌, true, ◌+◌, ◌≤◌, ◌<◌};
 ghost use Rattle.macho.specs.Hint.{hint_count};
 ghost use Rattle.arm64_hint_order.specs.Lists.{in_pass};
@@ -12,7 +14,7 @@ use macho::consts::LOH_ARM64_ADRP_ADRP;
 use macho::hint::{HintRecord, kind_at, object_at};
 
 // Where a walk stands: in the object's pass (the second if late is set), before position at. The object's hints stand from lo up to hi.
-#[derive(Drop)]
+#[derive(Clone, Copy)]
 pub struct Cursor {
     pub grouped: bool,
     pub object: u32,
@@ -23,7 +25,7 @@ pub struct Cursor {
 }
 
 // The position of the hint that is worked next, with the cursor after it; or none is left.
-#[derive(Drop)]
+#[derive(Clone, Copy)]
 pub enum Next {
     At(usize, Cursor),
     Done,

@@ -1,4 +1,6 @@
 // What the toolchain does not carry, each with the must-fail edit that asks for it (docs/DECISIONS.md). Nothing else uses this crate.
+#![tactic(auto)]
+
 ghost use Rattle.std.specs.Prelude.{◌≡◌, ◌+◌, ◌≤◌, length};
 ghost use Rattle.util.specs.Word.{put};
 

@@ -1,4 +1,6 @@
 // A lent hint: whether it is skipped, its places, the words that stand there and the entries that they name (arch/arm64.rs, `Hint`).
+#![tactic(auto)]
+
 ghost use Rattle.std.specs.Prelude.{◌≡◌, length};
 ghost use Rattle.image.specs.Words.{words_at};
 ghost use Rattle.arm64_hint_places.specs.Hint.{is_skipped, insns_all, offs_of, insns_of, rels_of, Inside, Named};

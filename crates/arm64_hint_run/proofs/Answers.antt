@@ -50,7 +50,7 @@ use Rattle.arm64_hint_rules.specs.declared.outcome.HintOutcome.TheVariants.{Skip
 use Rattle.arm64_hint_work.specs.Step.{places_of, add_decision, add_outcome, total, steps_of}
 use Rattle.arm64_hint_work.specs.declared.tally.Tally.{Tally}
 use Rattle.arm64_hint_work.proofs.Steps.{total-add}
-use Rattle.arm64_hint_run.specs.Run.{start, worked, answer_by, left_by, run_of, image_of, run_number}
+use Rattle.arm64_hint_run.specs.Run.{start, worked, answer_by, image_by, run_of, image_of, run_number}
 use Rattle.arm64_hint_run.specs.declared.run.RunAnswer.TheVariants as A
 
 -- ---- LLVM's kinds
@@ -85,7 +85,7 @@ module _ (image hints entries : List ℕ) where
   unfolding run_of image_of
   refused-leaves x = go (check_all (length image) hints (length entries)) (worked image hints entries (order_of hints))
     where
-      go : (c : Check) (w : Work Tally) → answer_by c w.tally ≡ A.Refused x → left_by c image w.image ≡ image
+      go : (c : Check) (w : Work Tally) → answer_by c w.tally ≡ A.Refused x → image_by c image w.image ≡ image
       go (C.Refused y) w e = refl
       go C.Fit w e = let z : ◌≡◌ {A = ℕ} 0 1 = cc in absurd (omega arith)
 
@@ -104,7 +104,7 @@ module _ (image hints entries : List ℕ) where
     unfolding run_of image_of
     run_is = go (check_all (length image) hints (length entries)) (worked image hints entries (order_of hints)) done
       where
-        go : (c : Check) (w : Work Tally) → answer_by c w.tally ≡ A.Done t → w ≡ record { image = left_by c image w.image; tally = t }
+        go : (c : Check) (w : Work Tally) → answer_by c w.tally ≡ A.Done t → w ≡ record { image = image_by c image w.image; tally = t }
         go C.Fit w e = let q : w.tally ≡ t = cc in λ i. record { image = w.image; tally = q i }
         go (C.Refused y) w e = let z : ◌≡◌ {A = ℕ} 0 1 = cc in absurd (omega arith)
 

@@ -24,7 +24,7 @@ use Rattle.arm64_hint_rules.specs.Rule.{hint_outcome, news_of}
 use Rattle.arm64_hint_rules.specs.declared.outcome.HintOutcome.{HintOutcome}
 use Rattle.arm64_hint_work.specs.Step.{places_of, add_outcome, steps_of}
 use Rattle.arm64_hint_work.specs.declared.tally.Tally.{Tally}
-use Rattle.arm64_hint_run.specs.Run.{start, worked, answer_by, left_by, run_of, image_of}
+use Rattle.arm64_hint_run.specs.Run.{start, worked, answer_by, image_by, run_of, image_of}
 
 -- ---- hints
 
@@ -69,7 +69,7 @@ module _ (hints hints' : List ℕ) (sized : length hints ≡ length hints')
     run-alike =
         let c = same_check hints hints' sized alike (length image) (length entries) in (
           ap₂ (λ (c : Check) (w : Work Tally). answer_by c w.tally) c same-work,
-          ap₂ (λ (c : Check) (w : Work Tally). left_by c image w.image) c same-work,
+          ap₂ (λ (c : Check) (w : Work Tally). image_by c image w.image) c same-work,
         )
 
 -- ---- one byte

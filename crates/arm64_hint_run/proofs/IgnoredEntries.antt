@@ -39,7 +39,7 @@ use Rattle.arm64_hint_rules.specs.declared.outcome.HintOutcome.{HintOutcome}
 use Rattle.arm64_hint_rules.specs.declared.outcome.HintOutcome.TheVariants.{Skipped, Worked}
 use Rattle.arm64_hint_work.specs.Step.{places_of, add_outcome, steps_of}
 use Rattle.arm64_hint_work.specs.declared.tally.Tally.{Tally}
-use Rattle.arm64_hint_run.specs.Run.{start, worked, answer_by, left_by, run_of, image_of}
+use Rattle.arm64_hint_run.specs.Run.{start, worked, answer_by, image_by, run_of, image_of}
 
 -- ---- lists of entries
 
@@ -101,19 +101,19 @@ module _ (entries entries' : List ℕ) (sized : length entries ≡ length entrie
       let c = ap (check_all (length image) hints) sized in
       let w = go (check_all (length image) hints (length entries)) refl in (
         w.0 ∙ ap (λ (c : Check). answer_by c (worked image hints entries' (order_of hints)).tally) c,
-        w.1 ∙ ap (λ (c : Check). left_by c image (worked image hints entries' (order_of hints)).image) c,
+        w.1 ∙ ap (λ (c : Check). image_by c image (worked image hints entries' (order_of hints)).image) c,
       )
     where
       go : (c : Check) → check_all (length image) hints (length entries) ≡ c
           → (answer_by (check_all (length image) hints (length entries)) (worked image hints entries (order_of hints)).tally
           ≡ answer_by (check_all (length image) hints (length entries)) (worked image hints entries' (order_of hints)).tally)
-          × (left_by (check_all (length image) hints (length entries)) image (worked image hints entries (order_of hints)).image
-          ≡ left_by (check_all (length image) hints (length entries)) image (worked image hints entries' (order_of hints)).image)
+          × (image_by (check_all (length image) hints (length entries)) image (worked image hints entries (order_of hints)).image
+          ≡ image_by (check_all (length image) hints (length entries)) image (worked image hints entries' (order_of hints)).image)
       go (Refused x) e = rw e (refl, refl)
       go Fit e =
           let q = same-work image hints e in (
             ap (λ (w : Work Tally). answer_by (check_all (length image) hints (length entries)) w.tally) q,
-            ap (λ (w : Work Tally). left_by (check_all (length image) hints (length entries)) image w.image) q,
+            ap (λ (w : Work Tally). image_by (check_all (length image) hints (length entries)) image w.image) q,
           )
 
 -- ---- one byte of how an entry's pointer is signed

@@ -21,7 +21,7 @@ use Rattle.arm64_hint_rules.specs.declared.outcome.HintOutcome.{HintOutcome}
 use Rattle.arm64_hint_work.specs.Step.{add_outcome, total, steps_of}
 use Rattle.arm64_hint_work.specs.declared.tally.Tally.{Tally}
 use Rattle.arm64_hint_work.proofs.Steps.{total-add}
-use Rattle.arm64_hint_run.specs.Run.{zeros, start, worked, answer_by, left_by, run_of, image_of}
+use Rattle.arm64_hint_run.specs.Run.{zeros, start, worked, answer_by, image_by, run_of, image_of}
 use Rattle.arm64_hint_run.specs.declared.run.RunAnswer.TheVariants as A
 
 -- ---- the loop
@@ -77,7 +77,7 @@ module _ (image hints entries : List ℕ) where
   unfolding run_of image_of
   run-refused x e = (
     sym (ap (λ (c : Check). answer_by c (worked image hints entries (order_of hints)).tally) e),
-    sym (ap (λ (c : Check). left_by c image (worked image hints entries (order_of hints)).image) e),
+    sym (ap (λ (c : Check). image_by c image (worked image hints entries (order_of hints)).image) e),
   )
 
   pub run-done : {t : Tally} {y : List ℕ} → check_all (length image) hints (length entries) ≡ C.Fit → t ≡ (worked image hints entries (order_of hints)).tally
@@ -85,5 +85,5 @@ module _ (image hints entries : List ℕ) where
   unfolding run_of image_of
   run-done e told left = (
     ap A.Done told ∙ sym (ap (λ (c : Check). answer_by c (worked image hints entries (order_of hints)).tally) e),
-    left ∙ sym (ap (λ (c : Check). left_by c image (worked image hints entries (order_of hints)).image) e),
+    left ∙ sym (ap (λ (c : Check). image_by c image (worked image hints entries (order_of hints)).image) e),
   )

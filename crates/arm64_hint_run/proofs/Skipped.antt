@@ -28,7 +28,7 @@ use Rattle.arm64_hint_rules.specs.declared.outcome.HintOutcome.TheVariants.{Skip
 use Rattle.arm64_hint_work.specs.Step.{places_of, add_outcome, steps_of}
 use Rattle.arm64_hint_work.specs.declared.tally.Tally.{Tally}
 use Rattle.arm64_hint_work.proofs.Steps.{skipped-step, add-swap}
-use Rattle.arm64_hint_run.specs.Run.{start, worked, answer_by, left_by, run_of, image_of}
+use Rattle.arm64_hint_run.specs.Run.{start, worked, answer_by, image_by, run_of, image_of}
 
 -- the step of a skipped hint: it is counted
 abbrev pub idle : Work Tally → Work Tally
@@ -101,5 +101,5 @@ module _ (entries : List ℕ) where
       run-skipped =
           let c = same_by hints others sized same_check (length image) (length entries) in (
             ap₂ (λ (c : Check) (w : Work Tally). answer_by c w.tally) c same-work,
-            ap₂ (λ (c : Check) (w : Work Tally). left_by c image w.image) c same-work,
+            ap₂ (λ (c : Check) (w : Work Tally). image_by c image w.image) c same-work,
           )

@@ -31,9 +31,9 @@ answer_by C.Fit t = A.Done t
 answer_by (C.Refused x) t = A.Refused x
 
 -- what was lent as it was, or as the run leaves it
-abbrev pub left_by : Check → List ℕ → List ℕ → List ℕ
-left_by C.Fit old new = new
-left_by (C.Refused x) old new = old
+abbrev pub image_by : Check → List ℕ → List ℕ → List ℕ
+image_by C.Fit old new = new
+image_by (C.Refused x) old new = old
 
 -- what a run answers: the first refusal, or the counts of the steps in the order of work
 unfoldable pub run_of : List ℕ → List ℕ → List ℕ → RunAnswer
@@ -41,7 +41,7 @@ run_of image hints entries = answer_by (check_all (length image) hints (length e
 
 -- the image that it leaves: unchanged where it is turned down
 unfoldable pub image_of : List ℕ → List ℕ → List ℕ → List ℕ
-image_of image hints entries = left_by (check_all (length image) hints (length entries)) image (worked image hints entries (order_of hints)).image
+image_of image hints entries = image_by (check_all (length image) hints (length entries)) image (worked image hints entries (order_of hints)).image
 
 -- the number (RULES 3.1) of an answer: 0 where the run is done
 abbrev pub run_number : RunAnswer → ℕ

@@ -22,7 +22,7 @@ use macho::refusal::Refusal;
 use macho::rule_record::RuleRecord;
 
 // What a run answers: its counts, or why it changed nothing.
-#[derive(Drop)]
+#[derive(Clone, Copy)]
 pub enum RunAnswer {
     Done(Tally),
     Refused(Refusal),

@@ -6,7 +6,7 @@ use crate::run::{RunAnswer, run};
 use arm64_hint_work::tally::Tally;
 
 // What a run comes to: the tally that it leaves, and its number.
-#[derive(Drop)]
+#[derive(Clone, Copy)]
 pub struct RunEnd {
     pub tally: Tally,
     pub number: u8,

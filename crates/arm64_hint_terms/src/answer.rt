@@ -5,7 +5,7 @@ ghost use Rattle.arm64_hint_terms.specs.Answer.{sum_of, fits_literal};
 use arm64_insn::ldst::LoadStore;
 
 // The words of a hint and their addresses, in the order of its places.
-#[derive(Drop)]
+#[derive(Clone, Copy)]
 pub struct Insns {
     pub w0: u32,
     pub w1: u32,
@@ -16,7 +16,7 @@ pub struct Insns {
 }
 
 // Which rewrite a rule makes: second ADRP dropped, literal load, ADR, fold, literal load of a GOT slot.
-#[derive(Drop)]
+#[derive(Clone, Copy)]
 pub enum Rewrite {
     Drop,
     Literal,
@@ -26,14 +26,14 @@ pub enum Rewrite {
 }
 
 // A place's new word, or none: the place is not written.
-#[derive(Drop)]
+#[derive(Clone, Copy)]
 pub enum NewWord {
     Keep,
     Set(u32),
 }
 
 // A rewrite with what it writes at each place.
-#[derive(Drop)]
+#[derive(Clone, Copy)]
 pub struct Plan {
     pub rewrite: Rewrite,
     pub w0: NewWord,
@@ -42,7 +42,7 @@ pub struct Plan {
 }
 
 // A rule's answer: no rewrite, a sum above 2^64 - 1 (decision_number, 9), or a rewrite.
-#[derive(Drop)]
+#[derive(Clone, Copy)]
 pub enum Decision {
     Declined,
     Nine,
@@ -50,7 +50,7 @@ pub enum Decision {
 }
 
 // A sum of addresses, or that it is above 2^64 - 1.
-#[derive(Drop)]
+#[derive(Clone, Copy)]
 pub enum Sum {
     Of(u64),
     Over,

@@ -9,14 +9,14 @@ use macho::hint::HintInsn;
 use macho::reloc::Reloc;
 
 // The entry that a place names, or none.
-#[derive(Drop)]
+#[derive(Clone, Copy)]
 pub enum Rel {
     Entry(Reloc),
     Absent,
 }
 
 // The entries of a hint's places.
-#[derive(Drop)]
+#[derive(Clone, Copy)]
 pub struct Rels {
     pub r0: Rel,
     pub r1: Rel,

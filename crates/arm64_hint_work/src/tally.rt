@@ -7,7 +7,7 @@ use arm64_hint_terms::answer::Decision;
 
 // How many hints of a run were rewritten, skipped, declined, and turned down by 9.
 #[repr(C)]
-#[derive(Drop)]
+#[derive(Clone, Copy)]
 pub struct Tally {
     pub rewritten: u32,
     pub skipped: u32,

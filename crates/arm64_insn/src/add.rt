@@ -5,7 +5,7 @@ ghost use Rattle.arm64_insn.specs.Encoding.{add, add_unshifted};
 ghost use Rattle.arm64_insn.specs.Add.{add_of};
 
 // "add Xd, Xn, #imm".
-#[derive(Drop)]
+#[derive(Clone, Copy)]
 pub struct Add {
     pub rd: u32,
     pub rn: u32,
@@ -13,7 +13,7 @@ pub struct Add {
 }
 
 // A word as a 64-bit ADD.
-#[derive(Drop)]
+#[derive(Clone, Copy)]
 pub enum AddWord {
     Add(Add),
     Other,

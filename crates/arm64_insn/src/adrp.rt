@@ -4,14 +4,14 @@ ghost use Rattle.arm64_insn.specs.Page.{adrp_page};
 ghost use Rattle.arm64_insn.specs.Adrp.{adrp_of, adr_word};
 
 // "adrp Xd, page": the register, and immhi:immlo.
-#[derive(Drop)]
+#[derive(Clone, Copy)]
 pub struct Adrp {
     pub rd: u32,
     pub imm: u32,
 }
 
 // A word as an ADRP.
-#[derive(Drop)]
+#[derive(Clone, Copy)]
 pub enum AdrpWord {
     Adrp(Adrp),
     Other,

@@ -3,7 +3,7 @@ ghost use Rattle.std.specs.Prelude.{◌≡◌};
 ghost use Rattle.arm64_insn.specs.Branch.{branch_reaches, branch_word, helper_word};
 
 // The unconditional branches: B and BL to an immediate, BR to a register.
-#[derive(Drop)]
+#[derive(Clone, Copy)]
 pub struct Branch;
 
 impl Branch {

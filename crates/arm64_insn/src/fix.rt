@@ -34,7 +34,7 @@ fn scale_of(insn: u32) -> u32
 }
 
 // A word with another imm12, or the access size that does not divide the target.
-#[derive(Drop)]
+#[derive(Clone, Copy)]
 pub enum OffsetWord {
     Word(u32),
     Misaligned(u32),

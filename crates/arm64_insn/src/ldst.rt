@@ -7,7 +7,7 @@ ghost use Rattle.arm64_insn.specs.LoadStoreSplit.{vector_access, general_access,
 ghost use Rattle.arm64_insn.specs.Literal.{has_literal_form, literal_opc, literal_v, literal_word, Rebased, base_word};
 
 // What an access moves: that many bytes, whether it stores them, and whether it is LDRSW.
-#[derive(Drop)]
+#[derive(Clone, Copy)]
 pub enum Moved {
     Of(u64, bool, bool),
     Neither,
@@ -82,7 +82,7 @@ fn general_access(size: u32, bit_23: bool, bit_22: bool) -> Moved
 }
 
 // A load or store with a scaled unsigned offset.
-#[derive(Drop)]
+#[derive(Clone, Copy)]
 pub struct LoadStore {
     pub insn: u32,
     pub reg: u32,
@@ -96,7 +96,7 @@ pub struct LoadStore {
 }
 
 // A word as a load or store.
-#[derive(Drop)]
+#[derive(Clone, Copy)]
 pub enum LoadStoreWord {
     LoadStore(LoadStore),
     Other,

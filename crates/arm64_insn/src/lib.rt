@@ -1,4 +1,6 @@
 // The A64 instruction words that the arm64 linker reads, makes and patches (arch/arm64.rs).
+#![tactic(auto)]
+
 pub mod add;
 pub mod adrp;
 pub mod branch;

@@ -9,7 +9,7 @@ use crate::ldst::LoadStore;
 use crate::page::page_offset;
 
 // Three words, the first at the lowest address.
-#[derive(Drop)]
+#[derive(Clone, Copy)]
 pub struct Words3 {
     pub first: u32,
     pub second: u32,

@@ -1,4 +1,6 @@
 // The class of a load or store, and its number: an entry of the table of classes (RULES 7.32).
+#![tactic(auto)]
+
 ghost use Rattle.std.specs.Prelude.{◌≡◌};
 ghost use Rattle.arm64_ldst_class.specs.Entry.{entry_of};
 
@@ -6,7 +8,7 @@ use util::bit;
 
 // What the words with the same bits 31 to 22 move: how many bytes, whether they store them, whether the register is a vector one, whether they are LDRSW.
 // Or they are neither load nor store.
-#[derive(Drop)]
+#[derive(Clone, Copy)]
 pub enum LoadStoreClass {
     Moves(u8, bool, bool, bool),
     Neither,

@@ -1,4 +1,6 @@
 // The table of load and store classes (RULES 7.32), and a word's entry in it.
+#![tactic(auto)]
+
 pub mod table;
 
 ghost use Rattle.std.specs.Prelude.{◌≡◌};

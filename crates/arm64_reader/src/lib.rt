@@ -1,4 +1,6 @@
 // The reader of arm64 relocation records (arch/arm64.rs, `is_supported`, `check_reloc`, `read_relocs`).
+#![tactic(auto)]
+
 pub mod check;
 pub mod plain;
 pub mod read;

@@ -19,7 +19,7 @@ use macho::refusal::{Check, Refusal};
 use util::{read32, read64, sign_extend};
 
 // The addend of a record.
-#[derive(Drop)]
+#[derive(Clone, Copy)]
 pub enum Addend {
     Held(u64),
     Refused(Refusal),

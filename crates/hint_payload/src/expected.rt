@@ -3,7 +3,7 @@ ghost use Rattle.std.specs.Prelude.{◌≡◌};
 ghost use Rattle.hint_payload.specs.Row.{addresses_left, expected_after, is_kind};
 
 // A hint's kind, its count, one of its addresses with so many after it; or, after kind 0, nothing but zeros.
-#[derive(Drop)]
+#[derive(Clone, Copy)]
 pub enum Expected {
     Kind,
     Count,

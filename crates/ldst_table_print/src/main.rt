@@ -1,4 +1,6 @@
 // Prints the table of classes (RULES 7.33): its file `stdout` is `arm64_ldst_table/src/table.rt`, byte for byte.
+#![tactic(auto)]
+
 ghost use Rattle.util.specs.Puts.{Puts};
 ghost use Rattle.ldst_table_text.specs.Text.{table_text};
 

@@ -4,7 +4,7 @@ ghost use Rattle.arm64_insn.specs.LoadStoreTable.{row_of};
 ghost use Rattle.ldst_table_rows.specs.Rows.{row_from};
 
 // The mnemonics of the table.
-#[derive(Drop)]
+#[derive(Clone, Copy)]
 pub enum Mnemonic {
     Strb,
     Ldrb,
@@ -19,7 +19,7 @@ pub enum Mnemonic {
 }
 
 // A load or a store, of vector registers or general ones, with the bytes that it moves; a prefetch, which moves none; an unallocated encoding.
-#[derive(Drop)]
+#[derive(Clone, Copy)]
 pub enum Row {
     Load(Mnemonic, bool, u8),
     Store(Mnemonic, bool, u8),

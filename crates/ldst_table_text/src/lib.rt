@@ -1,4 +1,6 @@
 // The generator of the table of classes (RULES 7.33): the whole source file `arm64_ldst_table/src/table.rt`, from the manual's rows. It asks no decoder.
+#![tactic(auto)]
+
 ghost use Rattle.std.specs.Prelude.{◌+◌, ◌*◌, ◌≤◌, length};
 ghost use Rattle.text.specs.Digits.{digits};
 ghost use Rattle.util.specs.Puts.{Puts};

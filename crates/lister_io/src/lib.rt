@@ -1,4 +1,6 @@
 // The word lister (RULES 10) at work: standard input is listed on standard output.
+#![tactic(auto)]
+
 ghost use Rattle.std.specs.Prelude.{◌≤◌, length, take};
 ghost use Rattle.lister_text.specs.Text.{text_of};
 ghost use Rattle.util.specs.Puts.{Puts};

@@ -7,7 +7,7 @@ use arm64_insn::adrp::{Adrp, AdrpWord};
 use arm64_insn::ldst::{LoadStore, LoadStoreWord};
 
 // A load or store with the bytes that it moves.
-#[derive(Drop)]
+#[derive(Clone, Copy)]
 pub enum Class {
     Adrp,
     Add,

@@ -1,4 +1,6 @@
 // The word lister (RULES 10): each 4-byte word of an input with its offset, its class as the hint decoders see it, and the bytes moved.
+#![tactic(auto)]
+
 pub mod class;
 
 ghost use Rattle.std.specs.Prelude.{◌≡◌, ◌∷◌, [], ◌++◌, ◌+◌, ◌*◌, ◌/◌, ◌≤◌, ◌<◌, length};

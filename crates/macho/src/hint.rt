@@ -7,7 +7,7 @@ use crate::consts;
 use util::{read32, read64};
 
 // One of a hint's places, 16 bytes: offset in the part, entry number, the word's own address.
-#[derive(Drop)]
+#[derive(Clone, Copy)]
 pub struct HintInsn {
     pub off: u32,
     pub rel: u32,
@@ -15,7 +15,7 @@ pub struct HintInsn {
 }
 
 // A hint, 64 bytes: kind, word count, two ignored bytes, object, start and length of the part, three places.
-#[derive(Drop)]
+#[derive(Clone, Copy)]
 pub struct HintRecord {
     pub kind: u8,
     pub n: u8,

@@ -1,4 +1,6 @@
 // The records that a linker lends and gets back, and the numbers in them (macho.rs, macho_consts.rs, input_sections.rs).
+#![tactic(auto)]
+
 pub mod authenticated;
 pub mod byte;
 pub mod consts;

@@ -5,7 +5,7 @@ ghost use Rattle.macho.specs.MachRel.{mach_rel_size, mach_rel_at, idx_of, pcrel_
 use util::read32;
 
 // A relocation record, 8 bytes: the address of the field, and the packed bit fields.
-#[derive(Drop)]
+#[derive(Clone, Copy)]
 pub struct MachRel {
     pub offset: u32,
     pub bits: u32,

@@ -3,7 +3,7 @@ ghost use Rattle.std.specs.Prelude.{◌≡◌};
 ghost use Rattle.macho.specs.Refusal.{number_of, check_number, answer_number};
 
 // The table's rows, 1 to 16.
-#[derive(Drop)]
+#[derive(Clone, Copy)]
 pub enum Refusal {
     Lengths,
     Slots,
@@ -24,14 +24,14 @@ pub enum Refusal {
 }
 
 // What a check says.
-#[derive(Drop)]
+#[derive(Clone, Copy)]
 pub enum Check {
     Fit,
     Refused(Refusal),
 }
 
 // What a call that fills lent slots says: how many it filled, or why it changed nothing.
-#[derive(Drop)]
+#[derive(Clone, Copy)]
 pub enum Answer {
     Filled(usize),
     Refused(Refusal),

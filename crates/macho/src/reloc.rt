@@ -10,7 +10,7 @@ use util::{read32, read64, write32, write64};
 pub const TARGET_SECTION: u32 = 0x8000_0000;
 
 // An entry, 24 bytes. `signing` is how an authenticated pointer is signed (`authenticated`), and 0 for every other type.
-#[derive(Drop)]
+#[derive(Clone, Copy)]
 pub struct Reloc {
     pub offset: u32,
     pub ty: u8,

@@ -7,7 +7,7 @@ use crate::byte::{read8, write_head};
 use util::{read32, read64, write64};
 
 // A report, 24 bytes: entry number, kind, size (alignment), two zero bytes, place and target (reach).
-#[derive(Drop)]
+#[derive(Clone, Copy)]
 pub struct Report {
     pub entry: u32,
     pub kind: u8,

@@ -7,7 +7,7 @@ ghost use Rattle.macho.specs.Resolved.{is_imported, is_tls, has_address, can_rel
 use util::{read32, read64};
 
 // A resolved target, 48 bytes: address, GOT slot, branch target, thunk, helper, flags, four zero bytes.
-#[derive(Drop)]
+#[derive(Clone, Copy)]
 pub struct Resolved {
     pub addr: u64,
     pub got: u64,

@@ -7,7 +7,7 @@ use crate::byte::{read8, write_head};
 use util::{read32, write32};
 
 // A record, 16 bytes: list position, object, rule, words changed, six zero bytes.
-#[derive(Drop)]
+#[derive(Clone, Copy)]
 pub struct RuleRecord {
     pub position: u32,
     pub object: u32,

@@ -1,5 +1,7 @@
 // Replays data/answers: what the unchanged Rust answers on lists of hints, with the rows of docs/DIFFERENCES applied, chosen so that each row of the
 // differential run's table is covered. tools/make-answers makes the list, tests/driver/answers.rs says what it holds.
+#![tactic(auto)]
+
 mod hints;
 
 ghost use Rattle.std.specs.Prelude.{◌<◌};

@@ -11,7 +11,7 @@ pub const END: u8 = 0xfe;
 pub const BROKEN: u8 = 0xff;
 
 // What the record is, the answer's number, the body's length, and the values but for the last, which no record has.
-#[derive(Drop)]
+#[derive(Clone, Copy)]
 pub struct Head {
     pub what: u8,
     pub number: u8,

@@ -9,7 +9,7 @@ use libc::STDOUT_FILENO;
 const MOST: u64 = 1_000_000;
 
 // How many records may still be read; the answers since the last title, and in all, that held; whether the list was replayed to its end.
-#[derive(Drop)]
+#[derive(Clone, Copy)]
 pub struct Seen {
     pub left: u64,
     pub row: u64,

@@ -1,6 +1,8 @@
 // Reads data/payload, the hints of an object as llvm-mc left them there. Writes the row, a value to a line, and how many of the
 // payload's bytes the row is written back to. tools/make-records makes the payload, and from what llvm-objdump lists of it what
 // this must write.
+#![tactic(auto)]
+
 ghost use Rattle.std.specs.Prelude.{◌≡◌, ◌≤◌, length};
 
 use check::same;

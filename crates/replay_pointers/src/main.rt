@@ -1,5 +1,7 @@
 // Replays data/pointers.txt, which tools/make-pointers makes: rows that pair the bytes of authenticated pointers in an object with what the
 // assembler's source says of them. Reads the records, then fixes the section up. Writes how many rows agree, or the first that does not.
+#![tactic(auto)]
+
 mod fixup;
 mod reader;
 mod row;

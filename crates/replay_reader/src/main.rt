@@ -1,5 +1,7 @@
 // Replays data/answers: what the unchanged Rust answers on relocation records of arm64 and x86_64, with the rows of docs/DIFFERENCES applied, chosen so
 // that each row of the differential run's table is covered. tools/make-answers makes the list, tests/driver/answers.rs says what it holds.
+#![tactic(auto)]
+
 mod reader;
 
 ghost use Rattle.std.specs.Prelude.{◌<◌};

@@ -1,5 +1,7 @@
 // Replays data/records.txt, which tools/make-records makes: rows that pair the bytes of Mach-O objects with what the LLVM tools
 // print of them. Writes how many rows agree with the crate macho, or the first that does not.
+#![tactic(auto)]
+
 ghost use Rattle.std.specs.Prelude.{◌+◌, ◌≤◌, ◌<◌, length};
 
 use libc::STDOUT_FILENO;
@@ -44,7 +46,7 @@ const NUMBERS: [u8; 29] = [
 ];
 
 // How many rows of each letter agreed, and where the first row starts that did not.
-#[derive(Drop)]
+#[derive(Clone, Copy)]
 struct Agreed {
     records: u64,
     names: u64,

@@ -1,4 +1,6 @@
 // Replays data/words: what an assembler and a disassembler say of A64 words. tools/make-words makes that list and says what its rows hold.
+#![tactic(auto)]
+
 ghost use Rattle.std.specs.Prelude.{◌≤◌, ◌<◌};
 
 use arm64_insn::add::{Add, AddWord};

@@ -1,4 +1,6 @@
 // Texts put into lent bytes: a text, a digit, a number below 100.
+#![tactic(auto)]
+
 ghost use Rattle.std.specs.Prelude.{◌≡◌, ◌+◌, ◌≤◌, ◌<◌, length};
 ghost use Rattle.text.specs.Digits.{digit_of, decimal};
 ghost use Rattle.util.specs.Puts.{Puts};

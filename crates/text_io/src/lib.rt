@@ -1,4 +1,6 @@
 // A text on standard output. What reaches it is outside every contract.
+#![tactic(auto)]
+
 ghost use Rattle.std.specs.Prelude.{◌≡◌, ◌≤◌, length};
 
 // Writes the first n bytes, and leaves all of them as they are.

@@ -1,4 +1,6 @@
 // Unsigned LEB128 (macho/util/mod.rs): seven bits a byte, the lowest first, bit 7 set where more follow.
+#![tactic(auto)]
+
 ghost use Rattle.std.specs.Prelude.{◌≡◌, ◌+◌, ◌≤◌, length, drop};
 ghost use Rattle.util.specs.Puts.{Puts};
 ghost use Rattle.uleb.specs.Values.{unended, uleb_at};
@@ -8,7 +10,7 @@ ghost use Rattle.uleb.specs.Shortest.{uleb_of};
 pub const MOST_BYTES: usize = 10;
 
 // What stands at a place: a value and the place after its last byte, or none that has a last byte and is below 2^64.
-#[derive(Drop)]
+#[derive(Clone, Copy)]
 pub enum Uleb {
     Value(u64, usize),
     NoValue,

@@ -1,4 +1,6 @@
 // Bit fields, sign extension, little-endian words, and sums and differences that wrap (macho/util/mod.rs).
+#![tactic(auto)]
+
 ghost use Rattle.std.specs.Prelude.{◌≡◌, ◌+◌, ◌-◌, ◌*◌, ◌%◌, ◌^◌, ◌<◌, ◌≤◌, length};
 ghost use Rattle.util.specs.Word.{le, put};
 ghost use Rattle.util.specs.Wrap.{sum, diff, in_range};
