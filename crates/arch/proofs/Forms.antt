@@ -16,7 +16,7 @@ use Rattle.util.specs.Bits.{field, has_bit}
 use Rattle.macho.specs.MachRel.{pcrel_of, p2size_of, extern_of, type_of, form_of}
 use Rattle.macho.specs.declared.mach_rel.MachRel.{MachRel}
 use Rattle.macho.proofs.Packed.{form-fields}
-use Rattle.arch.specs.Form.{Form, form, form_in, same_form, member, form_number, bit_of, bits_of, fields_fit}
+use Rattle.arch.specs.Form.{Form, form_in, same_form, member, form_number, bit_of, bits_of, fields_fit}
 use Rattle.arch.specs.Form.{forms_in, supported_in, table_fits}
 
 -- the number in a record's bits is its form's

@@ -9,7 +9,6 @@ use lib.Dec.{eqb}
 use lib.ListN.{length, length-append, get_or-append}
 use lib.Seq.{get_or-append-add}
 use Rattle.util.specs.Choice.{choose}
-use Rattle.util.specs.Word.{le}
 use Rattle.util.proofs.Bytes.{le-append-left, le-append-right}
 use Rattle.macho.specs.MachRel.{mach_rel_at}
 use Rattle.macho.specs.declared.mach_rel.MachRel.{MachRel}

@@ -11,7 +11,6 @@ use Rattle.util.specs.Choice.{choose}
 use Rattle.util.proofs.Choice.{choose-ap}
 use Rattle.util.specs.Wrap.{diff}
 use Rattle.macho.specs.declared.refusal.Refusal.TheVariants.{NoSection}
-use Rattle.arch.specs.declared.target.Target.{Target}
 use Rattle.arch.specs.declared.target.Target.TheVariants.{Named, Refused}
 use Rattle.macho.specs.MachRel.{idx_of, extern_of}
 use Rattle.macho.specs.Reloc.{target_section}

@@ -23,7 +23,6 @@ use Rattle.arm64_insn.specs.Page.{adrp_page}
 use Rattle.arm64_insn.specs.Reach.{page_imm}
 use Rattle.arm64_insn.specs.Branch.{branch_reaches}
 use Rattle.arm64_insn.specs.declared.fix.OffsetWord.{OffsetWord}
-use Rattle.arm64_insn.specs.declared.fix.OffsetWord.TheVariants as OffsetWord
 use Rattle.arm64_insn.proofs.Encodes.{load-store-patched}
 use Rattle.arm64_fixup_entry.specs.Target.{address_of, target_of, slot_of, got_target}
 use Rattle.arm64_fixup_entry.specs.Change.{branch_target, thunk_serves, dtrace_site_insn, displacement, fitted, can_relax, relaxed}

@@ -14,7 +14,6 @@ use Rattle.macho.proofs.RoundTrip.{report}
 use Rattle.macho.proofs.Stored.{stored_more, stored-front}
 use Rattle.macho.specs.declared.reloc.Reloc.{Reloc}
 use Rattle.macho.specs.declared.resolved.Resolved.{Resolved}
-use Rattle.macho.specs.declared.report.Report.{Report}
 use Rattle.arm64_fixup_entry.specs.Check.{check_of}
 use Rattle.arm64_fixup_entry.specs.Change.{bytes_in, change_of}
 use Rattle.arm64_fixup.specs.Walk.{entry_count, lent_entry, lent_target, taken_by, consumed, check_all, stored, reports_of}
@@ -23,7 +22,6 @@ use Rattle.arm64_fixup.specs.Answer.{filled}
 use Rattle.arm64_fixup_entry.specs.declared.target.Bases.{Bases}
 use Rattle.macho.specs.declared.refusal.Check.TheVariants.{Fit}
 use Rattle.arm64_fixup_entry.specs.declared.change.Told.{Told}
-use Rattle.arm64_fixup_entry.specs.declared.change.Told.TheVariants as Told
 use Rattle.arm64_fixup_entry.specs.declared.change.Change.{Change}
 use Rattle.arm64_fixup_entry.proofs.Sound.{sound}
 use Rattle.arm64_fixup.proofs.Turns.{next-worked, passes, check-worked, next-within, ended, takes, fix-next}

@@ -2,13 +2,12 @@
 use mathlib.Core.Path.{◌≡◌, refl, sym, ap, ◌∙◌}
 use mathlib.Core.Bool.{Bool, true, false, true≢false}
 use mathlib.Core.Logic.{inl, inr}
-use Prim.Native.Nat.{ℕ, ◌+◌, ◌*◌, ◌%◌, ◌^◌, ◌≤◌, ◌<◌}
+use Prim.Native.Nat.{ℕ, ◌≤◌, ◌<◌}
 use native.Mathlib.Omega.{arith}
 use borrow.Author.Tests.{eqb-true, ne_eqb, leb-true}
 use lib.Dec.{eqb, leb, lit<}
 use Rattle.util.specs.Choice.{choose}
 use Rattle.macho.specs.Types.{ARM64_RELOC_SUBTRACTOR, ARM64_RELOC_ADDEND, ARM64_RELOC_AUTHENTICATED_POINTER}
-use Rattle.macho.specs.Authenticated.{signing_used}
 use Rattle.macho.proofs.Signing.{word-used}
 use Rattle.macho.specs.Reloc.{is_section}
 use Rattle.macho.specs.Resolved.{is_imported, well_formed}

@@ -5,7 +5,6 @@ use Rattle.macho.specs.declared.reloc.Reloc.{Reloc}
 use Rattle.macho.specs.declared.resolved.Resolved.{Resolved}
 use Rattle.arm64_insn.specs.Fix.{offset_with}
 use Rattle.arm64_insn.specs.declared.fix.OffsetWord.{OffsetWord}
-use Rattle.arm64_insn.specs.declared.fix.OffsetWord.TheVariants as OffsetWord
 use Rattle.arm64_fixup_entry.specs.Change.{silent, reported, reach_report, word_report, branch_unless, dtrace_site_insn, branch, page21, fitted}
 use Rattle.arm64_fixup_entry.specs.Change.{pageoff12, got_page21, relaxed, got_pageoff12, word_change}
 use Rattle.arm64_fixup_entry.specs.declared.change.Site.{Site}

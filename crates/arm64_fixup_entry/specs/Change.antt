@@ -17,7 +17,6 @@ use Rattle.arm64_insn.specs.Reach.{adrp_reaches}
 use Rattle.arm64_insn.specs.Branch.{branch_reaches, branch_word, helper_word}
 use Rattle.arm64_insn.specs.Fix.{nop_word, is_enabled_word, adrp_with, offset_with, relaxed_word}
 use Rattle.arm64_insn.specs.declared.fix.OffsetWord.{OffsetWord}
-use Rattle.arm64_insn.specs.declared.fix.OffsetWord.TheVariants as OffsetWord
 use Rattle.arm64_fixup_entry.specs.Target.{is_symbol, imported_symbol, address_of, target_of, slot_of, got_target, from_image, width_of}
 use Rattle.arm64_fixup_entry.specs.Check.{subtracts}
 use Rattle.arm64_fixup_entry.specs.declared.target.Bases.{Bases}

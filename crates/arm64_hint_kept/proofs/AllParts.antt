@@ -1,7 +1,7 @@
 -- Calls for parts of the image that have every hint of the run between them (RULES 9.32): bytes of no part stay, and the tallies add up. Carried by the
 -- laws of one call, along the run's order of work: at each position one call goes on, and the others' parts stay.
 use mathlib.Core.Path.{◌≡◌, refl, sym, ap, ap₂, ◌∙◌}
-use mathlib.Core.Logic.{◌≢◌, ◌⊎◌, ⊎_elim}
+use mathlib.Core.Logic.{◌≢◌, ⊎_elim}
 use mathlib.Core.Bool.{Bool, true, false, true≢false}
 use mathlib.Core.List.{List, [], ◌∷◌}
 use Prim.Native.Nat.{ℕ, zero, suc, ◌+◌, ◌≤◌, ◌<◌}
@@ -23,7 +23,7 @@ use Rattle.arm64_hint_work.specs.declared.tally.Tally.{Tally}
 use Rattle.arm64_hint_run.specs.Run.{zeros, start, worked, run_of, image_of}
 use Rattle.arm64_hint_run.specs.declared.run.RunAnswer.TheVariants as A
 use Rattle.arm64_hint_run.proofs.Answers.{run_is}
-use Rattle.arm64_hint_kept.specs.PartCalls.{Call, part_of, PartCall, PartCalls, plus, added}
+use Rattle.arm64_hint_kept.specs.PartCalls.{Call, part_of, PartCalls, plus, added}
 use Rattle.arm64_hint_kept.proofs.Picked.{Picked, pick, picked_none, picked-one}
 use Rattle.arm64_hint_kept.proofs.PartCalls.{answers, own-part, other-part, own-order, own-bytes, image-done, fits-of, order-inside, part-call}
 

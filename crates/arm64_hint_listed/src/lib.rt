@@ -18,7 +18,9 @@ pub fn run_listed(image: &mut [u8], hints: &[u8], entries: &[u8], slots: &mut [u
 {
     match check_listed(image.len(), hints, entries.len(), slots.len()) {
         Checked::Refused(x) => RunAnswer::Refused(x),
-        Checked::Fit(rises) => RunAnswer::Done(work_and_list(image, hints, entries, slots, true, rises)),
+        Checked::Fit(rises) => RunAnswer::Done(work_and_list(
+            image, hints, entries, slots, true, rises,
+        )),
     }
 }
 

@@ -18,13 +18,10 @@ use Rattle.arm64_insn.specs.LoadStore.{load_store_from, load_store_of}
 use Rattle.arm64_insn.specs.Literal.{literal_opc, literal_v}
 use Rattle.arm64_insn.specs.declared.adrp.Adrp as A
 use Rattle.arm64_insn.specs.declared.adrp.AdrpWord.{AdrpWord}
-use Rattle.arm64_insn.specs.declared.adrp.AdrpWord.TheVariants as AdrpWord
 use Rattle.arm64_insn.specs.declared.add.Add as D
 use Rattle.arm64_insn.specs.declared.add.AddWord.{AddWord}
-use Rattle.arm64_insn.specs.declared.add.AddWord.TheVariants as AddWord
 use Rattle.arm64_insn.specs.declared.ldst.LoadStore as L
 use Rattle.arm64_insn.specs.declared.ldst.LoadStoreWord.{LoadStoreWord}
-use Rattle.arm64_insn.specs.declared.ldst.LoadStoreWord.TheVariants as LoadStoreWord
 use Rattle.arm64_insn.proofs.Cells.{each-cell}
 
 -- an ADRP names a register, and its immediate has 21 bits

@@ -24,13 +24,10 @@ use Rattle.arm64_insn.specs.LoadStore.{load_store_from, load_store_by, load_stor
 use Rattle.arm64_insn.specs.Fix.{scale_of, quad}
 use Rattle.arm64_insn.specs.declared.adrp.Adrp as A
 use Rattle.arm64_insn.specs.declared.adrp.AdrpWord.{AdrpWord}
-use Rattle.arm64_insn.specs.declared.adrp.AdrpWord.TheVariants as AdrpWord
 use Rattle.arm64_insn.specs.declared.add.Add as D
 use Rattle.arm64_insn.specs.declared.add.AddWord.{AddWord}
-use Rattle.arm64_insn.specs.declared.add.AddWord.TheVariants as AddWord
 use Rattle.arm64_insn.specs.declared.ldst.LoadStore as L
 use Rattle.arm64_insn.specs.declared.ldst.LoadStoreWord.{LoadStoreWord}
-use Rattle.arm64_insn.specs.declared.ldst.LoadStoreWord.TheVariants as LoadStoreWord
 use Rattle.arm64_insn.proofs.Cells.{each-cell, opc-high}
 use Rattle.arm64_insn.proofs.Manual.{decode-has, has-decode, encode-decode, decode-in-range, decode-allocated}
 use Rattle.arm64_insn.proofs.ManualClasses.{by-class}

@@ -5,7 +5,7 @@ use mathlib.Core.Bool.{true, ◌||◌}
 use Prim.Native.Nat.{ℕ, ◌+◌, ◌*◌, ◌/◌, ◌%◌, ◌^◌, ◌≤◌, ◌<◌}
 use native.Mathlib.Omega.{arith}
 use borrow.Author.Tests.{leb-true, eqb-true, le-ltb}
-use lib.Dec.{eqb, ltb, leb}
+use lib.Dec.{eqb, ltb}
 use Rattle.util.specs.Choice.{choose}
 use Rattle.util.specs.Diagram.{matches}
 use Rattle.util.proofs.Choice.{chosen, both}
@@ -18,7 +18,6 @@ use Rattle.arm64_insn.specs.LoadStore.{load_store_of}
 use Rattle.arm64_insn.specs.Literal.{has_literal_form}
 use Rattle.arm64_insn.specs.declared.ldst.LoadStore as L
 use Rattle.arm64_insn.specs.declared.ldst.LoadStoreWord.{LoadStoreWord}
-use Rattle.arm64_insn.specs.declared.ldst.LoadStoreWord.TheVariants as LoadStoreWord
 use Rattle.arm64_insn.proofs.Cells.{each-cell}
 use Rattle.arm64_insn.proofs.Decoded.{decoded-load-store}
 

@@ -13,9 +13,7 @@ use Rattle.arm64_insn.specs.Literal.{literal_opc, literal_v, literal_word}
 use Rattle.arm64_insn.specs.Branch.{branch_word}
 use Rattle.arm64_insn.specs.Fix.{scale_of, offset_with, relaxed_word}
 use Rattle.arm64_insn.specs.declared.adrp.AdrpWord.{AdrpWord}
-use Rattle.arm64_insn.specs.declared.adrp.AdrpWord.TheVariants as AdrpWord
 use Rattle.arm64_insn.specs.declared.ldst.LoadStoreWord.{LoadStoreWord}
-use Rattle.arm64_insn.specs.declared.ldst.LoadStoreWord.TheVariants as LoadStoreWord
 use Rattle.arm64_insn.specs.declared.fix.OffsetWord.TheVariants.{Word, Misaligned}
 
 -- the page that a decoded ADRP makes, and the literal form of a decoded load

@@ -20,7 +20,6 @@ use Rattle.arm64_insn.specs.declared.ldst.Moved.{Moved}
 use Rattle.arm64_insn.specs.declared.ldst.Moved.TheVariants.{Of, Neither}
 use Rattle.arm64_insn.specs.declared.ldst.LoadStore as L
 use Rattle.arm64_insn.specs.declared.ldst.LoadStoreWord.{LoadStoreWord}
-use Rattle.arm64_insn.specs.declared.ldst.LoadStoreWord.TheVariants as LoadStoreWord
 use Rattle.arm64_insn.proofs.Cells.{each-cell, opc-high, opc-low}
 
 -- what a row moves

@@ -9,7 +9,7 @@ use Rattle.util.specs.Choice.{choose}
 use Rattle.util.specs.Diagram.{matches}
 use Rattle.util.proofs.Below.{every, every-at}
 use Rattle.util.proofs.Choice.{choose-true, agree, agree-is}
-use Rattle.arm64_insn.specs.Encoding.{load_store, load_store_high}
+use Rattle.arm64_insn.specs.Encoding.{load_store_high}
 use Rattle.arm64_insn.specs.LoadStoreTable.{row_of, is_allocated, moves}
 use Rattle.arm64_insn.specs.LoadStore.{load_store_of, load_store_in}
 use Rattle.arm64_insn.specs.Manual as M

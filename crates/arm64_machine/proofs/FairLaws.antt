@@ -7,7 +7,7 @@ use Prim.Native.Nat.{ℕ, ◌<◌}
 use native.Mathlib.Omega.{arith}
 use lib.Dec.{eqb}
 use borrow.Author.Tests.{eqb-false}
-use Rattle.arm64_insn.specs.LoadStoreTable.{Row, load, store, Mnemonic, general, Widening}
+use Rattle.arm64_insn.specs.LoadStoreTable.{Row, load, Mnemonic, general, Widening}
 use Rattle.arm64_insn.specs.ManualTargets.{adr_target, literal_target, access_address, add_value}
 use Rattle.arm64_insn.specs.Page.{adrp_page}
 use Rattle.arm64_insn.specs.Links.{links31, adds31}

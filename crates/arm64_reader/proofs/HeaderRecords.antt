@@ -7,7 +7,7 @@ use Prim.Native.Nat.{ℕ, zero, suc, ◌+◌, ◌-◌, ◌/◌, ◌%◌, ◌^◌
 use native.Mathlib.Omega.{arith}
 use borrow.Author.Tests.{eq-eqb, ne_eqb, eqb-true, eqb-false, lt-ltb, le-ltb}
 use lib.ListN.{length, drop}
-use lib.Dec.{eqb, ltb}
+use lib.Dec.{eqb}
 use lib.Pow.{pow_mono}
 use Rattle.util.specs.Bits.{extend}
 use Rattle.util.specs.Choice.{choose}
@@ -44,7 +44,7 @@ use Rattle.arm64_reader.specs.Header.{Referent, section, Signing, not-signed, si
 use Rattle.arm64_reader.specs.Header.{referent_of, pointer_of, Known}
 use Rattle.arm64_reader.specs.Said.{named_by, signing_of, say_one}
 use Rattle.arm64_reader.proofs.AuthenticatedRecords.{authenticated-fields, authenticated-symbol, check-passing, StepSigns, record-signs}
-use Rattle.arm64_reader.proofs.Fields.{Says, entry, record-says}
+use Rattle.arm64_reader.proofs.Fields.{Says, record-says}
 use Rattle.arm64_reader.proofs.HeaderForms.{supported-is, size-at-least}
 
 -- ---- a record that reads

@@ -5,7 +5,7 @@ use mathlib.Core.Path.{◌≡◌, refl, sym, ap, ap₂, subst, subst₂, ◌∙�
 use mathlib.Core.Logic.{◌⊎◌, inl, inr, ⊎_elim}
 use mathlib.Core.Bool.{Bool, true, false, ◌||◌, or-true, true≢false, false≢true}
 use mathlib.Core.List.{List, [], ◌∷◌}
-use Prim.Native.Nat.{ℕ, ◌+◌, ◌-◌, ◌*◌, ◌/◌, ◌%◌, ◌^◌, ◌<◌, ◌≤◌}
+use Prim.Native.Nat.{ℕ, ◌+◌, ◌*◌, ◌/◌, ◌%◌, ◌^◌, ◌<◌, ◌≤◌}
 use native.Mathlib.Omega.{arith}
 use borrow.Author.Tests.{eq-eqb, ne_eqb, eqb-true, ltb-true, ltb-false}
 use lib.ListN.{length, drop, length-drop}
@@ -29,11 +29,11 @@ use Rattle.arch.specs.declared.step.Step.{Step}
 use Rattle.arm64_reader.specs.Check.{pointer32}
 use Rattle.arm64_reader.specs.Record.{record_of}
 use Rattle.arm64_reader.specs.Read.{read_records, read_relocs}
-use Rattle.arm64_reader.specs.Header.{Referent, symbol, section, Less, nothing, less, Relocation, is_defined, takes_addend, referent_of, pointer_of, word_of}
+use Rattle.arm64_reader.specs.Header.{Referent, Less, nothing, less, Relocation, is_defined, takes_addend, referent_of, pointer_of, word_of}
 use Rattle.arm64_reader.specs.Header.{authenticated_of, not-authenticated}
 use Rattle.arm64_reader.specs.Header.{Reason, lack_of, subtractor-last, subtractor-type, subtractor-place, subtractor-size}
 use Rattle.arm64_reader.specs.Header.{addend-form, addend-last, addend-type, addend-place}
-use Rattle.arm64_reader.specs.Header.{is_tolerated, Pending, none, minus, plus, Turn, give, Meaning, undefined, relocations}
+use Rattle.arm64_reader.specs.Header.{is_tolerated, Pending, none, minus, plus, Turn, Meaning, undefined, relocations}
 use Rattle.arm64_reader.specs.Header.{with_first, follow, meaning_from, meaning_of, Known, Present, is_lone_pointer32, has_lone_pointer32}
 use Rattle.arm64_reader.specs.Said.{named_by, say_one, said_from, said}
 use Rattle.arm64_reader.proofs.Lengths.{enough}

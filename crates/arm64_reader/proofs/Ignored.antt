@@ -24,8 +24,6 @@ use Rattle.arch.specs.Join.{joined}
 use Rattle.arch.specs.Table.{record_at, subtracted_at}
 use Rattle.arch.specs.Target.{section_target, target_of}
 use Rattle.arch.specs.Walk.{Reading, before, after, read_from, read_all, Fills}
-use Rattle.arch.specs.declared.target.Target.{Target}
-use Rattle.macho.specs.declared.refusal.Check.{Check}
 use Rattle.arch.specs.declared.step.Step.{Step}
 use Rattle.arch.specs.declared.step.Step.TheVariants as S
 use Rattle.arch.proofs.Walk.{Ends, turn_suc}

@@ -10,7 +10,6 @@ use borrow.Author.Tests.{le-ltb, ltb-true, ltb-false, eqb-true, eqb-false}
 use lib.ListN.{length, drop, replicate, length-append, length-map}
 use lib.Dec.{eqb, ltb}
 use Rattle.util.specs.Choice.{choose}
-use Rattle.util.specs.Word.{le}
 use Rattle.util.proofs.Bytes.{le-append-left}
 use Rattle.macho.specs.MachRel.{type_of, p2size_of}
 use Rattle.macho.specs.Reloc.{with_signing}

@@ -2,33 +2,30 @@
 use mathlib.Core.Path.{◌≡◌, refl, sym, ap, subst, ◌∙◌}
 use mathlib.Core.Bool.{Bool, true, false}
 use mathlib.Core.List.{List, [], ◌∷◌, map}
-use Prim.Native.Nat.{ℕ, zero, suc, ◌+◌, ◌-◌, ◌*◌, ◌/◌, ◌%◌, ◌^◌, ◌<◌, ◌≤◌}
+use Prim.Native.Nat.{ℕ, zero, suc, ◌*◌, ◌/◌, ◌^◌, ◌<◌}
 use native.Mathlib.Nat.{not-suc-le-zero}
 use native.Mathlib.Omega.{arith}
 use lib.Dec.{eqb, ltb, lit<, lit≤}
 use lib.ListN.{length, get_or, drop, get_or-eq_default}
 use borrow.Author.Tests.{ltb-true, ltb-false}
-use Rattle.util.specs.Bits.{extend}
 use Rattle.util.specs.Choice.{choose, flag}
 use Rattle.util.specs.Word.{le}
-use Rattle.util.specs.Wrap.{diff}
 use Rattle.util.proofs.Choice.{chosen}
 use Rattle.util.proofs.Extend.{extend-lt}
 use Rattle.util.proofs.Word.{le-lt}
 use Rattle.macho.specs.MachRel.{mach_rel_at, idx_of, p2size_of, extern_of, type_of}
-use Rattle.macho.specs.Record.{Fits, list_bytes}
-use Rattle.macho.specs.Reloc.{reloc_size, reloc_at, reloc_fields, reloc_bytes}
+use Rattle.macho.specs.Record.{Fits}
+use Rattle.macho.specs.Reloc.{reloc_size, reloc_at, reloc_fields}
 use Rattle.macho.specs.Types.{ARM64_RELOC_UNSIGNED, ARM64_RELOC_SUBTRACTOR, ARM64_RELOC_AUTHENTICATED_POINTER}
 use Rattle.macho.proofs.RoundTrip as Records
 use Rattle.macho.proofs.Signing.{signing-lt}
 use Rattle.macho.specs.declared.mach_rel.MachRel.{MachRel}
 use Rattle.macho.specs.declared.reloc.Reloc.{Reloc}
 use Rattle.arch.specs.Table.{records_of, record_at, subtracted_at}
-use Rattle.arch.specs.Target.{target_in, addend_in}
 use Rattle.arch.specs.Walk.{Reading, entries, slots_after}
 use Rattle.arch.proofs.Records.{record_is, length-records}
 use Rattle.arm64_reader.specs.Fields.{is_addend, starts, own_of, given_of, held_in, signed_by, entry_from}
-use Rattle.arm64_reader.specs.Read.{read_records, read_relocs, slots_to}
+use Rattle.arm64_reader.specs.Read.{read_relocs, slots_to}
 use Rattle.arm64_reader.proofs.Fields as Fields
 use Rattle.arm64_reader.proofs.Lengths as Lengths
 

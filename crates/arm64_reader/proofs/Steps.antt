@@ -6,7 +6,7 @@ use Prim.Native.Nat.{ℕ, ◌+◌, ◌-◌, ◌/◌, ◌<◌, ◌≤◌}
 use native.Mathlib.Omega.{arith}
 use borrow.Author.Tests.{eq-eqb, ne_eqb, lt-ltb, le-ltb, ltb-true}
 use lib.ListN.{length, drop}
-use lib.Dec.{eqb, ltb}
+use lib.Dec.{ltb}
 use Rattle.util.specs.Bits.{extend}
 use Rattle.util.specs.Choice.{choose}
 use Rattle.util.proofs.Choice.{split, chosen, choose-true}
@@ -16,7 +16,7 @@ use Rattle.macho.specs.Types.{ARM64_RELOC_ADDEND}
 use Rattle.macho.specs.declared.mach_rel.MachRel.{MachRel}
 use Rattle.macho.specs.declared.reloc.Reloc.{Reloc}
 use Rattle.macho.specs.declared.refusal.Refusal.TheVariants.{Bounds, LoneAddend}
-use Rattle.arch.specs.Entry.{entry_of, targeted}
+use Rattle.arch.specs.Entry.{entry_of}
 use Rattle.arch.specs.Table.{records_of, record_at, subtracted_at}
 use Rattle.arch.specs.Walk.{read_all}
 use Rattle.arch.specs.declared.step.Step.{Step}
@@ -27,7 +27,7 @@ use Rattle.arch.proofs.Walk.{passing-ends, passing-reads}
 use Rattle.arm64_reader.specs.declared.record.Addend.{Addend}
 use Rattle.arm64_reader.specs.declared.record.Addend.TheVariants.{Held, Refused}
 use Rattle.arm64_reader.specs.Check.{check_reloc}
-use Rattle.arch.specs.Walk.{passing, Reads}
+use Rattle.arch.specs.Walk.{Reads}
 use Rattle.arm64_reader.specs.Record.{addend_of, adding, authenticated_record, entered, record_of, own_at, step_at}
 use Rattle.arm64_reader.specs.Plain.{plain_of}
 use Rattle.arm64_reader.proofs.PlainRecords.{plain-reads}

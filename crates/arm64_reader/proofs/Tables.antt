@@ -16,7 +16,7 @@ use Rattle.macho.specs.declared.reloc.Reloc.{Reloc}
 use Rattle.macho.specs.declared.refusal.Refusal.{Refusal}
 use Rattle.macho.specs.declared.refusal.Refusal.TheVariants.{Bounds, LoneAddend}
 use Rattle.arch.specs.Entry.{entry_of}
-use Rattle.arch.specs.Join.{joined, mapped, moved}
+use Rattle.arch.specs.Join.{joined, moved}
 use Rattle.arch.specs.Table.{records_of, record_at}
 use Rattle.arch.specs.Walk.{read_all, Fills}
 use Rattle.arch.specs.declared.step.Step.{Step}

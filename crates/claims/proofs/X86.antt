@@ -1,7 +1,7 @@
 -- The reader of x86_64: the laws of its crate, and those of `arch` of its lengths.
 use mathlib.Core.Path.{refl}
 use mathlib.Core.List.{[]}
-use Prim.Native.Nat.{zero-le, ◌-◌}
+use Prim.Native.Nat.{zero-le}
 use native.Mathlib.Omega.{arith}
 use lib.ListN.{length}
 use Rattle.util.specs.Choice.{choose}

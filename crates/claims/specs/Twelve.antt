@@ -10,9 +10,7 @@ use Rattle.arm64_insn.specs.Adrp.{adrp_of, adr_word}
 use Rattle.arm64_insn.specs.LoadStore.{load_store_of}
 use Rattle.arm64_insn.specs.Literal.{literal_word}
 use Rattle.arm64_insn.specs.declared.adrp.AdrpWord.{AdrpWord}
-use Rattle.arm64_insn.specs.declared.adrp.AdrpWord.TheVariants as AdrpWord
 use Rattle.arm64_insn.specs.declared.ldst.LoadStoreWord.{LoadStoreWord}
-use Rattle.arm64_insn.specs.declared.ldst.LoadStoreWord.TheVariants as LoadStoreWord
 use Rattle.arm64_reader.specs.Read.{read_relocs}
 use Rattle.arm64_hint_run.specs.Run.{run_of, image_of}
 use Rattle.arm64_hint_run.specs.declared.run.RunAnswer.TheVariants.{Done}

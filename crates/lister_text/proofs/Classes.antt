@@ -3,12 +3,9 @@ use mathlib.Core.Path.{◌≡◌, sym}
 use mathlib.Core.Bool.{true, false}
 use Rattle.util.proofs.Choice.{choose-true, choose-false}
 use Rattle.arm64_insn.specs.declared.adrp.AdrpWord.{AdrpWord}
-use Rattle.arm64_insn.specs.declared.adrp.AdrpWord.TheVariants as AdrpWord
 use Rattle.arm64_insn.specs.declared.add.AddWord.{AddWord}
-use Rattle.arm64_insn.specs.declared.add.AddWord.TheVariants as AddWord
 use Rattle.arm64_insn.specs.declared.ldst.LoadStore as L
 use Rattle.arm64_insn.specs.declared.ldst.LoadStoreWord.{LoadStoreWord}
-use Rattle.arm64_insn.specs.declared.ldst.LoadStoreWord.TheVariants as LoadStoreWord
 use Rattle.lister_text.specs.Class.{class_by}
 use Rattle.lister_text.specs.declared.class.Class.TheVariants.{Load, Store}
 

@@ -18,7 +18,6 @@ use Rattle.macho.specs.Resolved.{resolved_size, resolved_at, resolved_fields, re
 use Rattle.macho.specs.Report.{report_size, report_at, report_fields, report_bytes}
 use Rattle.macho.specs.Hint.{hint_size, insn_at, hint_at, hint_fields, hint_bytes}
 use Rattle.macho.specs.RuleRecord.{rule_record_size, rule_record_at, rule_record_fields, rule_record_bytes}
-use Rattle.macho.specs.declared.reloc.Reloc.{Reloc}
 use Rattle.macho.proofs.Record.{length-bytes_of, HoldsFrom, held, part_held, held-ext, held-unused}
 
 -- a kind of record: its size, the value from a byte on, a value's fields and a value's bytes.

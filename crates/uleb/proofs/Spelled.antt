@@ -9,7 +9,6 @@ use lib.Dec.{ltb}
 use lib.ListN.{length, replicate}
 use lib.Pow.{pow-add, shr_lt}
 use Rattle.util.specs.All.{All, empty, more}
-use Rattle.util.specs.Choice.{choose}
 use Rattle.util.proofs.Choice.{split, choose-true, choose-false}
 use Rattle.uleb.specs.Values.{Values, ended, cut, next, below, values_of}
 use Rattle.uleb.specs.Shortest.{uleb_within, uleb_of}

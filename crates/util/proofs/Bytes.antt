@@ -1,5 +1,5 @@
 -- Words as lists of bytes: what records are made of and read from.
-use Rattle.std.proofs.Common.{◌≡◌, ℕ, zero, suc, ◌+◌, ◌-◌, ◌*◌, ◌/◌, ◌%◌, ◌^◌, ◌<◌, ◌≤◌, ◌⊎◌, List, [], ◌∷◌, ◌++◌, length, get_or, take, drop, set, sym, refl, ap, ◌∙◌, ⊎_elim, le_of_suc-le-suc, not-suc-le-zero, add_assoc, mod-eq_of_lt, mul_comm, add_comm, eq-or-lt_of_le, zero-add, arith, get_or-drop, get_or-take, get_or-append-add, ext_get_or}
+use Rattle.std.proofs.Common.{◌≡◌, ℕ, zero, suc, ◌+◌, ◌-◌, ◌*◌, ◌/◌, ◌%◌, ◌^◌, ◌<◌, ◌≤◌, List, [], ◌∷◌, ◌++◌, length, get_or, drop, set, sym, refl, ap, ◌∙◌, ⊎_elim, le_of_suc-le-suc, not-suc-le-zero, add_assoc, mod-eq_of_lt, mul_comm, add_comm, eq-or-lt_of_le, zero-add, arith, get_or-drop, get_or-take, get_or-append-add, ext_get_or}
 use lib.ListN.{get_or-append}
 use lib.Pow.{high, low, mod-mod-pow, field}
 use lib.Seq.{sets, set-get_or, get_or-append_seam}

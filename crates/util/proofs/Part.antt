@@ -1,7 +1,7 @@
 -- Parts of a list: a write in a part, seen in the whole.
 use Rattle.std.proofs.Common.{◌≡◌, ℕ, zero, suc, ◌+◌, ◌*◌, ◌/◌, ◌%◌, ◌^◌, ◌<◌, ◌≤◌, List, [], ◌∷◌, ◌++◌, length, get_or, take, drop, set, sym, refl, ap, ◌∙◌, append_assoc, add-zero, add_assoc, add-suc, suc-add, zero-add, arith, length-append, length-drop, take-append-drop, length-take, length-take-le, drop-cons}
 use lib.Seq.{set-append_left, set_at}
-use Rattle.util.specs.Word.{le, put, bytes}
+use Rattle.util.specs.Word.{put, bytes}
 use Rattle.util.specs.Part.{part, splice}
 use Rattle.util.proofs.Word.{length-put}
 

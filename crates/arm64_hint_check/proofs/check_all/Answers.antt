@@ -1,7 +1,6 @@
 -- `check_all`: the lists first, then the hints.
 use mathlib.Core.Path.{sym, ◌∙◌}
 use Rattle.arm64_hint_check.proofs.Checks.{says-refused, all-refused, all-hints}
-use borrow.Author.Rules.{rules}
 use Rattle.arm64_hint_check.proofs.check_all.Goals as goal
 
 pub returns-in-Refused : goal.returns-in-Refused

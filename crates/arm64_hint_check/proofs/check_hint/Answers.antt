@@ -3,7 +3,6 @@ use mathlib.Core.Path.{sym, ◌∙◌}
 use borrow.Author.Tests.{lt-ltb, le-ltb}
 use Rattle.util.specs.Choice.{choose}
 use Rattle.arm64_hint_check.specs.Check.{check_hint}
-use borrow.Author.Rules.{rules}
 use Rattle.arm64_hint_check.proofs.check_hint.Goals as goal
 
 pub returns-then-is_skipped : goal.returns-then-is_skipped

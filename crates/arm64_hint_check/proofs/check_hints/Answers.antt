@@ -1,16 +1,14 @@
 -- `check_hints`: the hints before position k are fit, with whether their object numbers never fall; the first that is not fit ends the walk.
 use borrow.Author.Rules.{rules}
 use mathlib.Core.Path.{◌≡◌, refl, sym, ap, ◌∙◌}
-use mathlib.Core.Logic.{⊎_elim}
 use mathlib.Core.Bool.{◌&&◌}
-use Prim.Native.Nat.{◌-◌, ◌≤◌, zero-le}
+use Prim.Native.Nat.{zero-le}
 use native.Mathlib.Omega.{arith}
 use lib.Dec.{leb}
 use Rattle.macho.specs.declared.hint.HintRecord.{HintRecord}
 use Rattle.macho.specs.Hint.{hint_count}
-use Rattle.macho.specs.declared.refusal.Check.TheVariants.{Fit}
 use Rattle.arm64_hint_order.specs.Cursor.{object_at}
-use Rattle.arm64_hint_order.specs.Walk.{grouped, last_of}
+use Rattle.arm64_hint_order.specs.Walk.{grouped}
 use Rattle.arm64_hint_check.specs.Check.{check_hint, check_to}
 use Rattle.arm64_hint_check.proofs.Checks.{check-more, check-stop, grouped-more, and-true, and-false, object-is, says-refused, says-fit}
 use Rattle.arm64_hint_check.proofs.check_hints.Goals as goal
@@ -31,8 +29,7 @@ pub loop-k-preserved : goal.loop-k-preserved
 loop-k-preserved c =
     let more : c.if-grouped.grouped ≡ (c.loop-k.grouped && leb c.loop-k.last c.read-h.result.object) =
     elim c.if-grouped.branch [ then-grouped w ↦ and-true w.if-grouped.true w.grouped-is | else-grouped w ↦ and-false _ w.if-grouped.false w.grouped-is ] in
-    let t = grouped-more (object_at c.args.hints.now) c.loop-k.k c.loop-k.invariant.2 c.loop-k.invariant.3 (object-is c.args.hints.now c.loop-k.k c.read-h.ensures) more in
-    (
+    let t = grouped-more (object_at c.args.hints.now) c.loop-k.k c.loop-k.invariant.2 c.loop-k.invariant.3 (object-is c.args.hints.now c.loop-k.k c.read-h.ensures) more in (
       search rules,
       check-more c.args.len c.args.count c.args.hints.now c.loop-k.k c.loop-k.invariant.1
           (ap (λ (h : HintRecord). check_hint c.args.len c.args.count h) (sym c.read-h.ensures)

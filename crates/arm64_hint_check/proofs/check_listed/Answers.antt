@@ -2,7 +2,6 @@
 use mathlib.Core.Path.{sym, ◌∙◌}
 use Rattle.arm64_hint_check.proofs.Checks.{says-refused}
 use Rattle.arm64_hint_check.proofs.Listed.{listed-lists, listed-slots, listed-hints}
-use borrow.Author.Rules.{rules}
 use Rattle.arm64_hint_check.proofs.check_listed.Goals as goal
 
 pub returns-in-Refused : goal.returns-in-Refused

@@ -1,8 +1,6 @@
 -- `check_lists`: both lists are whole, or number 1.
-use borrow.Author.Tests.{not-true, not-false}
 use Rattle.util.specs.Choice.{choose}
 use Rattle.arm64_hint_check.specs.Check.{check_lists}
-use borrow.Author.Rules.{rules}
 use Rattle.arm64_hint_check.proofs.check_lists.Goals as goal
 
 pub returns-then-not-is_list : goal.returns-then-not-is_list

@@ -1,7 +1,6 @@
 -- `check_slots`: the one test.
 use Rattle.arm64_hint_check.proofs.Listed.{slots-short, slots-room}
 use mathlib.Core.Path.{sym}
-use borrow.Author.Rules.{rules}
 use Rattle.arm64_hint_check.proofs.check_slots.Goals as goal
 
 pub returns-then-slots-hints : goal.returns-then-slots-hints

@@ -2,7 +2,6 @@
 use mathlib.Core.Path.{sym, ◌∙◌}
 use Rattle.arm64_hint_check.specs.Check.{names_absent}
 use Rattle.arm64_hint_check.proofs.Checks.{any-first, any-second, any-third, any_none}
-use borrow.Author.Rules.{rules}
 use Rattle.arm64_hint_check.proofs.entry_absent.Goals as goal
 
 pub returns-then-names_absent : goal.returns-then-names_absent

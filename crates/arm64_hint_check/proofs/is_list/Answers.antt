@@ -1,7 +1,6 @@
 -- `is_list`: whole records, then their number.
 use borrow.Author.Tests.{eq-eqb, ne_eqb}
 use Rattle.arm64_hint_check.specs.Check.{is_list}
-use borrow.Author.Rules.{rules}
 use Rattle.arm64_hint_check.proofs.is_list.Goals as goal
 
 pub returns-then-len-size-eq0 : goal.returns-then-len-size-eq0

@@ -2,7 +2,6 @@
 use mathlib.Core.Path.{sym, ◌∙◌}
 use Rattle.arm64_hint_check.specs.Check.{ends_past}
 use Rattle.arm64_hint_check.proofs.Checks.{any-first, any-second, any-third, any_none}
-use borrow.Author.Rules.{rules}
 use Rattle.arm64_hint_check.proofs.word_past.Goals as goal
 
 pub returns-then-ends_past : goal.returns-then-ends_past

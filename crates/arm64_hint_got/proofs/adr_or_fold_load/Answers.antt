@@ -1,8 +1,6 @@
 -- `adr_or_fold_load`: the reach decides.
-use borrow.Author.Tests.{not-true, not-false}
 use Rattle.util.specs.Choice.{choose}
 use Rattle.arm64_hint_got.specs.Got.{adr_or_fold_load}
-use borrow.Author.Rules.{rules}
 use Rattle.arm64_hint_got.proofs.adr_or_fold_load.Goals as goal
 
 pub returns-then-not-within_1mb : goal.returns-then-not-within_1mb

@@ -1,9 +1,7 @@
 -- `adrp_ldr_got`: by the stage's answer, then the reach; what the stage tells bounds the register.
-use borrow.Author.Tests.{not-true, not-false}
 use Rattle.util.specs.Choice.{choose}
 use Rattle.arm64_hint_got.specs.Got.{adrp_ldr_got}
 use Rattle.arm64_hint_got.proofs.Loads.{slot-register, relaxed-add}
-use borrow.Author.Rules.{rules}
 use Rattle.arm64_hint_got.proofs.adrp_ldr_got.Goals as goal
 
 pub returns-then-not-within_1mb : goal.returns-then-not-within_1mb

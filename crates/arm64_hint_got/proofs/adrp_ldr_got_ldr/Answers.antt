@@ -3,7 +3,6 @@ use borrow.Author.Tests.{eq-eqb, ne_eqb}
 use Rattle.util.specs.Choice.{choose}
 use Rattle.arm64_hint_got.specs.Got.{adrp_ldr_got_ldr}
 use Rattle.arm64_hint_got.proofs.Loads.{slot-register, relaxed-operands}
-use borrow.Author.Rules.{rules}
 use Rattle.arm64_hint_got.proofs.adrp_ldr_got_ldr.Goals as goal
 
 pub returns-in_default : goal.returns-in_default

@@ -4,7 +4,6 @@ use borrow.Author.Tests.{le-ltb, lt-ltb, eq-eqb, ne_eqb}
 use Rattle.util.specs.Choice.{choose}
 use Rattle.arm64_hint_got.specs.Got.{fold_load}
 use Rattle.arm64_hint_terms.proofs.Ways.{rebased}
-use borrow.Author.Rules.{rules}
 use Rattle.arm64_hint_got.proofs.fold_load.Goals as goal
 
 pub returns-then-target-size-ne0 : goal.returns-then-target-size-ne0

@@ -1,8 +1,7 @@
 -- `got_literal`: the sum, then the four tests in the definition's order.
-use borrow.Author.Tests.{eq-eqb, ne_eqb, not-true, not-false}
+use borrow.Author.Tests.{eq-eqb, ne_eqb}
 use Rattle.util.specs.Choice.{choose}
 use Rattle.arm64_hint_got.specs.Got.{got_literal, slot_to}
-use borrow.Author.Rules.{rules}
 use Rattle.arm64_hint_got.proofs.got_literal.Goals as goal
 
 pub returns-in_default : goal.returns-in_default

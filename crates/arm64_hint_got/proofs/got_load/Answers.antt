@@ -1,8 +1,6 @@
 -- `got_load`: each word decoded or not, a load or store before an ADD.
-use borrow.Author.Tests.{not-true, not-false}
 use Rattle.util.specs.Choice.{choose}
 use Rattle.arm64_hint_got.specs.Got.{got_load}
-use borrow.Author.Rules.{rules}
 use Rattle.arm64_hint_got.proofs.got_load.Goals as goal
 
 pub returns-then-not-pair : goal.returns-then-not-pair

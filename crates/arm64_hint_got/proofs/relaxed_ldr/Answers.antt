@@ -1,8 +1,7 @@
 -- `relaxed_ldr`: the two tests before the sum, the sum, then the reach.
-use borrow.Author.Tests.{eq-eqb, ne_eqb, not-true, not-false}
+use borrow.Author.Tests.{eq-eqb, ne_eqb}
 use Rattle.util.specs.Choice.{choose}
 use Rattle.arm64_hint_got.specs.Got.{relaxed_ldr, relaxed_to}
-use borrow.Author.Rules.{rules}
 use Rattle.arm64_hint_got.proofs.relaxed_ldr.Goals as goal
 
 pub returns-then-not-has_literal_form : goal.returns-then-not-has_literal_form

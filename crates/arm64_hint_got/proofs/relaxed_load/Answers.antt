@@ -2,7 +2,6 @@
 use borrow.Author.Tests.{eq-eqb, ne_eqb}
 use Rattle.util.specs.Choice.{choose}
 use Rattle.arm64_hint_got.specs.Got.{relaxed_load}
-use borrow.Author.Rules.{rules}
 use Rattle.arm64_hint_got.proofs.relaxed_load.Goals as goal
 
 pub returns-then-d-a : goal.returns-then-d-a

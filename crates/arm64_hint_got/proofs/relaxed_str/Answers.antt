@@ -1,8 +1,6 @@
 -- `relaxed_str`: the reach decides.
-use borrow.Author.Tests.{not-true, not-false}
 use Rattle.util.specs.Choice.{choose}
 use Rattle.arm64_hint_got.specs.Got.{relaxed_str}
-use borrow.Author.Rules.{rules}
 use Rattle.arm64_hint_got.proofs.relaxed_str.Goals as goal
 
 pub returns-then-not-within_1mb : goal.returns-then-not-within_1mb

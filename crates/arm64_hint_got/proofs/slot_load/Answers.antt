@@ -1,8 +1,6 @@
 -- `slot_load`: whether it loads a slot, then the sum.
-use borrow.Author.Tests.{not-true, not-false}
 use Rattle.util.specs.Choice.{choose}
 use Rattle.arm64_hint_got.specs.Got.{slot_load}
-use borrow.Author.Rules.{rules}
 use Rattle.arm64_hint_got.proofs.slot_load.Goals as goal
 
 pub returns-then-not-loads_slot : goal.returns-then-not-loads_slot

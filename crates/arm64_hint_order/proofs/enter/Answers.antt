@@ -1,6 +1,5 @@
 -- `enter` meets its contract: from lo up to hi stand all hints of the object.
 use Rattle.arm64_hint_order.proofs.Walk.{entered-grouped, entered-apart}
-use borrow.Author.Rules.{rules}
 use Rattle.arm64_hint_order.proofs.enter.Goals as goal
 
 pub group_end-hi-requires : goal.group_end-hi-requires

@@ -1,10 +1,7 @@
 -- `group_end` meets its contract: where the last hint has p's object, so have all from p on; else all from p up to k have it.
-use mathlib.Core.Path.{◌≡◌, sym, ap, ◌∙◌}
-use Prim.Native.Nat.{ℕ, ◌-◌, ◌≤◌, ◌<◌}
+use mathlib.Core.Path.{sym, ap, ◌∙◌}
 use native.Mathlib.Omega.{arith}
-use borrow.Author.Rules.{rules}
 use Rattle.util.proofs.Cases.{same_or}
-use Rattle.macho.specs.Hint.{hint_count}
 use Rattle.arm64_hint_order.specs.Cursor.{object_at}
 use Rattle.arm64_hint_order.proofs.Walk.{group-to-end}
 use Rattle.arm64_hint_order.proofs.group_end.Goals as goal
@@ -32,14 +29,13 @@ returns-then-object_at-o-2 c =
     }
 
 pub loop-k-preserved : goal.loop-k-preserved
-loop-k-preserved c =
-    (
-      omega arith,
-      omega arith,
-      λ j h g. same_or j c.loop-k.k
-          (λ e. ap (object_at c.args.hints.now) e ∙ sym c.object_at-in-loop-k.ensures ∙ c.if-object_at-o-2.false ∙ c.object_at-o.ensures)
-          (λ ne. c.loop-k.invariant.2 j h (omega arith)),
-    )
+loop-k-preserved c = (
+  omega arith,
+  omega arith,
+  λ j h g. same_or j c.loop-k.k
+      (λ e. ap (object_at c.args.hints.now) e ∙ sym c.object_at-in-loop-k.ensures ∙ c.if-object_at-o-2.false ∙ c.object_at-o.ensures)
+      (λ ne. c.loop-k.invariant.2 j h (omega arith)),
+)
 
 pub returns : goal.returns
 returns c =

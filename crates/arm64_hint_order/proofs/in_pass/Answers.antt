@@ -1,6 +1,5 @@
 -- `in_pass` meets its contract: the two tests of `in_pass`, in order.
 use borrow.Author.Tests.{eq-eqb, ne_eqb}
-use borrow.Author.Rules.{rules}
 use Rattle.arm64_hint_order.proofs.in_pass.Goals as goal
 
 pub returns-then-object_at-o : goal.returns-then-object_at-o

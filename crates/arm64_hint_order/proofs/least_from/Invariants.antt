@@ -1,7 +1,5 @@
 -- `least_from` meets its contract: `lesser`, one hint after another.
 use Prim.Native.Nat.{◌-◌, ◌≤◌}
-use native.Mathlib.Omega.{arith}
-use borrow.Author.Rules.{rules}
 use Rattle.macho.specs.Hint.{hint_count}
 use Rattle.arm64_hint_order.specs.Walk.{Least}
 use Rattle.arm64_hint_order.proofs.least_from.Given as goal

@@ -1,7 +1,6 @@
 -- `lesser` meets its contract: each answer is no worse than the best so far, nor than k.
 use native.Mathlib.Omega.{arith}
 use Rattle.arm64_hint_order.proofs.Walk.{least_more}
-use borrow.Author.Rules.{rules}
 use Rattle.arm64_hint_order.proofs.lesser.Goals as goal
 
 pub returns-then-x-o : goal.returns-then-x-o

@@ -2,7 +2,6 @@
 use mathlib.Core.Path.{sym, ◌∙◌}
 use mathlib.Core.Bool.{true≢false}
 use Rattle.arm64_hint_order.proofs.Walk.{cut_at, cut-least}
-use borrow.Author.Rules.{rules}
 use Rattle.arm64_hint_order.proofs.position_from.Goals as goal
 
 pub returns-then-grouped : goal.returns-then-grouped

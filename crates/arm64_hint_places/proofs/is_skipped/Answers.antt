@@ -1,7 +1,6 @@
 -- `is_skipped`: no such kind, or the word count against the kind's.
 use borrow.Author.Tests.{eq-eqb, ne_eqb}
 use Rattle.arm64_hint_places.specs.Hint.{is_skipped}
-use borrow.Author.Rules.{rules}
 use Rattle.arm64_hint_places.proofs.is_skipped.Goals as goal
 
 pub returns-then-n-eq0 : goal.returns-then-n-eq0

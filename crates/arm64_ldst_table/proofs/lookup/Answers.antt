@@ -8,7 +8,6 @@ use Rattle.arm64_ldst_class.specs.Entry.{entry_of}
 use Rattle.arm64_ldst_class.specs.Row.{class_of_index}
 use Rattle.arm64_ldst_class.proofs.High.{class-high}
 use Rattle.util.proofs.Listed.{listed}
-use borrow.Author.Rules.{rules}
 use Rattle.arm64_ldst_table.proofs.lookup.Goals as goal
 
 pub returns : goal.returns

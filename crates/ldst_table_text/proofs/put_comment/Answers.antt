@@ -4,7 +4,6 @@ use Rattle.util.proofs.Puts.{put_then}
 use Rattle.ldst_table_text.specs.Text.{comment_of}
 use Rattle.ldst_table_rows.proofs.NameLaws.{name-length}
 use Rattle.ldst_table_text.proofs.Lines.{class-length}
-use borrow.Author.Rules.{rules}
 use Rattle.ldst_table_text.proofs.put_comment.Goals as goal
 
 pub put_moves-end-requires : goal.put_moves-end-requires

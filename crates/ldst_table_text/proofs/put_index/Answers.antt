@@ -1,6 +1,5 @@
 -- `put_index` meets its contract: three digits. Assumes nothing.
 use Rattle.ldst_table_text.proofs.Lines.{three-digits}
-use borrow.Author.Rules.{rules}
 use Rattle.ldst_table_text.proofs.put_index.Goals as goal
 
 pub returns : goal.returns

@@ -3,7 +3,6 @@ use native.Mathlib.Omega.{arith}
 use Rattle.util.proofs.Puts.{put_then}
 use Rattle.ldst_table_text.specs.Text.{entry_line}
 use Rattle.ldst_table_text.proofs.Lines.{number-length}
-use borrow.Author.Rules.{rules}
 use Rattle.ldst_table_text.proofs.put_line.Goals as goal
 
 pub put_comment-requires : goal.put_comment-requires

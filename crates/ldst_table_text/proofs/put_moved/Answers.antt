@@ -1,6 +1,5 @@
 -- `put_moved` meets its contract: one of two texts. Assumes nothing.
 use Rattle.util.specs.Choice.{choose}
-use borrow.Author.Rules.{rules}
 use Rattle.ldst_table_text.proofs.put_moved.Goals as goal
 
 pub returns-then-stores : goal.returns-then-stores

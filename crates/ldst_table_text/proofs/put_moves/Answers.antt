@@ -4,7 +4,6 @@ use Rattle.text.proofs.Decimal.{decimal-length}
 use Rattle.util.proofs.Puts.{put_then}
 use Rattle.ldst_table_text.specs.Text.{class_text}
 use Rattle.ldst_table_text.proofs.Lines.{moved_length}
-use borrow.Author.Rules.{rules}
 use Rattle.ldst_table_text.proofs.put_moves.Goals as goal
 
 pub put_decimal-registers-requires : goal.put_decimal-registers-requires

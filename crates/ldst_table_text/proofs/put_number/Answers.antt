@@ -2,7 +2,6 @@
 use borrow.Author.Tests.{lt-ltb, le-ltb}
 use Rattle.util.specs.Choice.{choose}
 use Rattle.ldst_table_text.proofs.Lines.{three-digits}
-use borrow.Author.Rules.{rules}
 use Rattle.ldst_table_text.proofs.put_number.Goals as goal
 
 pub returns-then-x-lt100 : goal.returns-then-x-lt100

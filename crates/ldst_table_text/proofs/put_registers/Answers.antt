@@ -1,6 +1,5 @@
 -- `put_registers` meets its contract: one of two texts. Assumes nothing.
 use Rattle.util.specs.Choice.{choose}
-use borrow.Author.Rules.{rules}
 use Rattle.ldst_table_text.proofs.put_registers.Goals as goal
 
 pub returns-then-vector : goal.returns-then-vector

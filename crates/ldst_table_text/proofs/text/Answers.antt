@@ -3,7 +3,6 @@ use native.Mathlib.Omega.{arith}
 use Rattle.util.proofs.Puts.{put_then}
 use Rattle.ldst_table_text.specs.Text.{table_text}
 use Rattle.ldst_table_text.proofs.Lines.{opening-length, lines-length, counts}
-use borrow.Author.Rules.{rules}
 use Rattle.ldst_table_text.proofs.text.Goals as goal
 
 pub put_lines-close-requires : goal.put_lines-close-requires
@@ -19,6 +18,6 @@ unfolding table_text
 returns c =
     let p = put_then c.put_opening-first.ensures (put_then c.put_lines-close.ensures c.put.ensures) in
     record {
-  puts = p;
-  upper_bound = counts p;
-}
+      puts = p;
+      upper_bound = counts p;
+    }

@@ -1,7 +1,6 @@
 -- `hex` meets its contract, digit by digit. Assumes nothing.
 use native.Mathlib.Nat.{div-one}
 use Rattle.lister_text.specs.Text.{hex_of}
-use borrow.Author.Rules.{rules}
 use Rattle.lister_text.proofs.hex.Goals as goal
 
 pub returns : goal.returns

@@ -1,7 +1,6 @@
 -- `put_class` meets its contract: a text, or a text and a number after it. Assumes nothing.
 use Rattle.lister_text.specs.Text.{class_name}
 use Rattle.util.proofs.Puts.{put_then}
-use borrow.Author.Rules.{rules}
 use Rattle.lister_text.proofs.put_class.Goals as goal
 
 pub returns-in-Adrp : goal.returns-in-Adrp

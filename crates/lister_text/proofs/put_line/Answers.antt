@@ -1,7 +1,6 @@
 -- `put_line` meets its contract: three texts, one after another. Assumes nothing.
 use Rattle.lister_text.specs.Text.{line_of}
 use Rattle.util.proofs.Puts.{put_then}
-use borrow.Author.Rules.{rules}
 use Rattle.lister_text.proofs.put_line.Goals as goal
 
 pub returns : goal.returns

@@ -1,12 +1,9 @@
 -- `put_lines` meets its contract: after i turns the lines of the first i words are there. Assumes nothing.
-use borrow.Author.Rules.{rules}
-use mathlib.Core.Path.{◌≡◌, refl}
+use mathlib.Core.Path.{◌≡◌}
 use Prim.Native.Nat.{◌-◌, ◌/◌, ◌≤◌}
-use native.Mathlib.Omega.{arith}
 use lib.ListN.{length}
 use Rattle.lister_text.specs.Text.{lines_of}
 use Rattle.util.specs.Puts.{Puts}
-use Rattle.lister_text.proofs.Lines.{lines-length, no_line, next-line}
 use Rattle.lister_text.proofs.put_lines.Given as goal
 
 abbrev pub invariant-loop-i : goal.invariant-loop-i

@@ -2,7 +2,6 @@
 use native.Mathlib.Omega.{arith}
 use Rattle.text.proofs.Decimal.{decimal-length}
 use Rattle.util.proofs.Puts.{put_then}
-use borrow.Author.Rules.{rules}
 use Rattle.lister_text.proofs.put_size.Goals as goal
 
 pub put-requires : goal.put-requires

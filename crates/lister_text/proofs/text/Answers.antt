@@ -12,14 +12,14 @@ pub returns-in-Refused : goal.returns-in-Refused
 returns-in-Refused c =
     let p = text-refused c.args.input.now c.args.out.now (search rules) _ _ (c.list.ensures.answer, c.list.ensures.out) c.in-Refused.is _ c.number.ensures c.put_refused.ensures in
     record {
-  puts = p;
-  upper_bound = counts _ p;
-}
+      puts = p;
+      upper_bound = counts _ p;
+    }
 
 pub returns-in-Filled : goal.returns-in-Filled
 returns-in-Filled c =
     let p = text-filled c.args.input.now c.args.out.now (search rules) _ _ (c.list.ensures.answer, c.list.ensures.out) c.in-Filled.is in
     record {
-  puts = p;
-  upper_bound = counts _ p;
-}
+      puts = p;
+      upper_bound = counts _ p;
+    }

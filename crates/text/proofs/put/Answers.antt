@@ -1,10 +1,8 @@
 -- `put` meets its contract: after i turns the first i bytes are stored. Assumes nothing.
 use borrow.Author.Rules.{rules}
 use mathlib.Core.Path.{◌≡◌, refl, ◌∙◌}
-use Prim.Native.Nat.{◌-◌, ◌≤◌}
 use native.Mathlib.Omega.{arith}
-use lib.ListN.{length, take, length-set}
-use lib.Seq.{sets}
+use lib.ListN.{length, length-set}
 use Rattle.util.proofs.Puts.{put_next, put_all}
 use Rattle.text.proofs.put.Goals as goal
 

@@ -1,6 +1,5 @@
 -- `put_decimal` meets its contract: one digit below 10, else two. Assumes nothing.
 use Rattle.text.proofs.Decimal.{one-digit, two_digits}
-use borrow.Author.Rules.{rules}
 use Rattle.text.proofs.put_decimal.Goals as goal
 
 pub returns-then-x-lt10 : goal.returns-then-x-lt10

@@ -1,9 +1,6 @@
 -- From byte to byte: how many are left that say that more follow is one fewer, until one does not.
-use mathlib.Core.Path.{◌≡◌, refl}
-use Prim.Native.Nat.{◌+◌, ◌-◌, ◌≤◌}
+use mathlib.Core.Path.{refl}
 use native.Mathlib.Omega.{arith}
-use lib.ListN.{length, drop}
-use Rattle.uleb.specs.Values.{unended}
 use Rattle.uleb.proofs.Reading.{more-at, last-at, none-at}
 use borrow.Author.Rules.{rules}
 use Rattle.uleb.proofs.last_byte.Goals as goal

@@ -1,6 +1,6 @@
 -- From the last byte down: what stands at i is the value put together so far.
 use mathlib.Core.Path.{◌≡◌, subst}
-use Prim.Native.Nat.{ℕ, ◌+◌, ◌^◌, ◌≤◌, ◌<◌}
+use Prim.Native.Nat.{ℕ, ◌+◌, ◌<◌}
 use native.Mathlib.Omega.{arith}
 use lib.ListN.{length, drop}
 use Rattle.uleb.specs.Values.{unended}
@@ -57,16 +57,15 @@ loop-i-smaller c =
     omega arith
 
 pub loop-i-preserved : goal.loop-i-preserved
-loop-i-preserved c =
-    (
-      omega arith,
-      omega arith,
-      c.loop-i.invariant.2,
-      c.loop-i.invariant.3,
-      omega arith,
-      read_down c.args.bytes.now c.args.at c.last_byte-last.result c.loop-i.i c.loop-i.value (c.last_byte-last.result + 1)
-          c.requires c.loop-i.invariant.3 c.loop-i-test.true c.loop-i.invariant.1 c.last_byte-last.ensures.1 c.loop-i.invariant.5,
-    )
+loop-i-preserved c = (
+  omega arith,
+  omega arith,
+  c.loop-i.invariant.2,
+  c.loop-i.invariant.3,
+  omega arith,
+  read_down c.args.bytes.now c.args.at c.last_byte-last.result c.loop-i.i c.loop-i.value (c.last_byte-last.result + 1)
+      c.requires c.loop-i.invariant.3 c.loop-i-test.true c.loop-i.invariant.1 c.last_byte-last.ensures.1 c.loop-i.invariant.5,
+)
 
 pub overflow_add-result : goal.overflow_add-result
 overflow_add-result c =

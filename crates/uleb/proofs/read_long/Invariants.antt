@@ -1,11 +1,9 @@
 -- From the last byte down: what stands at i is the value put together so far.
-use mathlib.Core.Path.{◌≡◌, subst}
-use Prim.Native.Nat.{ℕ, ◌+◌, ◌^◌, ◌≤◌, ◌<◌}
-use native.Mathlib.Omega.{arith}
+use mathlib.Core.Path.{◌≡◌}
+use Prim.Native.Nat.{◌+◌, ◌^◌, ◌≤◌, ◌<◌}
 use lib.ListN.{length, drop}
 use Rattle.uleb.specs.Values.{unended}
-use Rattle.uleb.proofs.Reading.{Stands, read-cut, read-last, read_down, read-large, read_whole}
-use borrow.Author.Rules.{rules}
+use Rattle.uleb.proofs.Reading.{Stands}
 use Rattle.uleb.proofs.read_long.Given as goal
 
 abbrev pub invariant-loop-i : goal.invariant-loop-i

@@ -1,11 +1,10 @@
 -- From the first byte up: what stands at i, scaled and with the value so far below it, stands at `at`.
-use Prim.Native.Nat.{◌+◌, ◌*◌, ◌-◌, ◌%◌, ◌^◌, ◌≤◌, ◌<◌}
-use mathlib.Core.Path.{◌≡◌, refl}
+use Prim.Native.Nat.{◌+◌, ◌*◌, ◌%◌}
+use mathlib.Core.Path.{refl}
 use native.Mathlib.Omega.{arith}
-use lib.ListN.{length, get_or, drop}
-use Rattle.uleb.specs.Values.{unended}
+use lib.ListN.{get_or}
 use Rattle.uleb.proofs.Reading.{more-at, none-at, read-cut, read_whole}
-use Rattle.uleb.proofs.Upward.{has_room, Above, above-first, above_more, above-last}
+use Rattle.uleb.proofs.Upward.{has_room, above-first, above_more, above-last}
 use borrow.Author.Rules.{rules}
 use Rattle.uleb.proofs.read_uleb.Goals as goal
 
@@ -64,15 +63,14 @@ loop-i-smaller c =
     omega arith
 
 pub loop-i-preserved : goal.loop-i-preserved
-loop-i-preserved c =
-    (
-      omega arith,
-      omega arith,
-      omega (arith, c.loop-i.invariant.2, more-at c.args.bytes.now c.loop-i.i c.loop-i-test.true c.if-byte-lt128.false),
-      has_room c.loop-i.value c.loop-i.scale (get_or c.args.bytes.now c.loop-i.i 0 % 128) c.loop-i.invariant.3 (omega arith),
-      omega arith,
-      above_more c.args.bytes.now c.args.at c.loop-i.value c.loop-i.scale c.loop-i.i c.loop-i-test.true c.if-byte-lt128.false c.loop-i.invariant.5,
-    )
+loop-i-preserved c = (
+  omega arith,
+  omega arith,
+  omega (arith, c.loop-i.invariant.2, more-at c.args.bytes.now c.loop-i.i c.loop-i-test.true c.if-byte-lt128.false),
+  has_room c.loop-i.value c.loop-i.scale (get_or c.args.bytes.now c.loop-i.i 0 % 128) c.loop-i.invariant.3 (omega arith),
+  omega arith,
+  above_more c.args.bytes.now c.args.at c.loop-i.value c.loop-i.scale c.loop-i.i c.loop-i-test.true c.if-byte-lt128.false c.loop-i.invariant.5,
+)
 
 pub returns : goal.returns
 returns c =

@@ -1,12 +1,9 @@
 -- From the first byte up: what stands at i, scaled and with the value so far below it, stands at `at`.
-use Prim.Native.Nat.{◌+◌, ◌*◌, ◌-◌, ◌%◌, ◌^◌, ◌≤◌, ◌<◌}
-use mathlib.Core.Path.{◌≡◌, refl}
-use native.Mathlib.Omega.{arith}
-use lib.ListN.{length, get_or, drop}
+use Prim.Native.Nat.{◌+◌, ◌-◌, ◌^◌, ◌≤◌, ◌<◌}
+use mathlib.Core.Path.{◌≡◌}
+use lib.ListN.{length, drop}
 use Rattle.uleb.specs.Values.{unended}
-use Rattle.uleb.proofs.Reading.{more-at, none-at, read-cut, read_whole}
-use Rattle.uleb.proofs.Upward.{has_room, Above, above-first, above_more, above-last}
-use borrow.Author.Rules.{rules}
+use Rattle.uleb.proofs.Upward.{Above}
 use Rattle.uleb.proofs.read_uleb.Given as goal
 
 abbrev pub invariant-loop-i : goal.invariant-loop-i

@@ -1,10 +1,9 @@
 -- After n - 1 turns what is left has 11 - n bytes of room, and its bytes are those that are missing.
-use mathlib.Core.Path.{◌≡◌, refl, ap}
+use mathlib.Core.Path.{refl, ap}
 use mathlib.Core.List.{[]}
-use Prim.Native.Nat.{◌+◌, ◌-◌, ◌*◌, ◌^◌, ◌≤◌, ◌<◌}
+use Prim.Native.Nat.{◌+◌, ◌-◌}
 use native.Mathlib.Omega.{arith}
 use lib.ListN.{length}
-use Rattle.uleb.specs.Shortest.{uleb_within, uleb_of}
 use Rattle.uleb.proofs.Spelled.{within-last}
 use Rattle.uleb.proofs.Writing.{one_byte}
 use borrow.Author.Rules.{rules}

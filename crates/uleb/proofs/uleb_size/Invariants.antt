@@ -1,13 +1,8 @@
 -- After n - 1 turns what is left has 11 - n bytes of room, and its bytes are those that are missing.
-use mathlib.Core.Path.{◌≡◌, refl, ap}
-use mathlib.Core.List.{[]}
+use mathlib.Core.Path.{◌≡◌}
 use Prim.Native.Nat.{◌+◌, ◌-◌, ◌*◌, ◌^◌, ◌≤◌, ◌<◌}
-use native.Mathlib.Omega.{arith}
 use lib.ListN.{length}
 use Rattle.uleb.specs.Shortest.{uleb_within, uleb_of}
-use Rattle.uleb.proofs.Spelled.{within-last}
-use Rattle.uleb.proofs.Writing.{one_byte}
-use borrow.Author.Rules.{rules}
 use Rattle.uleb.proofs.uleb_size.Given as goal
 
 abbrev pub invariant-loop-rest : goal.invariant-loop-rest

@@ -1,10 +1,10 @@
 -- What is left of the value, spelt from i on, leaves the bytes that the whole value does.
 use mathlib.Core.Path.{◌≡◌, refl, sym, ap, ◌∙◌, subst}
-use Prim.Native.Nat.{ℕ, ◌+◌, ◌-◌, ◌*◌, ◌^◌, ◌≤◌, ◌<◌}
+use Prim.Native.Nat.{ℕ, ◌+◌, ◌-◌, ◌*◌, ◌^◌, ◌<◌}
 use native.Mathlib.Omega.{arith}
 use lib.ListN.{length, length-set}
 use lib.Seq.{sets}
-use Rattle.uleb.specs.Shortest.{uleb_within, uleb_of}
+use Rattle.uleb.specs.Shortest.{uleb_within}
 use Rattle.uleb.proofs.Spelled.{within-last}
 use Rattle.uleb.proofs.Writing.{one_byte}
 use borrow.Author.Rules.{rules}
@@ -12,8 +12,7 @@ use Rattle.uleb.proofs.write_uleb.Goals as goal
 
 pub loop-rest-init : goal.loop-rest-init
 loop-rest-init c =
-    let room : 10 ≡ c.args.at + 10 - c.args.at = omega arith in
-    (
+    let room : 10 ≡ c.args.at + 10 - c.args.at = omega arith in (
       search rules,
       search rules,
       refl,
@@ -44,8 +43,7 @@ loop-rest-smaller c =
 
 pub loop-rest-preserved : goal.loop-rest-preserved
 loop-rest-preserved c =
-    let t = one_byte c.loop-rest.out c.loop-rest.i (c.args.at + 10 - c.loop-rest.i) (c.args.at + 10 - (c.loop-rest.i + 1)) c.loop-rest.rest (omega arith) c.loop-rest-test.true c.loop-rest.invariant.3 in
-    (
+    let t = one_byte c.loop-rest.out c.loop-rest.i (c.args.at + 10 - c.loop-rest.i) (c.args.at + 10 - (c.loop-rest.i + 1)) c.loop-rest.rest (omega arith) c.loop-rest-test.true c.loop-rest.invariant.3 in (
       search rules,
       omega (arith, t.room),
       simp length-set c.loop-rest.invariant.2,

@@ -1,13 +1,9 @@
 -- What is left of the value, spelt from i on, leaves the bytes that the whole value does.
-use mathlib.Core.Path.{◌≡◌, refl, sym, ap, ◌∙◌, subst}
-use Prim.Native.Nat.{ℕ, ◌+◌, ◌-◌, ◌*◌, ◌^◌, ◌≤◌, ◌<◌}
-use native.Mathlib.Omega.{arith}
-use lib.ListN.{length, length-set}
+use mathlib.Core.Path.{◌≡◌}
+use Prim.Native.Nat.{◌+◌, ◌-◌, ◌*◌, ◌^◌, ◌≤◌, ◌<◌}
+use lib.ListN.{length}
 use lib.Seq.{sets}
 use Rattle.uleb.specs.Shortest.{uleb_within, uleb_of}
-use Rattle.uleb.proofs.Spelled.{within-last}
-use Rattle.uleb.proofs.Writing.{one_byte}
-use borrow.Author.Rules.{rules}
 use Rattle.uleb.proofs.write_uleb.Given as goal
 
 abbrev pub invariant-loop-rest : goal.invariant-loop-rest

@@ -1,5 +1,5 @@
 -- `bits`: the mask is a power of two less one, and a mask of k ones is a remainder.
-use Rattle.std.proofs.Common.{◌+◌, ◌-◌, arith, pow_pos, rules}
+use Rattle.std.proofs.Common.{◌+◌, ◌-◌, arith, pow_pos}
 use lib.Bits.{and_mask}
 use Rattle.util.proofs.Shift.{one_shl}
 use Rattle.util.proofs.bits.Goals as goal

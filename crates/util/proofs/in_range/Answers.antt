@@ -1,5 +1,5 @@
 -- `in_range`: the sum that wraps is below the range's length just where the signed number is in the range.
-use Rattle.std.proofs.Common.{arith, rules}
+use Rattle.std.proofs.Common.{arith}
 use Rattle.util.proofs.Range.{range-pos}
 use Rattle.util.proofs.in_range.Goals as goal
 

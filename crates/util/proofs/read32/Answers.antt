@@ -1,5 +1,5 @@
 -- `read32`: `le 4` computes to the four bytes in their places, each below 256.
-use Rattle.std.proofs.Common.{sym, ◌∙◌, arith, rules}
+use Rattle.std.proofs.Common.{sym, ◌∙◌, arith}
 use Rattle.util.proofs.Word.{le_four}
 use Rattle.util.proofs.read32.Goals as goal
 

@@ -1,7 +1,6 @@
 -- `read64`: a word of 4 + 4 bytes is a word of 4 and a word of 4.
 use Rattle.util.proofs.Word.{le-add}
-use Rattle.std.proofs.Common.{arith, rules}
-use Rattle.util.specs.Word.{le}
+use Rattle.std.proofs.Common.{arith}
 use Rattle.util.proofs.read64.Goals as goal
 
 pub returns : goal.returns

@@ -1,5 +1,5 @@
 -- `sign_extend`: a shifted one is a power of two; the code's test is the definition's.
-use Rattle.std.proofs.Common.{◌-◌, mod-lt, arith, pow_pos, rules, le-ltb, lt-ltb}
+use Rattle.std.proofs.Common.{◌-◌, mod-lt, arith, pow_pos, le-ltb, lt-ltb}
 use lib.Pow.{pow-lt}
 use Rattle.util.proofs.Shift.{one_shl}
 use Rattle.util.specs.Choice.{choose}

@@ -1,5 +1,5 @@
 -- `write32`: `put 4` computes to the four stores.
-use Rattle.std.proofs.Common.{add-zero, div-one, arith, length-set, rules}
+use Rattle.std.proofs.Common.{add-zero, div-one, arith, length-set}
 use Rattle.util.specs.Word.{put}
 use Rattle.util.proofs.write32.Goals as goal
 

@@ -1,6 +1,6 @@
 -- `write64`: storing 4 + 4 bytes is storing the low word, then the high one.
 use Rattle.util.proofs.Word.{put-add, put_low}
-use Rattle.std.proofs.Common.{arith, rules}
+use Rattle.std.proofs.Common.{arith}
 use Rattle.util.proofs.write64.Goals as goal
 
 pub returns : goal.returns

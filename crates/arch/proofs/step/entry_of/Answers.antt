@@ -7,7 +7,6 @@ use lib.Dec.{lit<}
 use lib.Pow.{shl_exact}
 use mir.Val.{bool_byte}
 use Rattle.util.proofs.Flags.{cast-flag, cast-bit}
-use borrow.Author.Rules.{rules}
 use Rattle.arch.proofs.step.entry_of.Goals as goal
 
 pub returns : goal.returns

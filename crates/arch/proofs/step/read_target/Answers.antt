@@ -1,7 +1,6 @@
 -- `read_target` meets its contract: the target's answer decides the case.
 use mathlib.Core.Path.{sym, ◌∙◌}
 use Rattle.arch.specs.Entry.{targeted}
-use borrow.Author.Rules.{rules}
 use Rattle.arch.proofs.step.read_target.Goals as goal
 
 pub returns-in-Refused : goal.returns-in-Refused

@@ -2,7 +2,6 @@
 use borrow.Author.Tests.{eq-eqb, ne_eqb}
 use Rattle.util.specs.Choice.{choose}
 use Rattle.arch.specs.Table.{subtracted_at}
-use borrow.Author.Rules.{rules}
 use Rattle.arch.proofs.table.is_subtracted.Goals as goal
 
 pub returns-then-i-eq0 : goal.returns-then-i-eq0

@@ -1,7 +1,6 @@
 -- `has_target` meets its contract: each test of the code is one of the definition.
 use mathlib.Core.Path.{sym, ◌∙◌}
 use borrow.Author.Tests.{eq-eqb, ne_eqb}
-use borrow.Author.Rules.{rules}
 use Rattle.arch.proofs.target.has_target.Goals as goal
 
 pub returns-then-is_extern : goal.returns-then-is_extern

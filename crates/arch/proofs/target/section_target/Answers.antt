@@ -1,9 +1,8 @@
 -- `section_target` meets its contract: ordinal 0 names no section; for another `section-is` of Targets leaves the test of the list's length.
-use mathlib.Core.Path.{sym, ap, ◌∙◌}
+use mathlib.Core.Path.{sym, ◌∙◌}
 use Rattle.util.specs.Choice.{choose}
 use Rattle.arch.specs.Target.{section_target}
 use Rattle.arch.proofs.Targets.{section-is, in_list, past-list}
-use borrow.Author.Rules.{rules}
 use Rattle.arch.proofs.target.section_target.Goals as goal
 
 pub returns-then-ordinal-eq0 : goal.returns-then-ordinal-eq0

@@ -1,7 +1,6 @@
 -- `target_of` meets its contract: the extern field decides the choice.
 use Rattle.util.specs.Choice.{choose}
 use Rattle.arch.specs.Target.{target_of}
-use borrow.Author.Rules.{rules}
 use Rattle.arch.proofs.target.target_of.Goals as goal
 
 pub returns-then-is_extern : goal.returns-then-is_extern

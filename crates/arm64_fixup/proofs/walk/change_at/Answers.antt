@@ -11,7 +11,6 @@ use Rattle.arm64_fixup_entry.proofs.Width.{wide}
 use borrow.Author.Tests.{eq-eqb, ne_eqb}
 use Rattle.arm64_fixup_entry.specs.Change.{change_of}
 use Rattle.util.specs.Choice.{choose}
-use borrow.Author.Rules.{rules}
 use Rattle.arm64_fixup.proofs.walk.change_at.Goals as goal
 
 pub returns-then-e-eq-ARM64_RELOC_AUTHENTICATED_POINTER : goal.returns-then-e-eq-ARM64_RELOC_AUTHENTICATED_POINTER

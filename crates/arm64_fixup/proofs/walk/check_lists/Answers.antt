@@ -2,7 +2,6 @@
 use borrow.Author.Tests.{eq-eqb, ne_eqb, lt-ltb, le-ltb}
 use Rattle.arm64_fixup.specs.Answer.{check_lists}
 use Rattle.util.specs.Choice.{choose}
-use borrow.Author.Rules.{rules}
 use Rattle.arm64_fixup.proofs.walk.check_lists.Goals as goal
 
 pub returns-then-entries-ne0 : goal.returns-then-entries-ne0

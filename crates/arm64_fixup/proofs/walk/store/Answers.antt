@@ -1,6 +1,5 @@
 -- `store` meets its contract: the write decides the case.
 use native.Mathlib.Omega.{arith}
-use borrow.Author.Rules.{rules}
 use Rattle.arm64_fixup.proofs.walk.store.Goals as goal
 
 pub write32-requires : goal.write32-requires

@@ -1,6 +1,5 @@
 -- `taken` meets its contract: the type decides the choice.
 use Rattle.util.specs.Choice.{choose}
-use borrow.Author.Rules.{rules}
 use Rattle.arm64_fixup.proofs.walk.taken.Goals as goal
 
 pub returns-then-subtracts : goal.returns-then-subtracts

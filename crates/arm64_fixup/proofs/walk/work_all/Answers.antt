@@ -2,16 +2,12 @@
 use Rattle.arm64_fixup.proofs.Works.{work-done}
 use Rattle.arm64_fixup.proofs.Turns.{length-fix, takes}
 use Rattle.arm64_fixup.proofs.Works.{fit_at, room, work-again}
-use mathlib.Core.Path.{◌≡◌, refl, ap, ◌∙◌}
-use mathlib.Core.Bool.{false}
-use Prim.Native.Nat.{◌-◌, ◌≤◌, zero-le}
+use mathlib.Core.Path.{refl, ap, ◌∙◌}
+use Prim.Native.Nat.{zero-le}
 use native.Mathlib.Omega.{arith}
-use borrow.Author.Rules.{rules}
 use lib.ListN.{length}
-use lib.Seq.{sets}
 use Rattle.macho.specs.Record.{list_bytes}
-use Rattle.macho.specs.Report.{report_bytes}
-use Rattle.arm64_fixup.specs.Walk.{entry_count, consumed, fix_to}
+use Rattle.arm64_fixup.specs.Walk.{consumed, fix_to}
 use Rattle.arm64_fixup.proofs.walk.work_all.Goals as goal
 
 pub loop-i-init : goal.loop-i-init
@@ -26,9 +22,9 @@ change_at-c-requires c =
     fit_at _ _ _ c.args.buf.now c.loop-i.i c.loop-i.invariant.1 c.requires.targets_value c.loop-i-test.true c.read-e.ensures
     c.read-t.ensures len in
     record {
-  i_bound = (c.loop-i-test.true, c.requires.entries_value.1, c.requires.entries_value.0);
-  entries_value = fit;
-}
+      i_bound = (c.loop-i-test.true, c.requires.entries_value.1, c.requires.entries_value.0);
+      entries_value = fit;
+    }
 
 pub store-requires : goal.store-requires
 store-requires c =
@@ -71,7 +67,7 @@ shape_of-slots c =
 pub returns : goal.returns
 returns c =
     record {
-  count = (work-done _ _ _ c.args.buf.now _ c.loop-i.i c.loop-i.invariant.0 c.loop-i-test.false c.loop-i.invariant.2 c.requires.entries_value.2 c.loop-i.invariant.3 c.loop-i.invariant.4 c.loop-i.invariant.5).0;
-  section = (work-done _ _ _ c.args.buf.now _ c.loop-i.i c.loop-i.invariant.0 c.loop-i-test.false c.loop-i.invariant.2 c.requires.entries_value.2 c.loop-i.invariant.3 c.loop-i.invariant.4 c.loop-i.invariant.5).1.0;
-  slots = (work-done _ _ _ c.args.buf.now _ c.loop-i.i c.loop-i.invariant.0 c.loop-i-test.false c.loop-i.invariant.2 c.requires.entries_value.2 c.loop-i.invariant.3 c.loop-i.invariant.4 c.loop-i.invariant.5).1.1;
-}
+      count = (work-done _ _ _ c.args.buf.now _ c.loop-i.i c.loop-i.invariant.0 c.loop-i-test.false c.loop-i.invariant.2 c.requires.entries_value.2 c.loop-i.invariant.3 c.loop-i.invariant.4 c.loop-i.invariant.5).0;
+      section = (work-done _ _ _ c.args.buf.now _ c.loop-i.i c.loop-i.invariant.0 c.loop-i-test.false c.loop-i.invariant.2 c.requires.entries_value.2 c.loop-i.invariant.3 c.loop-i.invariant.4 c.loop-i.invariant.5).1.0;
+      slots = (work-done _ _ _ c.args.buf.now _ c.loop-i.i c.loop-i.invariant.0 c.loop-i-test.false c.loop-i.invariant.2 c.requires.entries_value.2 c.loop-i.invariant.3 c.loop-i.invariant.4 c.loop-i.invariant.5).1.1;
+    }

@@ -1,12 +1,7 @@
 -- `work_all` meets its contract: section, slots and count are those after the first i entries; a turn is `work-again` of Works.
-use Rattle.arm64_fixup.proofs.Works.{work-done}
-use Rattle.arm64_fixup.proofs.Turns.{length-fix, takes}
-use Rattle.arm64_fixup.proofs.Works.{fit_at, room, work-again}
-use mathlib.Core.Path.{◌≡◌, refl, ap, ◌∙◌}
+use mathlib.Core.Path.{◌≡◌}
 use mathlib.Core.Bool.{false}
-use Prim.Native.Nat.{◌-◌, ◌≤◌, zero-le}
-use native.Mathlib.Omega.{arith}
-use borrow.Author.Rules.{rules}
+use Prim.Native.Nat.{◌-◌, ◌≤◌}
 use lib.ListN.{length}
 use lib.Seq.{sets}
 use Rattle.macho.specs.Record.{list_bytes}

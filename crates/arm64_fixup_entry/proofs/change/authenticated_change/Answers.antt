@@ -1,7 +1,6 @@
 -- `authenticated_change` meets its contract: whether the symbol is imported decides the choice.
 use Rattle.arm64_fixup_entry.specs.Change.{authenticated_change}
 use Rattle.util.specs.Choice.{choose}
-use borrow.Author.Rules.{rules}
 use Rattle.arm64_fixup_entry.proofs.change.authenticated_change.Goals as goal
 
 pub returns-then-is_imported_symbol : goal.returns-then-is_imported_symbol

@@ -1,7 +1,6 @@
 -- `branch` meets its contract: the two reach tests decide the choices.
 use Rattle.arm64_fixup_entry.specs.Change.{branch}
 use Rattle.util.specs.Choice.{choose}
-use borrow.Author.Rules.{rules}
 use Rattle.arm64_fixup_entry.proofs.change.branch.Goals as goal
 
 pub returns-then-branch_reaches : goal.returns-then-branch_reaches

@@ -1,5 +1,4 @@
 -- `branch26` meets its contract: the tracing site's answer decides the case.
-use borrow.Author.Rules.{rules}
 use Rattle.arm64_fixup_entry.proofs.change.branch26.Goals as goal
 
 pub returns-in-Insn : goal.returns-in-Insn

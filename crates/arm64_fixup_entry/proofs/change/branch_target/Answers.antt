@@ -1,7 +1,6 @@
 -- `branch_target` meets its contract: the kind of target decides the choice.
 use Rattle.arm64_fixup_entry.specs.Change.{branch_target}
 use Rattle.util.specs.Choice.{choose}
-use borrow.Author.Rules.{rules}
 use Rattle.arm64_fixup_entry.proofs.change.branch_target.Goals as goal
 
 pub returns-then-is_section : goal.returns-then-is_section

@@ -1,6 +1,5 @@
 -- `can_relax` meets its contract: the tests on the way to each return decide the disjunction.
 use borrow.Author.Tests.{eq-eqb, ne_eqb}
-use borrow.Author.Rules.{rules}
 use Rattle.arm64_fixup_entry.proofs.change.can_relax.Goals as goal
 
 pub returns-then-is_ldr_imm : goal.returns-then-is_ldr_imm

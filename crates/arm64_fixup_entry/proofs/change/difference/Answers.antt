@@ -2,7 +2,6 @@
 use borrow.Author.Tests.{eq-eqb, ne_eqb}
 use Rattle.arm64_fixup_entry.specs.Change.{difference}
 use Rattle.util.specs.Choice.{choose}
-use borrow.Author.Rules.{rules}
 use Rattle.arm64_fixup_entry.proofs.change.difference.Goals as goal
 
 pub returns-then-e-eq4 : goal.returns-then-e-eq4

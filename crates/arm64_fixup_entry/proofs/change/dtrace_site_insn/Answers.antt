@@ -1,7 +1,6 @@
 -- `dtrace_site_insn` meets its contract: kind of target and flags decide the choices.
 use Rattle.arm64_fixup_entry.specs.Change.{dtrace_site_insn}
 use Rattle.util.specs.Choice.{choose}
-use borrow.Author.Rules.{rules}
 use Rattle.arm64_fixup_entry.proofs.change.dtrace_site_insn.Goals as goal
 
 pub returns-then-is_section : goal.returns-then-is_section

@@ -1,7 +1,6 @@
 -- `got_page21` meets its contract: the flag decides the choice.
 use Rattle.arm64_fixup_entry.specs.Change.{got_page21}
 use Rattle.util.specs.Choice.{choose}
-use borrow.Author.Rules.{rules}
 use Rattle.arm64_fixup_entry.proofs.change.got_page21.Goals as goal
 
 pub returns-then-has_helper : goal.returns-then-has_helper

@@ -1,7 +1,6 @@
 -- `got_pageoff12` meets its contract: the flag decides the choice.
 use Rattle.arm64_fixup_entry.specs.Change.{got_pageoff12}
 use Rattle.util.specs.Choice.{choose}
-use borrow.Author.Rules.{rules}
 use Rattle.arm64_fixup_entry.proofs.change.got_pageoff12.Goals as goal
 
 pub returns-then-can_relax_got : goal.returns-then-can_relax_got

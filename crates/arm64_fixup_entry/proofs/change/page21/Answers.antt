@@ -1,7 +1,6 @@
 -- `page21` meets its contract: the reach test decides the choice.
 use Rattle.arm64_fixup_entry.specs.Change.{page21}
 use Rattle.util.specs.Choice.{choose}
-use borrow.Author.Rules.{rules}
 use Rattle.arm64_fixup_entry.proofs.change.page21.Goals as goal
 
 pub returns-then-adrp_reaches : goal.returns-then-adrp_reaches

@@ -3,7 +3,6 @@ use native.Mathlib.Omega.{arith}
 use mathlib.Core.Path.{sym, ◌∙◌}
 use Rattle.arm64_insn.proofs.Scale.{misaligned-le}
 use Rattle.arm64_fixup_entry.specs.Change.{pageoff12}
-use borrow.Author.Rules.{rules}
 use Rattle.arm64_fixup_entry.proofs.change.pageoff12.Goals as goal
 
 pub overflow_cast-size : goal.overflow_cast-size

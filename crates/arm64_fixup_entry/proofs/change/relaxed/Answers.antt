@@ -1,7 +1,6 @@
 -- `relaxed` meets its contract: the test of the word decides the choice.
 use Rattle.arm64_fixup_entry.specs.Change.{relaxed}
 use Rattle.util.specs.Choice.{choose}
-use borrow.Author.Rules.{rules}
 use Rattle.arm64_fixup_entry.proofs.change.relaxed.Goals as goal
 
 pub returns-then-can_relax : goal.returns-then-can_relax

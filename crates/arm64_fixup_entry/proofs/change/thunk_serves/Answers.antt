@@ -1,7 +1,6 @@
 -- `thunk_serves` meets its contract: the tests on the way to each return decide the conjunction.
-use borrow.Author.Tests.{eq-eqb, ne_eqb, not-true, not-false}
+use borrow.Author.Tests.{eq-eqb, ne_eqb}
 use Rattle.arm64_fixup_entry.specs.Change.{thunk_serves}
-use borrow.Author.Rules.{rules}
 use Rattle.arm64_fixup_entry.proofs.change.thunk_serves.Goals as goal
 
 pub returns-then-is_section : goal.returns-then-is_section

@@ -1,7 +1,6 @@
 -- `unsigned_value` meets its contract: the flag decides the choice.
 use Rattle.arm64_fixup_entry.specs.Change.{unsigned_value}
 use Rattle.util.specs.Choice.{choose}
-use borrow.Author.Rules.{rules}
 use Rattle.arm64_fixup_entry.proofs.change.unsigned_value.Goals as goal
 
 pub returns-then-is_tls : goal.returns-then-is_tls

@@ -2,7 +2,6 @@
 use borrow.Author.Tests.{eq-eqb, ne_eqb}
 use Rattle.arm64_fixup_entry.specs.Change.{word_change}
 use Rattle.util.specs.Choice.{choose}
-use borrow.Author.Rules.{rules}
 use Rattle.arm64_fixup_entry.proofs.change.word_change.Goals as goal
 
 pub returns-then-e-eq-ARM64_RELOC_BRANCH26 : goal.returns-then-e-eq-ARM64_RELOC_BRANCH26

@@ -5,7 +5,7 @@ use mathlib.Core.Bool.{Bool, false, ◌&&◌}
 use Prim.Native.Nat.{ℕ, ◌≤◌, ◌<◌}
 use native.Mathlib.Omega.{arith}
 use lib.Dec.{eqb}
-use borrow.Author.Tests.{lt-ltb, le-ltb, lt-leb, ne_eqb, not-true, not-false}
+use borrow.Author.Tests.{lt-ltb, le-ltb, lt-leb, ne_eqb}
 use Rattle.util.proofs.Choice.{and-false}
 use Rattle.util.specs.Choice.{choose}
 use Rattle.macho.specs.Types.{ARM64_RELOC_SUBTRACTOR, ARM64_RELOC_AUTHENTICATED_POINTER}
@@ -13,7 +13,6 @@ use Rattle.arm64_fixup_entry.specs.Check.{too_far, late_of, check_of}
 use Rattle.macho.specs.declared.reloc.Reloc.{Reloc}
 use Rattle.macho.specs.declared.resolved.Resolved.{Resolved}
 use Rattle.arm64_fixup_entry.specs.declared.target.Bases.{Bases}
-use borrow.Author.Rules.{rules}
 use Rattle.arm64_fixup_entry.proofs.check.check_entry.Goals as goal
 
 -- a type from 10 up takes no entry after it

@@ -2,7 +2,6 @@
 use borrow.Author.Tests.{lt-ltb, le-ltb}
 use Rattle.arm64_fixup_entry.specs.Check.{late_of}
 use Rattle.util.specs.Choice.{choose}
-use borrow.Author.Rules.{rules}
 use Rattle.arm64_fixup_entry.proofs.check.check_late.Goals as goal
 
 pub returns-then-unsupported : goal.returns-then-unsupported

@@ -1,7 +1,6 @@
 -- `needs_symbol` meets its contract: the type decides the choice.
 use borrow.Author.Tests.{eq-eqb, ne_eqb}
 use Rattle.util.specs.Choice.{choose}
-use borrow.Author.Rules.{rules}
 use Rattle.arm64_fixup_entry.proofs.check.needs_symbol.Goals as goal
 
 pub returns-then-ty-eq-ARM64_RELOC_GOT_LOAD_PAGE21 : goal.returns-then-ty-eq-ARM64_RELOC_GOT_LOAD_PAGE21

@@ -2,7 +2,6 @@
 use native.Mathlib.Omega.{arith}
 use borrow.Author.Tests.{le-leb, lt-leb}
 use Prim.Native.Nat.{◌^◌, ◌≤◌, ◌<◌}
-use borrow.Author.Rules.{rules}
 use Rattle.arm64_fixup_entry.specs.Target.{address_of}
 use Rattle.arm64_fixup_entry.proofs.check.overflows.Goals as goal
 

@@ -1,6 +1,5 @@
 -- `too_far` meets its contract: the tests on the way to each return decide the conjunction.
 use borrow.Author.Tests.{eq-eqb, ne_eqb}
-use borrow.Author.Rules.{rules}
 use Rattle.arm64_fixup_entry.proofs.check.too_far.Goals as goal
 
 pub returns-then-e-ne-ARM64_RELOC_AUTHENTICATED_POINTER : goal.returns-then-e-ne-ARM64_RELOC_AUTHENTICATED_POINTER

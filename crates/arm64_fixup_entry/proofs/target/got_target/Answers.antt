@@ -1,7 +1,6 @@
 -- `got_target` meets its contract: the flag decides the choice.
 use Rattle.arm64_fixup_entry.specs.Target.{got_target}
 use Rattle.util.specs.Choice.{choose}
-use borrow.Author.Rules.{rules}
 use Rattle.arm64_fixup_entry.proofs.target.got_target.Goals as goal
 
 pub returns-then-can_relax_got : goal.returns-then-can_relax_got

@@ -1,5 +1,4 @@
 -- `is_imported_symbol` meets its contract: the kind of target decides the conjunction.
-use borrow.Author.Rules.{rules}
 use Rattle.arm64_fixup_entry.proofs.target.is_imported_symbol.Goals as goal
 
 pub returns-then-is_section : goal.returns-then-is_section

@@ -2,7 +2,6 @@
 use borrow.Author.Tests.{eq-eqb, ne_eqb}
 use Rattle.arm64_fixup_entry.specs.Target.{width_of}
 use Rattle.util.specs.Choice.{choose}
-use borrow.Author.Rules.{rules}
 use Rattle.arm64_fixup_entry.proofs.target.width_of.Goals as goal
 
 pub returns-then-is_imported_symbol : goal.returns-then-is_imported_symbol

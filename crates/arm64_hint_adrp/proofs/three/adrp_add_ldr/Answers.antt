@@ -1,9 +1,7 @@
 -- `adrp_add_ldr`: by the stage's answer, the second sum, and whether a literal load fits; what the stage tells bounds the operands.
-use borrow.Author.Tests.{not-true, not-false}
 use Rattle.util.specs.Choice.{choose}
 use Rattle.arm64_hint_adrp.specs.Three.{adrp_add_ldr, load_through}
 use Rattle.arm64_hint_adrp.proofs.Adds.{adds-operands}
-use borrow.Author.Rules.{rules}
 use Rattle.arm64_hint_adrp.proofs.three.adrp_add_ldr.Goals as goal
 
 pub returns-in_default : goal.returns-in_default

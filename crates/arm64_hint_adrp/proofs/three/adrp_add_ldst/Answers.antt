@@ -1,8 +1,6 @@
 -- `adrp_add_ldst`: each word decoded or not, then `add_access`.
-use borrow.Author.Tests.{not-true, not-false}
 use Rattle.util.specs.Choice.{choose}
 use Rattle.arm64_hint_adrp.specs.Three.{through}
-use borrow.Author.Rules.{rules}
 use Rattle.arm64_hint_adrp.proofs.three.adrp_add_ldst.Goals as goal
 
 pub returns-then-not-pair : goal.returns-then-not-pair

@@ -3,7 +3,6 @@ use borrow.Author.Tests.{not-true, not-false}
 use Rattle.util.specs.Choice.{choose}
 use Rattle.arm64_hint_adrp.specs.Three.{adrp_add_str}
 use Rattle.arm64_hint_adrp.proofs.Adds.{adds-operands}
-use borrow.Author.Rules.{rules}
 use Rattle.arm64_hint_adrp.proofs.three.adrp_add_str.Goals as goal
 
 pub returns-then-not-st : goal.returns-then-not-st

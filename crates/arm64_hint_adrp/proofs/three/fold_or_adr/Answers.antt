@@ -1,10 +1,8 @@
 -- `fold_or_adr`: the fold's test, then the reach.
 use native.Mathlib.Omega.{arith}
-use borrow.Author.Tests.{not-true, not-false}
 use Rattle.util.specs.Choice.{choose}
 use Rattle.arm64_hint_adrp.specs.Three.{fold_or_adr}
 use Rattle.arm64_hint_terms.proofs.Ways.{rebased}
-use borrow.Author.Rules.{rules}
 use Rattle.arm64_hint_adrp.proofs.three.fold_or_adr.Goals as goal
 
 pub fold-requires : goal.fold-requires

@@ -1,9 +1,7 @@
 -- `fold_third`: the test; the ADD's immediate has room in the access.
-use borrow.Author.Tests.{not-true, not-false}
 use Rattle.util.specs.Choice.{choose}
 use Rattle.arm64_hint_adrp.specs.Three.{fold_third}
 use Rattle.arm64_hint_terms.proofs.Ways.{rebased}
-use borrow.Author.Rules.{rules}
 use Rattle.arm64_hint_adrp.proofs.three.fold_third.Goals as goal
 
 pub returns-then-not-folds : goal.returns-then-not-folds

@@ -1,7 +1,6 @@
 -- `folds`: the two tests.
 use borrow.Author.Tests.{eq-eqb, ne_eqb}
 use Rattle.arm64_hint_adrp.specs.Three.{folds}
-use borrow.Author.Rules.{rules}
 use Rattle.arm64_hint_adrp.proofs.three.folds.Goals as goal
 
 pub returns-then-ls-ne0 : goal.returns-then-ls-ne0

@@ -2,7 +2,6 @@
 use borrow.Author.Tests.{eq-eqb, ne_eqb}
 use Rattle.util.specs.Choice.{choose}
 use Rattle.arm64_hint_adrp.specs.Two.{add_at_page}
-use borrow.Author.Rules.{rules}
 use Rattle.arm64_hint_adrp.proofs.two.add_at_page.Goals as goal
 
 pub returns-then-d-a : goal.returns-then-d-a

@@ -1,8 +1,6 @@
 -- `adr_to`: the reach decides.
-use borrow.Author.Tests.{not-true, not-false}
 use Rattle.util.specs.Choice.{choose}
 use Rattle.arm64_hint_adrp.specs.Two.{adr_to}
-use borrow.Author.Rules.{rules}
 use Rattle.arm64_hint_adrp.proofs.two.adr_to.Goals as goal
 
 pub returns-then-not-within_1mb : goal.returns-then-not-within_1mb

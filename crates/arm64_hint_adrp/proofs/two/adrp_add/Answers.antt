@@ -1,10 +1,8 @@
 -- `adrp_add`: each word decoded or not, then `add_at_page`, whose register decoding bounds.
 use mathlib.Core.Path.{sym, ◌∙◌}
-use borrow.Author.Tests.{not-true, not-false}
 use Rattle.util.specs.Choice.{choose}
 use Rattle.arm64_insn.proofs.Decoded.{decoded-add}
 use Rattle.arm64_hint_adrp.specs.Two.{adrp_add}
-use borrow.Author.Rules.{rules}
 use Rattle.arm64_hint_adrp.proofs.two.adrp_add.Goals as goal
 
 pub returns-then-not-pair : goal.returns-then-not-pair

@@ -1,8 +1,6 @@
 -- `adrp_adrp`: each word decoded or not, then `same_page`.
-use borrow.Author.Tests.{not-true, not-false}
 use Rattle.util.specs.Choice.{choose}
 use Rattle.arm64_hint_adrp.specs.Two.{adrp_adrp}
-use borrow.Author.Rules.{rules}
 use Rattle.arm64_hint_adrp.proofs.two.adrp_adrp.Goals as goal
 
 pub returns-then-not-pages : goal.returns-then-not-pages

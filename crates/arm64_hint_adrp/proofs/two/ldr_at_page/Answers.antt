@@ -1,8 +1,7 @@
 -- `ldr_at_page`: base register, sum, then whether a literal load fits.
-use borrow.Author.Tests.{eq-eqb, ne_eqb, not-true, not-false}
+use borrow.Author.Tests.{eq-eqb, ne_eqb}
 use Rattle.util.specs.Choice.{choose}
 use Rattle.arm64_hint_adrp.specs.Two.{ldr_at_page, ldr_second}
-use borrow.Author.Rules.{rules}
 use Rattle.arm64_hint_adrp.proofs.two.ldr_at_page.Goals as goal
 
 pub returns-then-ld-a : goal.returns-then-ld-a

@@ -15,13 +15,13 @@ enter-requires c =
 pub returns-then-p-hints : goal.returns-then-p-hints
 returns-then-p-hints c =
     record {
-  all = entered-rest _ 0 c.position_from-p.result c.enter.result c.position_from-p.ensures.found c.if-p-hints.true c.enter.ensures;
-  sound = c.enter.ensures.sound;
-}
+      all = entered-rest _ 0 c.position_from-p.result c.enter.result c.position_from-p.ensures.found c.if-p-hints.true c.enter.ensures;
+      sound = c.enter.ensures.sound;
+    }
 
 pub returns : goal.returns
 returns c =
     record {
-  all = none_rest _ c.args.rises c.position_from-p.result c.position_from-p.ensures.found c.if-p-hints.false;
-  sound = none-sound _ c.args.rises c.position_from-p.result c.position_from-p.ensures.found c.if-p-hints.false;
-}
+      all = none_rest _ c.args.rises c.position_from-p.result c.position_from-p.ensures.found c.if-p-hints.false;
+      sound = none-sound _ c.args.rises c.position_from-p.result c.position_from-p.ensures.found c.if-p-hints.false;
+    }

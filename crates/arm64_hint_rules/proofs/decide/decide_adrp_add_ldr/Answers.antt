@@ -7,7 +7,6 @@ use Rattle.macho.specs.Hint.{word_count}
 use Rattle.arm64_hint_adrp.specs.Three.{adrp_add_ldr}
 use Rattle.arm64_hint_laws.specs.Decide.{by_rule}
 use Rattle.arm64_hint_laws.proofs.Number31.{barred, barred-declines, else_same}
-use borrow.Author.Rules.{rules}
 use Rattle.arm64_hint_rules.proofs.decide.decide_adrp_add_ldr.Goals as goal
 
 pub returns-then-three_meet_31 : goal.returns-then-three_meet_31

@@ -7,7 +7,6 @@ use Rattle.macho.specs.Hint.{word_count}
 use Rattle.arm64_hint_got.specs.Got.{adrp_ldr_got_str}
 use Rattle.arm64_hint_laws.specs.Decide.{by_rule}
 use Rattle.arm64_hint_laws.proofs.Number31.{barred, barred-declines, else_same}
-use borrow.Author.Rules.{rules}
 use Rattle.arm64_hint_rules.proofs.decide.decide_adrp_ldr_got_str.Goals as goal
 
 pub returns-then-three_meet_31 : goal.returns-then-three_meet_31

@@ -8,7 +8,6 @@ use Rattle.arm64_hint_terms.specs.declared.answer.Decision.{Decision}
 use Rattle.arm64_hint_places.specs.Hint.{offs_of}
 use Rattle.arm64_hint_places.proofs.Held.{held-inside, held-stored}
 use Rattle.arm64_hint_rules.specs.Rule.{news_in}
-use borrow.Author.Rules.{rules}
 use Rattle.arm64_hint_rules.proofs.store.store.Goals as goal
 
 -- the new words of a decision that is known

@@ -1,6 +1,5 @@
 -- `list`: a record is stored, or nothing.
 use Rattle.arm64_hint_run.proofs.Listing.{listed-store, none-stored}
-use borrow.Author.Rules.{rules}
 use Rattle.arm64_hint_run.proofs.run.list.Goals as goal
 
 pub write-requires : goal.write-requires

@@ -1,5 +1,4 @@
 -- `record_of`: each field is what its call promises.
-use borrow.Author.Rules.{rules}
 use Rattle.arm64_hint_run.proofs.run.record_of.Goals as goal
 
 pub returns : goal.returns

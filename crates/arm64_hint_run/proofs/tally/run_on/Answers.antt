@@ -2,7 +2,6 @@
 use mathlib.Core.Path.{ap, ◌∙◌}
 use Rattle.arm64_hint_run.specs.declared.run.RunAnswer.{RunAnswer}
 use Rattle.arm64_hint_run.specs.Run.{end_of}
-use borrow.Author.Rules.{rules}
 use Rattle.arm64_hint_run.proofs.tally.run_on.Goals as goal
 
 pub returns : goal.returns

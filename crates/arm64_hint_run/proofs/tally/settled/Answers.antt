@@ -5,7 +5,6 @@ use Rattle.arm64_hint_work.specs.declared.tally.Tally.{Tally}
 use Rattle.arm64_hint_run.specs.declared.run.RunAnswer.{RunAnswer}
 use Rattle.arm64_hint_run.specs.declared.tally.RunEnd.{RunEnd}
 use Rattle.arm64_hint_run.specs.Run.{end_of}
-use borrow.Author.Rules.{rules}
 use Rattle.arm64_hint_run.proofs.tally.settled.Goals as goal
 
 abbrev ended : Tally → ℕ → RunEnd

@@ -1,7 +1,6 @@
 -- `fits_literal`: the three tests in the definition's order.
-use borrow.Author.Tests.{eq-eqb, ne_eqb, not-true, not-false}
+use borrow.Author.Tests.{eq-eqb, ne_eqb}
 use Rattle.arm64_hint_terms.specs.Answer.{fits_literal}
-use borrow.Author.Rules.{rules}
 use Rattle.arm64_hint_terms.proofs.answer.fits_literal.Goals as goal
 
 pub returns-then-not-has_literal_form : goal.returns-then-not-has_literal_form

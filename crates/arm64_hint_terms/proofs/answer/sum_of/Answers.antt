@@ -4,7 +4,6 @@ use native.Mathlib.Omega.{arith}
 use borrow.Author.Tests.{lt-ltb, le-ltb}
 use Rattle.util.specs.Choice.{choose}
 use Rattle.arm64_hint_terms.specs.Answer.{sum_of}
-use borrow.Author.Rules.{rules}
 use Rattle.arm64_hint_terms.proofs.answer.sum_of.Goals as goal
 
 pub returns-then-b-a : goal.returns-then-b-a

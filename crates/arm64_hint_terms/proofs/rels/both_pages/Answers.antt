@@ -1,6 +1,5 @@
 -- `both_pages`: the two tests in the definition's order.
 use Rattle.arm64_hint_terms.specs.Rels.{both_pages}
-use borrow.Author.Rules.{rules}
 use Rattle.arm64_hint_terms.proofs.rels.both_pages.Goals as goal
 
 pub returns-then-is_page_rel : goal.returns-then-is_page_rel

@@ -1,7 +1,6 @@
 -- `has_page_pair`: the four tests in the definition's order.
-use borrow.Author.Tests.{lt-ltb, le-ltb, not-true, not-false}
+use borrow.Author.Tests.{lt-ltb, le-ltb}
 use Rattle.arm64_hint_terms.specs.Rels.{has_page_pair}
-use borrow.Author.Rules.{rules}
 use Rattle.arm64_hint_terms.proofs.rels.has_page_pair.Goals as goal
 
 pub returns-then-not-is_page_rel : goal.returns-then-not-is_page_rel

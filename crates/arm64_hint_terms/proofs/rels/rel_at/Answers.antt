@@ -3,7 +3,6 @@ use native.Mathlib.Omega.{arith}
 use borrow.Author.Tests.{eq-eqb, ne_eqb}
 use Rattle.util.specs.Choice.{choose}
 use Rattle.arm64_hint_terms.specs.Rels.{rel_at}
-use borrow.Author.Rules.{rules}
 use Rattle.arm64_hint_terms.proofs.rels.rel_at.Goals as goal
 
 pub returns-then-number-eq-NO_ENTRY : goal.returns-then-number-eq-NO_ENTRY

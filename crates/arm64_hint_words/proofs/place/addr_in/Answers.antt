@@ -2,7 +2,6 @@
 use mathlib.Core.Path.{sym}
 use native.Mathlib.Omega.{arith}
 use Rattle.arm64_hint_words.proofs.First.{first-at, first_past}
-use borrow.Author.Rules.{rules}
 use Rattle.arm64_hint_words.proofs.place.addr_in.Goals as goal
 
 pub returns-then-i-n : goal.returns-then-i-n

@@ -3,7 +3,6 @@ use mathlib.Core.Path.{ap, ◌∙◌}
 use Rattle.arm64_hint_terms.specs.Rels.{has_page_pair}
 use Rattle.arm64_hint_terms.specs.declared.rels.Rels.{Rels}
 use Rattle.arm64_hint_words.proofs.Entries.{page-pair-count}
-use borrow.Author.Rules.{rules}
 use Rattle.arm64_hint_words.proofs.place.page_pair_in.Goals as goal
 
 pub returns : goal.returns

@@ -5,7 +5,6 @@ use Rattle.macho.specs.Hint.{no_entry}
 use Rattle.arm64_hint_terms.specs.Rels.{rel_at}
 use Rattle.arm64_hint_words.proofs.First.{first-at, first-all}
 use Rattle.arm64_hint_words.proofs.Entries.{rel-past}
-use borrow.Author.Rules.{rules}
 use Rattle.arm64_hint_words.proofs.place.rel_in.Goals as goal
 
 pub rel_at-requires : goal.rel_at-requires

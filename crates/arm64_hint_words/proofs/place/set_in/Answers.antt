@@ -4,7 +4,6 @@ use borrow.Author.Tests.{lt-ltb, le-ltb}
 use Rattle.util.proofs.Choice.{choose-true, choose-false}
 use Rattle.arm64_hint_terms.specs.declared.answer.NewWord.{NewWord}
 use Rattle.arm64_hint_words.specs.Place.{set_in}
-use borrow.Author.Rules.{rules}
 use Rattle.arm64_hint_words.proofs.place.set_in.Goals as goal
 
 pub write32-requires : goal.write32-requires

@@ -1,6 +1,5 @@
 -- `set_words`: after each store what fits still fits, and the three stores are those of the places in their order.
-use Rattle.std.proofs.Common.{◌≡◌, ℕ, List, length, sym, ap, ◌∙◌, subst, arith}
-use Rattle.macho.specs.declared.hint.HintInsn.{HintInsn}
+use Rattle.std.proofs.Common.{ℕ, List, sym, ap, ◌∙◌, subst, arith}
 use Rattle.arm64_hint_terms.specs.declared.answer.NewWord.{NewWord}
 use Rattle.arm64_hint_words.specs.Place.{Fits, set_in}
 use Rattle.arm64_hint_words.specs.Held.{holding}

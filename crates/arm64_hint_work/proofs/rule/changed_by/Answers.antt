@@ -1,7 +1,6 @@
 -- `changed_by`: three places, each written once or not at all.
 use native.Mathlib.Omega.{arith}
 use Rattle.arm64_hint_work.proofs.Changes.{at_most_one}
-use borrow.Author.Rules.{rules}
 use Rattle.arm64_hint_work.proofs.rule.changed_by.Goals as goal
 
 pub overflow_add-result : goal.overflow_add-result

@@ -6,17 +6,16 @@ use native.Mathlib.Omega.{arith}
 use Rattle.arm64_hint_places.specs.Hint.{Inside}
 use Rattle.arm64_hint_check.proofs.Checks.{ready}
 use Rattle.arm64_hint_work.proofs.Steps.{inside-part, skipped-step, worked-step}
-use borrow.Author.Rules.{rules}
 use Rattle.arm64_hint_work.proofs.work.work.Goals as goal
 
 pub returns-then-is_skipped : goal.returns-then-is_skipped
 returns-then-is_skipped c =
     record {
-  outcome = (skipped-step c.args.hints.now c.args.entries.now c.args.image.now c.args.k _ c.read-h.ensures
-    (sym c.is_skipped.ensures ∙ c.if-is_skipped.true)).0;
-  image = (skipped-step c.args.hints.now c.args.entries.now c.args.image.now c.args.k _ c.read-h.ensures
-    (sym c.is_skipped.ensures ∙ c.if-is_skipped.true)).1;
-}
+      outcome = (skipped-step c.args.hints.now c.args.entries.now c.args.image.now c.args.k _ c.read-h.ensures
+          (sym c.is_skipped.ensures ∙ c.if-is_skipped.true)).0;
+      image = (skipped-step c.args.hints.now c.args.entries.now c.args.image.now c.args.k _ c.read-h.ensures
+          (sym c.is_skipped.ensures ∙ c.if-is_skipped.true)).1;
+    }
 
 pub rels_of-r-requires : goal.rels_of-r-requires
 rels_of-r-requires c =
@@ -41,10 +40,10 @@ returns c =
     let j : ℕ = (h.start + h.len) - h.start in
     let e : j ≡ h.len = omega arith in
     record {
-  outcome = (worked-step c.args.hints.now c.args.entries.now c.args.image.now c.args.k h c.read-h.ensures _
-    c.rels_of-r.ensures j (omega (arith, q.part)) (subst (λ (l : ℕ). Inside h l) (sym e) q.words)
-    c.apply.ensures.outcome c.apply.ensures.section).0;
-  image = (worked-step c.args.hints.now c.args.entries.now c.args.image.now c.args.k h c.read-h.ensures _
-    c.rels_of-r.ensures j (omega (arith, q.part)) (subst (λ (l : ℕ). Inside h l) (sym e) q.words)
-    c.apply.ensures.outcome c.apply.ensures.section).1;
-}
+      outcome = (worked-step c.args.hints.now c.args.entries.now c.args.image.now c.args.k h c.read-h.ensures _
+          c.rels_of-r.ensures j (omega (arith, q.part)) (subst (λ (l : ℕ). Inside h l) (sym e) q.words)
+          c.apply.ensures.outcome c.apply.ensures.section).0;
+      image = (worked-step c.args.hints.now c.args.entries.now c.args.image.now c.args.k h c.read-h.ensures _
+          c.rels_of-r.ensures j (omega (arith, q.part)) (subst (λ (l : ℕ). Inside h l) (sym e) q.words)
+          c.apply.ensures.outcome c.apply.ensures.section).1;
+    }

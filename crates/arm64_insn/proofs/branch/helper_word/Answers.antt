@@ -2,7 +2,6 @@
 use native.Mathlib.Omega.{arith}
 use Rattle.util.specs.Choice.{choose}
 use Rattle.arm64_insn.specs.Branch.{helper_word}
-use borrow.Author.Rules.{rules}
 use Rattle.arm64_insn.proofs.branch.helper_word.Goals as goal
 
 pub returns-then-own : goal.returns-then-own

@@ -2,7 +2,6 @@
 use native.Mathlib.Omega.{arith}
 use native.Mathlib.Nat.{div-one}
 use Rattle.arm64_insn.specs.Fix.{relaxed_word}
-use borrow.Author.Rules.{rules}
 use Rattle.arm64_insn.proofs.fix.relaxed_word.Goals as goal
 
 pub returns : goal.returns

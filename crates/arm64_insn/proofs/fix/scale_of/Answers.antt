@@ -10,17 +10,17 @@ pub returns-then-insn-eq-QUAD_FIXED : goal.returns-then-insn-eq-QUAD_FIXED
 unfolding scale_of choose
 returns-then-insn-eq-QUAD_FIXED c =
     rw (
-  matched load_store c.args.insn refl c.if-insn-eq-FIXED.true,
-  matched quad c.args.insn refl c.if-insn-eq-QUAD_FIXED.true,
-)
+      matched load_store c.args.insn refl c.if-insn-eq-FIXED.true,
+      matched quad c.args.insn refl c.if-insn-eq-QUAD_FIXED.true,
+    )
 
 pub returns-then-insn-eq-FIXED : goal.returns-then-insn-eq-FIXED
 unfolding scale_of choose
 returns-then-insn-eq-FIXED c =
     rw (
-  matched load_store c.args.insn refl c.if-insn-eq-FIXED.true,
-  unmatched quad c.args.insn refl c.if-insn-eq-QUAD_FIXED.false,
-)
+      matched load_store c.args.insn refl c.if-insn-eq-FIXED.true,
+      unmatched quad c.args.insn refl c.if-insn-eq-QUAD_FIXED.false,
+    )
 
 pub returns : goal.returns
 unfolding scale_of choose

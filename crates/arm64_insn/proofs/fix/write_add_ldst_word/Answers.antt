@@ -11,7 +11,6 @@ use Rattle.arm64_insn.specs.Fix.{scale_of, offset_with}
 use Rattle.arm64_insn.specs.declared.fix.OffsetWord.TheVariants.{Word}
 use Rattle.arm64_insn.proofs.Scale.{scale-le, scaled}
 use Rattle.arm64_insn.proofs.Kept.{beside_imm12}
-use borrow.Author.Rules.{rules}
 use Rattle.arm64_insn.proofs.fix.write_add_ldst_word.Goals as goal
 
 pub overflow_shl-size : goal.overflow_shl-size

@@ -4,7 +4,6 @@ use Rattle.util.proofs.Diagram.{kept}
 use Rattle.arm64_insn.specs.Reach.{page_offset, page_imm}
 use Rattle.arm64_insn.specs.Fix.{adrp_with}
 use Rattle.arm64_insn.proofs.Kept.{beside_page}
-use borrow.Author.Rules.{rules}
 use Rattle.arm64_insn.proofs.fix.write_adrp_word.Goals as goal
 
 pub overflow_add-result : goal.overflow_add-result

@@ -2,7 +2,6 @@
 use mathlib.Core.Path.{sym, ◌∙◌}
 use Rattle.util.proofs.Choice.{choose-true, choose-false}
 use Rattle.arm64_insn.specs.LoadStoreSplit.{access_by_split}
-use borrow.Author.Rules.{rules}
 use Rattle.arm64_insn.proofs.ldst.access_of.Goals as goal
 
 pub returns-then-v : goal.returns-then-v

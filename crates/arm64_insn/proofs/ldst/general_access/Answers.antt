@@ -4,7 +4,6 @@ use borrow.Author.Tests.{ne_eqb}
 use Rattle.util.specs.Choice.{choose}
 use Rattle.util.proofs.Shift.{one_shl}
 use Rattle.arm64_insn.specs.LoadStoreSplit.{general_access}
-use borrow.Author.Rules.{rules}
 use Rattle.arm64_insn.proofs.ldst.general_access.Goals as goal
 
 pub returns-then-bit_23 : goal.returns-then-bit_23

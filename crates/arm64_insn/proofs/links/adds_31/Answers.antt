@@ -3,7 +3,6 @@ use mathlib.Core.Path.{sym}
 use native.Mathlib.Nat.{div-one}
 use borrow.Author.Tests.{ne_eqb}
 use Rattle.arm64_insn.specs.Links.{adds31}
-use borrow.Author.Rules.{rules}
 use Rattle.arm64_insn.proofs.links.adds_31.Goals as goal
 
 pub returns-then-insn-eq31 : goal.returns-then-insn-eq31

@@ -1,6 +1,5 @@
 -- `links_31` meets its contract, by its two halves. Assumes nothing.
 use Rattle.arm64_insn.specs.Links.{links31}
-use borrow.Author.Rules.{rules}
 use Rattle.arm64_insn.proofs.links.links_31.Goals as goal
 
 pub returns-then-makes_31 : goal.returns-then-makes_31

@@ -10,7 +10,6 @@ use Rattle.arm64_insn.specs.Encoding.{adr, adrp, load_literal}
 use Rattle.arm64_insn.specs.Manual.{size_in}
 use Rattle.arm64_insn.specs.Links.{makes}
 use Rattle.arm64_insn.proofs.Linked.{literal-loads, access-loads, no-load}
-use borrow.Author.Rules.{rules}
 use Rattle.arm64_insn.proofs.links.makes_31.Goals as goal
 
 pub returns-then-insn-ne31 : goal.returns-then-insn-ne31

@@ -3,7 +3,6 @@ use mathlib.Core.Path.{sym, ◌∙◌}
 use borrow.Author.Tests.{ne_eqb}
 use Rattle.arm64_insn.specs.Links.{takes}
 use Rattle.arm64_insn.proofs.Linked.{access-loads, no_access}
-use borrow.Author.Rules.{rules}
 use Rattle.arm64_insn.proofs.links.takes_31.Goals as goal
 
 pub returns-then-insn-ne31 : goal.returns-then-insn-ne31

@@ -1,6 +1,5 @@
 -- `three_meet_31` meets its contract: a word that does not make number 31 does not link by it, and is no ADD to it. Assumes nothing.
 use Rattle.arm64_insn.proofs.Linked.{makes-other}
-use borrow.Author.Rules.{rules}
 use Rattle.arm64_insn.proofs.links.three_meet_31.Goals as goal
 
 pub returns : goal.returns

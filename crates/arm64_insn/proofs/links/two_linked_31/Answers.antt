@@ -1,5 +1,4 @@
 -- `two_linked_31` meets its contract, test by test. Assumes nothing.
-use borrow.Author.Rules.{rules}
 use Rattle.arm64_insn.proofs.links.two_linked_31.Goals as goal
 
 pub returns-then-links_31 : goal.returns-then-links_31

@@ -4,7 +4,6 @@ use native.Mathlib.Omega.{arith}
 use Rattle.arm64_insn.specs.Reach.{page_offset, page_imm}
 use Rattle.arm64_insn.specs.Stub.{stub_words}
 use Rattle.arm64_insn.proofs.Three.{three}
-use borrow.Author.Rules.{rules}
 use Rattle.arm64_insn.proofs.stub.stub_words.Goals as goal
 
 pub overflow_add-result : goal.overflow_add-result

@@ -5,7 +5,6 @@ use native.Mathlib.Nat.{div-one}
 use Rattle.arm64_insn.specs.Reach.{page_offset, page_imm}
 use Rattle.arm64_insn.specs.Stub.{thunk_words}
 use Rattle.arm64_insn.proofs.Three.{three}
-use borrow.Author.Rules.{rules}
 use Rattle.arm64_insn.proofs.stub.thunk_words.Goals as goal
 
 pub overflow_add-result : goal.overflow_add-result

@@ -1,5 +1,4 @@
 -- `entry`: each bit has its value.
-use borrow.Author.Rules.{rules}
 use Rattle.arm64_ldst_class.proofs.LoadStoreClass.entry.Goals as goal
 
 pub returns-in-Moves : goal.returns-in-Moves

@@ -1,8 +1,7 @@
 -- `check_reloc` meets its contract: the tests on the way to each return decide the choices.
-use borrow.Author.Tests.{eq-eqb, ne_eqb, not-true, not-false}
+use borrow.Author.Tests.{eq-eqb, ne_eqb}
 use Rattle.arm64_reader.specs.Check.{check_reloc}
 use Rattle.util.specs.Choice.{choose}
-use borrow.Author.Rules.{rules}
 use Rattle.arm64_reader.proofs.check.check_reloc.Goals as goal
 
 pub returns-then-not-is_supported : goal.returns-then-not-is_supported

@@ -2,7 +2,6 @@
 use borrow.Author.Tests.{eq-eqb, ne_eqb, lt-ltb, le-ltb}
 use Rattle.arm64_reader.specs.Check.{word_check}
 use Rattle.util.specs.Choice.{choose}
-use borrow.Author.Rules.{rules}
 use Rattle.arm64_reader.proofs.check.check_word.Goals as goal
 
 pub returns-then-loc-lt4 : goal.returns-then-loc-lt4

@@ -1,6 +1,5 @@
 -- `got_fits` meets its contract: the first test decides the disjunction.
 use Rattle.arm64_reader.specs.Check.{got_fits}
-use borrow.Author.Rules.{rules}
 use Rattle.arm64_reader.proofs.check.got_fits.Goals as goal
 
 pub returns-then-is_add_either : goal.returns-then-is_add_either

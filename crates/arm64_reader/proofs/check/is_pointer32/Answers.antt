@@ -1,7 +1,6 @@
 -- `is_pointer32` meets its contract: the tests on the way to each return decide the conjunction.
 use borrow.Author.Tests.{eq-eqb, ne_eqb}
 use Rattle.arm64_reader.specs.Check.{pointer32}
-use borrow.Author.Rules.{rules}
 use Rattle.arm64_reader.proofs.check.is_pointer32.Goals as goal
 
 pub returns-then-ty-ne-ARM64_RELOC_UNSIGNED : goal.returns-then-ty-ne-ARM64_RELOC_UNSIGNED

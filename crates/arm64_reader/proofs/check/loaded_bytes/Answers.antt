@@ -2,7 +2,6 @@
 use mathlib.Core.Path.{sym, ◌∙◌}
 use Rattle.util.specs.Choice.{choose}
 use Rattle.arm64_reader.specs.Check.{loaded_bytes}
-use borrow.Author.Rules.{rules}
 use Rattle.arm64_reader.proofs.check.loaded_bytes.Goals as goal
 
 pub returns-then-ls : goal.returns-then-ls

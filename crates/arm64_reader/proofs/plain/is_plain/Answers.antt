@@ -5,7 +5,6 @@ use native.Mathlib.Omega.{arith}
 use Rattle.util.specs.Choice.{choose}
 use Rattle.arm64_reader.specs.Plain.{plain_forms}
 use Rattle.arm64_reader.proofs.PlainRecords.{plain-byte, other_byte}
-use borrow.Author.Rules.{rules}
 use Rattle.arm64_reader.proofs.plain.is_plain.Goals as goal
 
 pub returns-in-28 : goal.returns-in-28

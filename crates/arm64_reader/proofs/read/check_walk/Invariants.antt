@@ -1,13 +1,11 @@
 -- `check_walk` meets its contract: what is left to read, counted on from here, is the answer; a turn is `check-read` or `check-refused` of Walk.
-use mathlib.Core.Path.{◌≡◌, sym, ap, ◌∙◌}
+use mathlib.Core.Path.{◌≡◌}
 use Prim.Native.Nat.{◌≤◌, ◌-◌, ◌/◌}
-use native.Mathlib.Omega.{arith}
-use borrow.Author.Rules.{rules}
 use lib.ListN.{length}
 use Rattle.arch.specs.Walk.{answer_of}
-use Rattle.arch.proofs.Walk.{Rest, counted, check-start, check-read, check-refused, check_done}
+use Rattle.arch.proofs.Walk.{Rest, counted}
 use Rattle.arm64_reader.specs.Read.{read_table}
-use Rattle.arm64_reader.proofs.Steps.{table_step, table_is, table-onward}
+use Rattle.arm64_reader.proofs.Steps.{table_step}
 use Rattle.arm64_reader.proofs.read.check_walk.Given as goal
 
 abbrev pub invariant-loop-i : goal.invariant-loop-i

@@ -1,19 +1,15 @@
 -- `fill_walk` meets its contract: what is left to read, stored on from here, makes the slots after; a turn is `fill-read` and `fill-stored` of Walk.
-use mathlib.Core.Path.{◌≡◌, refl, sym, ap, subst, ◌∙◌}
-use Prim.Native.Nat.{◌≤◌, ◌-◌, ◌/◌}
+use mathlib.Core.Path.{refl, sym, ap, subst, ◌∙◌}
 use native.Mathlib.Omega.{arith}
 use borrow.Author.Rules.{rules}
-use lib.ListN.{length}
 use Rattle.arch.specs.Walk.{Reading, Fills, slots_after}
-use Rattle.arch.proofs.Walk.{Rest, stored, fill_start, fill-fills, fill-read, fill-stored, fill-refused, fill-reads, fill_done}
-use Rattle.arm64_reader.specs.Read.{read_table}
-use Rattle.arm64_reader.proofs.Steps.{table_step, table_is, table-onward}
+use Rattle.arch.proofs.Walk.{fill_start, fill-fills, fill-read, fill-stored, fill-refused, fill-reads, fill_done}
+use Rattle.arm64_reader.proofs.Steps.{table_is, table-onward}
 use Rattle.arm64_reader.proofs.read.fill_walk.Goals as goal
 
 pub loop-i-init : goal.loop-i-init
 loop-i-init c =
-    let t = table_is c.args.contents.now c.args.records.now c.args.sections.now in
-    (
+    let t = table_is c.args.contents.now c.args.records.now c.args.sections.now in (
       search rules,
       fill-fills _ _ (subst Fills t c.requires.0),
       fill_start _ _ c.args.slots.now c.requires.1 ∙ ap (λ (x : Reading). slots_after x c.args.slots.now) (sym t),
@@ -49,13 +45,12 @@ loop-i-smaller c =
     omega (arith, table-onward _ _ _ c.loop-i.i c.in-Read.is c.enter_one.ensures)
 
 pub loop-i-preserved : goal.loop-i-preserved
-loop-i-preserved c =
-    (
-      omega (arith, table-onward _ _ _ c.loop-i.i c.in-Read.is c.enter_one.ensures),
-      fill-read _ _ c.loop-i.count c.loop-i.i c.loop-i.invariant.0 c.loop-i-test.true c.in-Read.is c.enter_one.ensures c.loop-i.invariant.1,
-      rw c.write.ensures (fill-stored _ _ c.loop-i.count c.loop-i.i c.loop-i.slots c.loop-i.invariant.0 c.loop-i-test.true c.in-Read.is c.enter_one.ensures c.loop-i.invariant.1 ∙ c.loop-i.invariant.2),
-      omega arith,
-    )
+loop-i-preserved c = (
+  omega (arith, table-onward _ _ _ c.loop-i.i c.in-Read.is c.enter_one.ensures),
+  fill-read _ _ c.loop-i.count c.loop-i.i c.loop-i.invariant.0 c.loop-i-test.true c.in-Read.is c.enter_one.ensures c.loop-i.invariant.1,
+  rw c.write.ensures (fill-stored _ _ c.loop-i.count c.loop-i.i c.loop-i.slots c.loop-i.invariant.0 c.loop-i-test.true c.in-Read.is c.enter_one.ensures c.loop-i.invariant.1 ∙ c.loop-i.invariant.2),
+  omega arith,
+)
 
 pub shape_of-slots : goal.shape_of-slots
 shape_of-slots c =

@@ -1,13 +1,11 @@
 -- `fill_walk` meets its contract: what is left to read, stored on from here, makes the slots after; a turn is `fill-read` and `fill-stored` of Walk.
-use mathlib.Core.Path.{◌≡◌, refl, sym, ap, subst, ◌∙◌}
+use mathlib.Core.Path.{◌≡◌}
 use Prim.Native.Nat.{◌≤◌, ◌-◌, ◌/◌}
-use native.Mathlib.Omega.{arith}
-use borrow.Author.Rules.{rules}
 use lib.ListN.{length}
-use Rattle.arch.specs.Walk.{Reading, Fills, slots_after}
-use Rattle.arch.proofs.Walk.{Rest, stored, fill_start, fill-fills, fill-read, fill-stored, fill-refused, fill-reads, fill_done}
+use Rattle.arch.specs.Walk.{Fills, slots_after}
+use Rattle.arch.proofs.Walk.{Rest, stored}
 use Rattle.arm64_reader.specs.Read.{read_table}
-use Rattle.arm64_reader.proofs.Steps.{table_step, table_is, table-onward}
+use Rattle.arm64_reader.proofs.Steps.{table_step}
 use Rattle.arm64_reader.proofs.read.fill_walk.Given as goal
 
 abbrev pub invariant-loop-i : goal.invariant-loop-i

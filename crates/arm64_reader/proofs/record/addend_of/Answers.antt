@@ -2,7 +2,6 @@
 use borrow.Author.Tests.{eq-eqb, ne_eqb, lt-ltb, le-ltb}
 use Rattle.arm64_reader.specs.Record.{addend_of}
 use Rattle.util.specs.Choice.{choose}
-use borrow.Author.Rules.{rules}
 use Rattle.arm64_reader.proofs.record.addend_of.Goals as goal
 
 pub returns-then-ty-ne-ARM64_RELOC_UNSIGNED : goal.returns-then-ty-ne-ARM64_RELOC_UNSIGNED

@@ -4,7 +4,6 @@ use lib.ListN.{drop}
 use native.Mathlib.Omega.{arith}
 use lib.ListN.{length, length-drop}
 use lib.Seq.{take_all}
-use borrow.Author.Rules.{rules}
 use Rattle.arm64_reader.proofs.record.contents_from.Goals as goal
 
 pub returns : goal.returns

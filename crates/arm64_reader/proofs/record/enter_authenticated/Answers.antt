@@ -2,7 +2,6 @@
 use borrow.Author.Tests.{lt-ltb, le-ltb}
 use Rattle.util.specs.Choice.{choose}
 use Rattle.arm64_reader.specs.Record.{authenticated_record}
-use borrow.Author.Rules.{rules}
 use Rattle.arm64_reader.proofs.record.enter_authenticated.Goals as goal
 
 pub returns-then-loc-lt8 : goal.returns-then-loc-lt8

@@ -6,7 +6,6 @@ use lib.ListN.{length}
 use Rattle.macho.specs.declared.mach_rel.MachRel.{MachRel}
 use Rattle.arch.specs.Table.{records_of, record_at}
 use Rattle.arm64_reader.proofs.Steps.{past_is, entered-is, offset-within, own-there, own-missing}
-use borrow.Author.Rules.{rules}
 use Rattle.arm64_reader.proofs.record.enter_one.Goals as goal
 
 pub returns-then-contents-first : goal.returns-then-contents-first

@@ -2,7 +2,6 @@
 use mathlib.Core.Path.{sym, ◌∙◌}
 use borrow.Author.Tests.{eq-eqb, ne_eqb}
 use Rattle.util.specs.Choice.{choose}
-use borrow.Author.Rules.{rules}
 use Rattle.arm64_reader.proofs.record.enter_record.Goals as goal
 
 pub returns-then-ty-eq-ARM64_RELOC_AUTHENTICATED_POINTER : goal.returns-then-ty-eq-ARM64_RELOC_AUTHENTICATED_POINTER

@@ -1,7 +1,6 @@
 -- `own_number` meets its contract: the type of record i decides the choice.
 use borrow.Author.Tests.{eq-eqb, ne_eqb}
 use Rattle.util.specs.Choice.{choose}
-use borrow.Author.Rules.{rules}
 use Rattle.arm64_reader.proofs.record.own_number.Goals as goal
 
 pub returns-then-ty-eq-ARM64_RELOC_ADDEND : goal.returns-then-ty-eq-ARM64_RELOC_ADDEND

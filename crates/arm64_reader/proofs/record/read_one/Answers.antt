@@ -7,7 +7,6 @@ use mathlib.Core.Bool.{true, false}
 use Rattle.arch.specs.Table.{records_of, record_at}
 use borrow.Author.Tests.{lt-ltb}
 use Rattle.util.specs.Choice.{choose}
-use borrow.Author.Rules.{rules}
 use Rattle.arm64_reader.proofs.record.read_one.Goals as goal
 
 pub returns-then-contents-offset : goal.returns-then-contents-offset

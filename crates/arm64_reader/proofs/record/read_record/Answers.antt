@@ -1,7 +1,6 @@
 -- `read_record` meets its contract: the check's answer decides the case.
 use mathlib.Core.Path.{sym, ◌∙◌}
 use Rattle.arm64_reader.specs.Record.{record_of}
-use borrow.Author.Rules.{rules}
 use Rattle.arm64_reader.proofs.record.read_record.Goals as goal
 
 pub returns-in-Refused : goal.returns-in-Refused

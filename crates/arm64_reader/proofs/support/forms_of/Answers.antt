@@ -1,8 +1,8 @@
 -- `forms_of` meets its contract: the types that the code names compute, those of one pc-relative form by one test of all below 9 (`every-at`).
 use mathlib.Core.Path.{◌≡◌, refl, sym, ap}
-use mathlib.Core.Logic.{◌⊎◌, inl, inr, ⊎_elim}
-use mathlib.Core.Bool.{true, ◌||◌}
-use mathlib.Core.List.{List, []}
+use mathlib.Core.Logic.{inl, inr, ⊎_elim}
+use mathlib.Core.Bool.{◌||◌}
+use mathlib.Core.List.{[]}
 use Prim.Native.Nat.{ℕ, ◌<◌, ◌≤◌}
 use native.Mathlib.Omega.{arith}
 use borrow.Author.Tests.{ne_eqb, eqb-true}
@@ -12,7 +12,6 @@ use Rattle.util.proofs.Below.{every, every-at}
 use Rattle.util.specs.Choice.{choose}
 use Rattle.arch.specs.Form.{form, bit_of, bits_of}
 use Rattle.arm64_reader.specs.Support.{forms, forms_of}
-use borrow.Author.Rules.{rules}
 use Rattle.arm64_reader.proofs.support.forms_of.Goals as goal
 use Rattle.arm64_reader.proofs.support.forms_of.Goals.{in-5-1, in_default+then-ty-lt9}
 
@@ -64,8 +63,8 @@ unfolding forms_of
 returns-in-2 c =
     rw c.reloc_form-in-2.ensures
     (elim c.in-2-1.branch [
-      in-5-1 w ↦ ap (λ (t : ℕ). bits_of (forms_of t)) (sym w.in-5-1.keys3)
-    | in_default+then-ty-lt9 w ↦
-      let r = w.in_default-1.rest.0.0 in
-      sym (word c.args.ty w.if-ty-lt9-1.true r.0.0.0.1 r.0.0.1 (λ e. r.1 (inl e)) r.0.1 (λ e. r.1 (inr (inl e))))
+      | in-5-1 w ↦ ap (λ (t : ℕ). bits_of (forms_of t)) (sym w.in-5-1.keys3)
+      | in_default+then-ty-lt9 w ↦
+          let r = w.in_default-1.rest.0.0 in
+          sym (word c.args.ty w.if-ty-lt9-1.true r.0.0.0.1 r.0.0.1 (λ e. r.1 (inl e)) r.0.1 (λ e. r.1 (inr (inl e))))
     ])

@@ -6,7 +6,6 @@ use Rattle.macho.specs.MachRel.{form_of}
 use Rattle.arch.specs.Form.{bits_of}
 use Rattle.arch.proofs.Forms.{supported-bits}
 use Rattle.arm64_reader.specs.Support.{forms, forms_of, supported_of}
-use borrow.Author.Rules.{rules}
 use Rattle.arm64_reader.proofs.support.is_supported.Goals as goal
 
 pub returns : goal.returns

@@ -2,7 +2,6 @@
 use borrow.Author.Tests.{eq-eqb, ne_eqb}
 use Rattle.util.specs.Choice.{choose}
 use Rattle.hint_payload.specs.Row.{addresses_left}
-use borrow.Author.Rules.{rules}
 use Rattle.hint_payload.proofs.expected.addresses_left.Goals as goal
 
 pub returns-then-n-eq0 : goal.returns-then-n-eq0

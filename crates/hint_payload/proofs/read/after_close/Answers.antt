@@ -1,7 +1,6 @@
 -- By the test of the bytes after the close.
 use native.Mathlib.Nat.{add-zero}
 use Rattle.util.specs.Choice.{choose}
-use borrow.Author.Rules.{rules}
 use Rattle.hint_payload.proofs.read.after_close.Goals as goal
 
 pub returns-then-all_zero : goal.returns-then-all_zero

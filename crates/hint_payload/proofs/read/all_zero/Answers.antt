@@ -1,9 +1,6 @@
 -- From byte to byte: what is left is all zero just where the whole is.
-use mathlib.Core.Path.{◌≡◌, refl, sym, ◌∙◌}
-use Prim.Native.Nat.{◌-◌, ◌≤◌}
+use mathlib.Core.Path.{refl, sym, ◌∙◌}
 use native.Mathlib.Omega.{arith}
-use lib.ListN.{length, drop}
-use Rattle.hint_payload.specs.Payload.{all_zero}
 use Rattle.hint_payload.proofs.Turns.{zero-at, nonzero-at, none_left}
 use borrow.Author.Rules.{rules}
 use Rattle.hint_payload.proofs.read.all_zero.Goals as goal

@@ -1,6 +1,5 @@
 -- By the cases of what comes next.
 use native.Mathlib.Nat.{add-zero}
-use borrow.Author.Rules.{rules}
 use Rattle.hint_payload.proofs.read.at_end.Goals as goal
 
 pub returns-in-Kind : goal.returns-in-Kind

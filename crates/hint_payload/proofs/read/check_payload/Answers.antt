@@ -1,18 +1,10 @@
 -- From value to value: those so far and those of what is left count as the whole does.
-use mathlib.Core.Path.{◌≡◌, sym, ap, ◌∙◌, subst}
-use Prim.Native.Nat.{◌+◌, ◌-◌, ◌≤◌}
+use mathlib.Core.Path.{sym, ap, ◌∙◌}
+use Prim.Native.Nat.{◌+◌}
 use native.Mathlib.Omega.{arith}
-use mathlib.Core.List.{[], ◌∷◌}
-use mathlib.Core.Logic.{⊎_elim}
-use lib.ListN.{length}
-use types.Run.{OneOf}
-use denote.Enum.Declared.{tag_of}
 use Rattle.uleb.proofs.Placed.{read-value}
-use Rattle.hint_payload.specs.Payload.{payload_of}
-use Rattle.hint_payload.specs.Answer.{count_in, count_after}
+use Rattle.hint_payload.specs.Answer.{count_after}
 use Rattle.hint_payload.specs.declared.expected.Expected.{Expected}
-use Rattle.hint_payload.specs.declared.expected.Expected.TheVariants.{Zeros}
-use Rattle.hint_payload.specs.contracts.expected.Expected.{the_type}
 use Rattle.hint_payload.proofs.Turns.{Rest, check-start, check-refused, check-closed, check-more, check-end}
 use borrow.Author.Rules.{rules}
 use Rattle.hint_payload.proofs.read.check_payload.Goals as goal
@@ -50,8 +42,7 @@ loop-at-smaller c =
 
 pub loop-at-preserved : goal.loop-at-preserved
 loop-at-preserved c =
-    let r = read-value c.args.payload.now c.loop-at.at c.in-Value.value c.in-Value.next c.read_uleb.result c.loop-at.invariant.0 c.in-Value.is c.read_uleb.ensures in
-    (
+    let r = read-value c.args.payload.now c.loop-at.at c.in-Value.value c.in-Value.next c.read_uleb.result c.loop-at.invariant.0 c.in-Value.is c.read_uleb.ensures in (
       r.within,
       omega (arith, r.onward, c.loop-at.invariant.1),
       ap (λ (e : Expected). count_after (c.loop-at.count + 1) (Rest c.args.payload.now e c.in-Value.next)) c.after-expected.ensures

@@ -1,13 +1,13 @@
 -- From value to value: what is left of the first values, stored from i on, leaves the slots that all of them do.
 use mathlib.Core.Path.{◌≡◌, refl, ap, ◌∙◌}
-use Prim.Native.Nat.{ℕ, ◌+◌, ◌-◌, ◌≤◌}
+use Prim.Native.Nat.{ℕ, ◌+◌, ◌-◌}
 use native.Mathlib.Omega.{arith}
-use lib.ListN.{length, length-set}
+use lib.ListN.{length-set}
 use lib.Seq.{sets}
 use Rattle.uleb.specs.Values.{values_of}
 use Rattle.uleb.proofs.Placed.{read-value}
 use Rattle.hint_payload.specs.Payload.{first_values}
-use Rattle.hint_payload.proofs.Turns.{FirstFrom, fill-value, fill-refused, fill_done}
+use Rattle.hint_payload.proofs.Turns.{fill-value, fill-refused, fill_done}
 use borrow.Author.Rules.{rules}
 use Rattle.hint_payload.proofs.read.fill.Goals as goal
 
@@ -27,8 +27,7 @@ bounds-slots-i c =
 
 pub loop-i-preserved : goal.loop-i-preserved
 loop-i-preserved c =
-    let r = read-value c.args.payload.now c.loop-i.at c.in-Value.value c.in-Value.next c.read_uleb.result c.loop-i.invariant.1 c.in-Value.is c.read_uleb.ensures in
-    (
+    let r = read-value c.args.payload.now c.loop-i.at c.in-Value.value c.in-Value.next c.read_uleb.result c.loop-i.invariant.1 c.in-Value.is c.read_uleb.ensures in (
       search rules,
       r.within,
       simp length-set c.loop-i.invariant.2,

@@ -1,14 +1,11 @@
 -- From value to value: what is left of the first values, stored from i on, leaves the slots that all of them do.
-use mathlib.Core.Path.{◌≡◌, refl, ap, ◌∙◌}
-use Prim.Native.Nat.{ℕ, ◌+◌, ◌-◌, ◌≤◌}
-use native.Mathlib.Omega.{arith}
-use lib.ListN.{length, length-set}
+use mathlib.Core.Path.{◌≡◌}
+use Prim.Native.Nat.{◌-◌, ◌≤◌}
+use lib.ListN.{length}
 use lib.Seq.{sets}
 use Rattle.uleb.specs.Values.{values_of}
-use Rattle.uleb.proofs.Placed.{read-value}
 use Rattle.hint_payload.specs.Payload.{first_values}
-use Rattle.hint_payload.proofs.Turns.{FirstFrom, fill-value, fill-refused, fill_done}
-use borrow.Author.Rules.{rules}
+use Rattle.hint_payload.proofs.Turns.{FirstFrom}
 use Rattle.hint_payload.proofs.read.fill.Given as goal
 
 abbrev pub invariant-loop-i : goal.invariant-loop-i

@@ -2,7 +2,6 @@
 use borrow.Author.Tests.{lt-ltb, le-ltb}
 use Rattle.util.specs.Choice.{choose}
 use Rattle.hint_payload.specs.Answer.{row_check}
-use borrow.Author.Rules.{rules}
 use Rattle.hint_payload.proofs.write.check_row.Goals as goal
 
 pub returns-then-row-gt-MOST_RECORDS : goal.returns-then-row-gt-MOST_RECORDS

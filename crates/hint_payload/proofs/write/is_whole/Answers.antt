@@ -1,11 +1,10 @@
 -- From value to value: what comes after what is left is what comes after the row.
 use mathlib.Core.Path.{◌≡◌, refl, sym, ap, ◌∙◌}
-use Prim.Native.Nat.{◌+◌, ◌-◌, ◌≤◌}
+use Prim.Native.Nat.{◌+◌}
 use native.Mathlib.Omega.{arith}
 use lib.ListN.{length, drop}
 use Rattle.hint_payload.specs.Row.{expected_in, is_kind}
 use Rattle.hint_payload.specs.declared.expected.Expected.{Expected}
-use Rattle.hint_payload.specs.declared.expected.Expected.TheVariants.{Kind}
 use Rattle.hint_payload.proofs.Turns.{row_more, row-end}
 use borrow.Author.Rules.{rules}
 use Rattle.hint_payload.proofs.write.is_whole.Goals as goal
@@ -15,13 +14,12 @@ loop-i-init c =
     (search rules, refl)
 
 pub loop-i-preserved : goal.loop-i-preserved
-loop-i-preserved c =
-    (
-      search rules,
-      ap (λ (e : Expected). expected_in e (drop (c.loop-i.i + 1) c.args.row.now)) c.after-expected.ensures
-          ∙ row_more c.args.row.now c.loop-i.expected c.loop-i.i c.loop-i-test.true
-          ∙ c.loop-i.invariant.1,
-    )
+loop-i-preserved c = (
+  search rules,
+  ap (λ (e : Expected). expected_in e (drop (c.loop-i.i + 1) c.args.row.now)) c.after-expected.ensures
+      ∙ row_more c.args.row.now c.loop-i.expected c.loop-i.i c.loop-i-test.true
+      ∙ c.loop-i.invariant.1,
+)
 
 pub returns : goal.returns
 returns c =

@@ -1,7 +1,7 @@
 -- After i turns the spellings of the first i values are stored.
 use mathlib.Core.Path.{◌≡◌, refl, ap, ◌∙◌, subst}
 use mathlib.Core.List.{List}
-use Prim.Native.Nat.{ℕ, ◌-◌, ◌*◌, ◌≤◌}
+use Prim.Native.Nat.{ℕ}
 use native.Mathlib.Omega.{arith}
 use lib.ListN.{length, get_or, take}
 use lib.Seq.{take-length}
@@ -24,8 +24,7 @@ write_uleb-at-requires c =
 
 pub loop-i-preserved : goal.loop-i-preserved
 loop-i-preserved c =
-    let more = ulebs-next c.args.row.now c.loop-i.i c.loop-i-test.true in
-    (
+    let more = ulebs-next c.args.row.now c.loop-i.i c.loop-i-test.true in (
       search rules,
       omega (arith, c.write_uleb-at.ensures.ends, ten-bytes (get_or c.args.row.now c.loop-i.i 0)),
       c.write_uleb-at.auto.out ∙ c.loop-i.invariant.2,

@@ -1,6 +1,5 @@
 -- `class_of_fields` meets its contract: the row by its mnemonic. Assumes nothing.
 use Rattle.ldst_table_rows.proofs.ClassLaws.{class-row}
-use borrow.Author.Rules.{rules}
 use Rattle.ldst_table_rows.proofs.class.class_of_fields.Goals as goal
 
 pub returns-in-Load : goal.returns-in-Load

@@ -3,7 +3,6 @@ use mathlib.Core.Path.{sym, ◌∙◌}
 use native.Mathlib.Nat.{div-one}
 use Rattle.util.proofs.Choice.{choose-true, choose-false}
 use Rattle.arm64_ldst_class.specs.Row.{class_of_index}
-use borrow.Author.Rules.{rules}
 use Rattle.ldst_table_rows.proofs.class.class_of_index.Goals as goal
 
 pub returns-then-has_fixed_fields : goal.returns-then-has_fixed_fields

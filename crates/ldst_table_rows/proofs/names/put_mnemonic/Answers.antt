@@ -1,5 +1,4 @@
 -- `put_mnemonic` meets its contract: a text for each mnemonic. Assumes nothing.
-use borrow.Author.Rules.{rules}
 use Rattle.ldst_table_rows.proofs.names.put_mnemonic.Goals as goal
 
 pub returns-in-Strb : goal.returns-in-Strb

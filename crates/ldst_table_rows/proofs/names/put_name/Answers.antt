@@ -6,7 +6,6 @@ use Rattle.util.proofs.Choice.{choose-true, choose-false}
 use Rattle.util.proofs.Puts.{put_then}
 use Rattle.ldst_table_rows.specs.Names.{name_at}
 use Rattle.ldst_table_rows.proofs.NameLaws.{row-length}
-use borrow.Author.Rules.{rules}
 use Rattle.ldst_table_rows.proofs.names.put_name.Goals as goal
 
 pub put-requires : goal.put-requires

@@ -1,5 +1,4 @@
 -- `put_row` meets its contract: the mnemonic, or that there is none. Assumes nothing.
-use borrow.Author.Rules.{rules}
 use Rattle.ldst_table_rows.proofs.names.put_row.Goals as goal
 
 pub returns-in-Load : goal.returns-in-Load

@@ -1,6 +1,5 @@
 -- `row_of` meets its contract: an arm for each allocated row, the place of the others in none of them. Assumes nothing.
 use Rattle.ldst_table_rows.proofs.RowLaws.{row_at, row_other}
-use borrow.Author.Rules.{rules}
 use Rattle.ldst_table_rows.proofs.rows.row_of.Goals as goal
 
 pub returns-in-0 : goal.returns-in-0

@@ -1,6 +1,5 @@
 -- `class_by` meets its contract, for each pair of answers. Assumes nothing.
 use Rattle.lister_text.proofs.Classes.{stores, loads}
-use borrow.Author.Rules.{rules}
 use Rattle.lister_text.proofs.class.class_by.Goals as goal
 
 pub returns-then-l : goal.returns-then-l

@@ -3,7 +3,6 @@ use mathlib.Core.Path.{◌≡◌, ap}
 use Prim.Native.Nat.{ℕ, ◌/◌, ◌%◌, ◌^◌}
 use native.Mathlib.Nat.{div-one}
 use native.Mathlib.Omega.{arith}
-use borrow.Author.Rules.{rules}
 use lib.Pow.{mod-mod-pow}
 use Rattle.macho.specs.Authenticated.{diversity_of, address_diversity_of, key_of, authenticated_word}
 use Rattle.macho.proofs.authenticated.authenticated_word.Goals as goal

@@ -1,6 +1,5 @@
 -- The sum is the definition's.
 use native.Mathlib.Omega.{arith}
-use borrow.Author.Rules.{rules}
 use Rattle.macho.specs.Authenticated.{signing_in}
 use Rattle.macho.proofs.authenticated.signing_in.Goals as goal
 

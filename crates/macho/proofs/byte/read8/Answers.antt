@@ -2,7 +2,6 @@
 use mathlib.Core.Path.{sym}
 use native.Mathlib.Omega.{arith}
 use Rattle.util.proofs.Word.{le-one}
-use borrow.Author.Rules.{rules}
 use Rattle.macho.proofs.byte.read8.Goals as goal
 
 pub returns : goal.returns

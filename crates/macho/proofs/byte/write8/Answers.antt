@@ -4,7 +4,6 @@ use Prim.Native.Nat.{◌%◌}
 use Rattle.util.specs.Word.{put}
 use native.Mathlib.Omega.{arith}
 use native.Mathlib.Nat.{add-zero, div-one}
-use borrow.Author.Rules.{rules}
 use Rattle.macho.proofs.byte.write8.Goals as goal
 
 pub returns : goal.returns

@@ -1,6 +1,5 @@
 -- The stores one after another are the law of a record stored field by field.
 use Rattle.macho.proofs.Record.{puts}
-use borrow.Author.Rules.{rules}
 use Rattle.macho.proofs.byte.write_head.Goals as goal
 
 pub returns : goal.returns

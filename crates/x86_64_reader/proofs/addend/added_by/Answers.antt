@@ -1,7 +1,6 @@
 -- `added_by` meets its contract: whether the record names a symbol, and else whether it is pc-relative, decides the case.
 use Rattle.x86_64_reader.specs.Addend.{added_by}
 use Rattle.util.specs.Choice.{choose}
-use borrow.Author.Rules.{rules}
 use Rattle.x86_64_reader.proofs.addend.added_by.Goals as goal
 
 pub returns-then-is_extern : goal.returns-then-is_extern

@@ -5,7 +5,6 @@ use native.Mathlib.Omega.{arith}
 use borrow.Author.Tests.{ne_eqb}
 use Rattle.util.specs.Choice.{choose}
 use Rattle.x86_64_reader.specs.Addend.{width_of, embedded_at}
-use borrow.Author.Rules.{rules}
 use Rattle.x86_64_reader.proofs.addend.embedded.Goals as goal
 
 -- the bytes for the powers 0 and 2, and for any other

@@ -1,5 +1,4 @@
 -- `own_addend` meets its contract: the promises of its calls are what is said.
-use borrow.Author.Rules.{rules}
 use Rattle.x86_64_reader.proofs.addend.own_addend.Goals as goal
 
 pub embedded-requires : goal.embedded-requires

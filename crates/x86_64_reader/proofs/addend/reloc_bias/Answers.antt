@@ -7,7 +7,6 @@ use lib.Dec.{eqb}
 use Rattle.util.specs.Choice.{choose}
 use Rattle.util.proofs.Below.{every, every-at}
 use Rattle.x86_64_reader.specs.Addend.{bias_of}
-use borrow.Author.Rules.{rules}
 use Rattle.x86_64_reader.proofs.addend.reloc_bias.Goals as goal
 
 bias-is : (ty : ℕ) → ty < 16 → 0x421000000 / 2 ^ (4 * ty) % 16 ≡ bias_of ty

@@ -1,10 +1,9 @@
 -- `check_reloc` meets its contract: each test of the code is one of the definition, in its order.
-use borrow.Author.Tests.{lt-ltb, le-ltb, not-true, not-false}
+use borrow.Author.Tests.{lt-ltb, le-ltb}
 use native.Mathlib.Omega.{arith}
 use Rattle.x86_64_reader.specs.Record.{check_reloc}
 use Rattle.x86_64_reader.proofs.Steps.{width-most}
 use Rattle.util.specs.Choice.{choose}
-use borrow.Author.Rules.{rules}
 use Rattle.x86_64_reader.proofs.check.check_reloc.Goals as goal
 
 pub returns-then-not-is_supported : goal.returns-then-not-is_supported

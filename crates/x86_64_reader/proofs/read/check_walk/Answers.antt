@@ -1,18 +1,16 @@
 -- `check_walk` meets its contract: what is left to read, counted on from here, is the answer; a turn is `check-read` or `check-refused` of Walk.
-use mathlib.Core.Path.{◌≡◌, refl, sym, ap, ◌∙◌}
+use mathlib.Core.Path.{refl, sym, ap, ◌∙◌}
 use mathlib.Core.Bool.{false}
-use Prim.Native.Nat.{ℕ, ◌≤◌, ◌-◌, ◌/◌}
+use Prim.Native.Nat.{◌/◌}
 use native.Mathlib.Omega.{arith}
-use borrow.Author.Rules.{rules}
 use lib.ListN.{length}
 use Rattle.macho.specs.declared.mach_rel.MachRel.{MachRel}
 use Rattle.macho.specs.declared.refusal.Answer.TheVariants.{Filled}
 use Rattle.arch.specs.Table.{records_of}
 use Rattle.arch.specs.Walk.{answer_of}
-use Rattle.arch.proofs.Walk.{Rest, counted, check-start, check-read, check-refused, check_done}
+use Rattle.arch.proofs.Walk.{check-start, check-read, check-refused, check_done}
 use Rattle.x86_64_reader.specs.Record.{check_reloc}
-use Rattle.x86_64_reader.specs.Read.{read_table}
-use Rattle.x86_64_reader.proofs.Steps.{fit_is, refused-is, table_step, table_is}
+use Rattle.x86_64_reader.proofs.Steps.{fit_is, refused-is, table_is}
 use Rattle.x86_64_reader.proofs.read.check_walk.Goals as goal
 
 pub loop-i-init : goal.loop-i-init
@@ -34,8 +32,7 @@ pub loop-i-preserved : goal.loop-i-preserved
 loop-i-preserved c =
     let f = ap (λ (r : MachRel). check_reloc (length c.args.contents.now) (length c.args.sections.now) r) (sym c.record_at.ensures)
     ∙ sym c.check_reloc.ensures
-    ∙ c.in-Fit.is in
-    (
+    ∙ c.in-Fit.is in (
       omega arith,
       λ address.
           check-read _ _ c.loop-i.i c.loop-i.i (omega arith) c.loop-i-test.true (fit_is _ _ address false (records_of c.args.records.now) c.loop-i.i f) refl

@@ -8,7 +8,6 @@ use Rattle.macho.specs.declared.mach_rel.MachRel.{MachRel}
 use Rattle.arch.specs.Table.{records_of}
 use Rattle.x86_64_reader.specs.Addend.{width_of}
 use Rattle.x86_64_reader.proofs.Steps.{fit_found, reads_fit, entered-is}
-use borrow.Author.Rules.{rules}
 use Rattle.x86_64_reader.proofs.read.enter_one.Goals as goal
 
 pub added_by-requires : goal.added_by-requires

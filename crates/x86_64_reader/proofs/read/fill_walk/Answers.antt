@@ -1,9 +1,8 @@
 -- `fill_walk` meets its contract: what is left to read, stored on from here, makes the slots after; a turn is `fill-read` and `fill-stored` of Walk.
 use mathlib.Core.Path.{◌≡◌, refl, sym, ap, subst, ◌∙◌}
 use mathlib.Core.Bool.{false}
-use Prim.Native.Nat.{ℕ, ◌+◌, ◌-◌, ◌*◌, ◌/◌}
+use Prim.Native.Nat.{ℕ, ◌+◌, ◌*◌, ◌/◌}
 use native.Mathlib.Omega.{arith}
-use borrow.Author.Rules.{rules}
 use lib.ListN.{length}
 use lib.Seq.{sets}
 use Rattle.macho.specs.Reloc.{reloc_bytes}
@@ -16,8 +15,7 @@ use Rattle.x86_64_reader.proofs.read.fill_walk.Goals as goal
 
 pub loop-i-init : goal.loop-i-init
 loop-i-init c =
-    let t = table_is c.args.contents.now c.args.records.now c.args.sections.now c.args.address in
-    (
+    let t = table_is c.args.contents.now c.args.records.now c.args.sections.now c.args.address in (
       fill-fills _ _ (subst Fills t c.requires.0),
       fill_start _ _ c.args.slots.now c.requires.1 ∙ ap (λ (x : Reading). slots_after x c.args.slots.now) (sym t),
       refl,
@@ -55,8 +53,7 @@ pub loop-i-preserved : goal.loop-i-preserved
 loop-i-preserved c =
     let step = table_step c.args.contents.now c.args.records.now c.args.sections.now c.args.address in
     let n = length c.args.records.now / 8 in
-    let e = step-next _ _ c.args.address false (records_of c.args.records.now) c.loop-i.i c.in-Read.is c.enter_one.ensures in
-    (
+    let e = step-next _ _ c.args.address false (records_of c.args.records.now) c.loop-i.i c.in-Read.is c.enter_one.ensures in (
       subst (λ (m : ℕ). Fills (Rest step n (c.loop-i.i + 1) m)) e (fill-read _ _ c.loop-i.i c.loop-i.i (omega arith) c.loop-i-test.true c.in-Read.is c.enter_one.ensures c.loop-i.invariant.0),
       rw c.write.ensures
           (subst (λ (m : ℕ).

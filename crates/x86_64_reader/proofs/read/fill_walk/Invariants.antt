@@ -1,17 +1,11 @@
 -- `fill_walk` meets its contract: what is left to read, stored on from here, makes the slots after; a turn is `fill-read` and `fill-stored` of Walk.
-use mathlib.Core.Path.{◌≡◌, refl, sym, ap, subst, ◌∙◌}
-use mathlib.Core.Bool.{false}
-use Prim.Native.Nat.{ℕ, ◌+◌, ◌-◌, ◌*◌, ◌/◌}
-use native.Mathlib.Omega.{arith}
-use borrow.Author.Rules.{rules}
+use mathlib.Core.Path.{◌≡◌}
+use Prim.Native.Nat.{◌-◌, ◌/◌}
 use lib.ListN.{length}
-use lib.Seq.{sets}
-use Rattle.macho.specs.Reloc.{reloc_bytes}
-use Rattle.arch.specs.Table.{records_of}
-use Rattle.arch.specs.Walk.{Reading, Fills, slots_after}
-use Rattle.arch.proofs.Walk.{Rest, stored, fill_start, fill-fills, fill-read, fill-stored, fill-refused, fill-reads, fill_done}
+use Rattle.arch.specs.Walk.{Fills, slots_after}
+use Rattle.arch.proofs.Walk.{Rest, stored}
 use Rattle.x86_64_reader.specs.Read.{read_table}
-use Rattle.x86_64_reader.proofs.Steps.{step-next, table_step, table_is}
+use Rattle.x86_64_reader.proofs.Steps.{table_step}
 use Rattle.x86_64_reader.proofs.read.fill_walk.Given as goal
 
 abbrev pub invariant-loop-i : goal.invariant-loop-i

@@ -9,7 +9,6 @@ use Rattle.macho.specs.MachRel.{form_of}
 use Rattle.arch.specs.Form.{bits_of, forms_in}
 use Rattle.arch.proofs.Forms.{supported-bits}
 use Rattle.x86_64_reader.specs.Support.{forms, supported_of}
-use borrow.Author.Rules.{rules}
 use Rattle.x86_64_reader.proofs.support.is_supported.Goals as goal
 
 pub returns : goal.returns

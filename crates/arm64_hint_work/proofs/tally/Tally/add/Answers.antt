@@ -2,7 +2,6 @@
 use mathlib.Core.Path.{sym, ap, ◌∙◌}
 use Rattle.arm64_hint_rules.specs.declared.outcome.HintOutcome.{HintOutcome}
 use Rattle.arm64_hint_work.specs.Step.{add_outcome}
-use borrow.Author.Rules.{rules}
 use Rattle.arm64_hint_work.proofs.tally.Tally.add.Goals as goal
 
 pub returns-in-Skipped : goal.returns-in-Skipped

@@ -2,7 +2,6 @@
 use mathlib.Core.Path.{sym, ap}
 use Rattle.arm64_hint_terms.specs.declared.answer.Decision.{Decision}
 use Rattle.arm64_hint_work.specs.Step.{add_decision}
-use borrow.Author.Rules.{rules}
 use Rattle.arm64_hint_work.proofs.tally.Tally.add_decision.Goals as goal
 
 pub returns-in-Declined : goal.returns-in-Declined

@@ -5,7 +5,6 @@ use Rattle.util.specs.Choice.{choose}
 use Rattle.util.proofs.Diagram.{matched, unmatched}
 use Rattle.arm64_insn.specs.Encoding.{adrp}
 use Rattle.arm64_insn.specs.Adrp.{adrp_of}
-use borrow.Author.Rules.{rules}
 use Rattle.arm64_insn.proofs.adrp.Adrp.decode.Goals as goal
 
 pub returns-then-insn-eq-FIXED : goal.returns-then-insn-eq-FIXED

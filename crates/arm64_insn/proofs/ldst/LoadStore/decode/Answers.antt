@@ -8,7 +8,6 @@ use Rattle.arm64_insn.specs.Encoding.{load_store}
 use Rattle.arm64_insn.specs.LoadStore.{load_store_of}
 use Rattle.arm64_insn.proofs.Decoded.{decoded-load-store}
 use Rattle.arm64_insn.proofs.Split.{split_moves}
-use borrow.Author.Rules.{rules}
 use Rattle.arm64_insn.proofs.ldst.LoadStore.decode.Goals as goal
 
 pub returns-then-insn-ne-FIXED : goal.returns-then-insn-ne-FIXED

@@ -2,7 +2,6 @@
 use native.Mathlib.Omega.{arith}
 use Rattle.arm64_insn.specs.Literal.{literal_word}
 use Rattle.arm64_insn.proofs.Decoded.{literal-opc-lt, literal-v-lt}
-use borrow.Author.Rules.{rules}
 use Rattle.arm64_insn.proofs.ldst.LoadStore.to_literal.Goals as goal
 
 pub overflow_mul-result : goal.overflow_mul-result

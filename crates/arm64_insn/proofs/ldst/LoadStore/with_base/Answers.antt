@@ -3,7 +3,6 @@ use native.Mathlib.Omega.{arith}
 use Rattle.util.proofs.Diagram.{kept}
 use Rattle.arm64_insn.specs.Literal.{base_word}
 use Rattle.arm64_insn.proofs.Kept.{beside_address}
-use borrow.Author.Rules.{rules}
 use Rattle.arm64_insn.proofs.ldst.LoadStore.with_base.Goals as goal
 
 pub overflow_add-result : goal.overflow_add-result

@@ -1,7 +1,6 @@
 -- By the cases of what comes next, and by the test of a kind.
 use borrow.Author.Tests.{eq-eqb, ne_eqb}
 use Rattle.util.specs.Choice.{choose}
-use borrow.Author.Rules.{rules}
 use Rattle.hint_payload.proofs.expected.Expected.after.Goals as goal
 
 pub returns-then-value-eq0 : goal.returns-then-value-eq0

@@ -1,6 +1,5 @@
 -- Each field is what its call promises.
 use Rattle.macho.specs.Hint.{insn_at}
-use borrow.Author.Rules.{rules}
 use Rattle.macho.proofs.hint.HintInsn.read.Goals as goal
 
 pub returns : goal.returns

@@ -1,6 +1,5 @@
 -- Each field is what its call promises.
 use Rattle.macho.specs.MachRel.{mach_rel_at}
-use borrow.Author.Rules.{rules}
 use Rattle.macho.proofs.mach_rel.MachRel.read.Goals as goal
 
 pub returns : goal.returns

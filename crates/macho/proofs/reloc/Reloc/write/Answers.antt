@@ -3,7 +3,6 @@ use mathlib.Core.List.{[], ◌∷◌}
 use Rattle.macho.specs.Record.{◌of◌}
 use Rattle.macho.specs.Reloc.{reloc_bytes}
 use Rattle.macho.proofs.Record.{puts-after}
-use borrow.Author.Rules.{rules}
 use Rattle.macho.proofs.reloc.Reloc.write.Goals as goal
 
 pub returns : goal.returns

@@ -8,7 +8,6 @@ use Rattle.macho.specs.Record.{◌of◌, unused, bytes_of}
 use Rattle.macho.specs.declared.report.Report.{Report}
 use Rattle.macho.specs.Report.{report_bytes}
 use Rattle.macho.proofs.Record.{puts-after}
-use borrow.Author.Rules.{rules}
 use Rattle.macho.proofs.report.Report.write.Goals as goal
 
 -- two zero bytes are the two unused ones

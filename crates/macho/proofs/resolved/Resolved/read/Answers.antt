@@ -1,6 +1,5 @@
 -- Each field is what its call promises.
 use Rattle.macho.specs.Resolved.{resolved_at}
-use borrow.Author.Rules.{rules}
 use Rattle.macho.proofs.resolved.Resolved.read.Goals as goal
 
 pub returns : goal.returns

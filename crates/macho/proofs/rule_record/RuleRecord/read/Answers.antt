@@ -1,6 +1,5 @@
 -- Each field is what its call promises.
 use Rattle.macho.specs.RuleRecord.{rule_record_at}
-use borrow.Author.Rules.{rules}
 use Rattle.macho.proofs.rule_record.RuleRecord.read.Goals as goal
 
 pub returns : goal.returns

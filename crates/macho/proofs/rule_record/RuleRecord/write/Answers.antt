@@ -9,7 +9,6 @@ use Rattle.util.proofs.Bytes.{sets-append, put-sets}
 use Rattle.macho.specs.Record.{◌of◌, bytes_of}
 use Rattle.macho.specs.declared.rule_record.RuleRecord.{RuleRecord}
 use Rattle.macho.specs.RuleRecord.{rule_record_bytes}
-use borrow.Author.Rules.{rules}
 use Rattle.macho.proofs.rule_record.RuleRecord.write.Goals as goal
 
 -- six zero bytes are the six unused ones
