@@ -1,0 +1,21 @@
+-- `is_page_rel`: by the entry's type.
+use borrow.Author.Tests.{eq-eqb, ne_eqb}
+use Rattle.util.specs.Choice.{choose}
+use Rattle.arm64_hint_terms.specs.Rels.{is_page_rel}
+use borrow.Author.Rules.{rules}
+use Rattle.arm64_hint_terms.proofs.rels.is_page_rel.Goals as goal
+
+pub returns-then-ty-eq-ARM64_RELOC_PAGE21 : goal.returns-then-ty-eq-ARM64_RELOC_PAGE21
+unfolding is_page_rel choose
+returns-then-ty-eq-ARM64_RELOC_PAGE21 c =
+    simp (eq-eqb _ _ c.if-ty-eq-ARM64_RELOC_PAGE21.true, c.in-Entry.is)
+
+pub returns-then-ty-eq-ARM64_RELOC_GOT_LOAD_PAGE21 : goal.returns-then-ty-eq-ARM64_RELOC_GOT_LOAD_PAGE21
+unfolding is_page_rel choose
+returns-then-ty-eq-ARM64_RELOC_GOT_LOAD_PAGE21 c =
+    simp (eq-eqb _ _ c.if-ty-eq-ARM64_RELOC_GOT_LOAD_PAGE21.true, ne_eqb _ _ c.if-ty-eq-ARM64_RELOC_PAGE21.false, c.in-Entry.is)
+
+pub returns-else-ty-eq-ARM64_RELOC_GOT_LOAD_PAGE21 : goal.returns-else-ty-eq-ARM64_RELOC_GOT_LOAD_PAGE21
+unfolding is_page_rel choose
+returns-else-ty-eq-ARM64_RELOC_GOT_LOAD_PAGE21 c =
+    simp (ne_eqb _ _ c.if-ty-eq-ARM64_RELOC_GOT_LOAD_PAGE21.false, ne_eqb _ _ c.if-ty-eq-ARM64_RELOC_PAGE21.false, c.in-Entry.is)

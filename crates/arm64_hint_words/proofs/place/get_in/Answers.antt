@@ -1,0 +1,23 @@
+-- `get_in`: below the word count the place's word, past it 0.
+use mathlib.Core.Path.{refl, sym, ◌∙◌}
+use native.Mathlib.Omega.{arith}
+use Rattle.arm64_hint_words.proofs.First.{word_at, word-past}
+use borrow.Author.Rules.{rules}
+use Rattle.arm64_hint_words.proofs.place.get_in.Goals as goal
+
+pub read32-requires : goal.read32-requires
+read32-requires c =
+    c.before.before.before.before.before.requires.within c.before.before.before.if1.true
+
+pub returns-then-i-n : goal.returns-then-i-n
+returns-then-i-n c =
+    (
+      c.read32.ensures
+          ∙ sym (word_at if1.before.before.args.buf.now if1.before.before.args.t2 if1.before.before.args.n if1.before.before.args.i if1.if1.true
+          (omega (arith, if1.before.before.well-formed.1.0.1.0.1, if1.before.before.requires.one))),
+      refl,
+    )
+
+pub returns : goal.returns
+returns c =
+    (sym (word-past c.args.buf.now c.args.t2 c.args.n c.args.i c.if-i-n.false), refl)

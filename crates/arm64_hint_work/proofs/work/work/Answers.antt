@@ -1,0 +1,50 @@
+-- `work`: a skipped hint leaves the image; for another the rule's answer in the part is the hint's in the image.
+use Rattle.macho.specs.declared.hint.HintRecord.{HintRecord}
+use mathlib.Core.Path.{◌≡◌, sym, ◌∙◌, subst}
+use Prim.Native.Nat.{ℕ, ◌+◌, ◌-◌}
+use native.Mathlib.Omega.{arith}
+use Rattle.arm64_hint_places.specs.Hint.{Inside}
+use Rattle.arm64_hint_check.proofs.Checks.{ready}
+use Rattle.arm64_hint_work.proofs.Steps.{inside-part, skipped-step, worked-step}
+use borrow.Author.Rules.{rules}
+use Rattle.arm64_hint_work.proofs.work.work.Goals as goal
+
+pub returns-then-is_skipped : goal.returns-then-is_skipped
+returns-then-is_skipped c =
+    record {
+  outcome = (skipped-step c.args.hints.now c.args.entries.now c.args.image.now c.args.k _ c.read-h.ensures
+    (sym c.is_skipped.ensures ∙ c.if-is_skipped.true)).0;
+  image = (skipped-step c.args.hints.now c.args.entries.now c.args.image.now c.args.k _ c.read-h.ensures
+    (sym c.is_skipped.ensures ∙ c.if-is_skipped.true)).1;
+}
+
+pub rels_of-r-requires : goal.rels_of-r-requires
+rels_of-r-requires c =
+    (ready _ _ _ _ c.read-h.ensures c.requires.1 (sym c.is_skipped.ensures ∙ c.if-is_skipped.false)).entries
+
+pub slice_bounds-apply-end : goal.slice_bounds-apply-end
+slice_bounds-apply-end c =
+    let q = (ready _ _ _ _ c.read-h.ensures c.requires.1 (sym c.is_skipped.ensures ∙ c.if-is_skipped.false)).part in
+    omega arith
+
+pub apply-requires : goal.apply-requires
+apply-requires c =
+    let h : HintRecord = c.read-h.result in
+    let q = ready _ _ h _ c.read-h.ensures c.requires.1 (sym c.is_skipped.ensures ∙ c.if-is_skipped.false) in
+    let e : (h.start + h.len) - h.start ≡ h.len = omega arith in
+    inside-part c.args.image.now h _ e q.part q.words
+
+pub returns : goal.returns
+returns c =
+    let h : HintRecord = c.read-h.result in
+    let q = ready _ _ h _ c.read-h.ensures c.requires.1 (sym c.is_skipped.ensures ∙ c.if-is_skipped.false) in
+    let j : ℕ = (h.start + h.len) - h.start in
+    let e : j ≡ h.len = omega arith in
+    record {
+  outcome = (worked-step c.args.hints.now c.args.entries.now c.args.image.now c.args.k h c.read-h.ensures _
+    c.rels_of-r.ensures j (omega (arith, q.part)) (subst (λ (l : ℕ). Inside h l) (sym e) q.words)
+    c.apply.ensures.outcome c.apply.ensures.section).0;
+  image = (worked-step c.args.hints.now c.args.entries.now c.args.image.now c.args.k h c.read-h.ensures _
+    c.rels_of-r.ensures j (omega (arith, q.part)) (subst (λ (l : ℕ). Inside h l) (sym e) q.words)
+    c.apply.ensures.outcome c.apply.ensures.section).1;
+}

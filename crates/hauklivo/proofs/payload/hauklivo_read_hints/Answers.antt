@@ -1,0 +1,15 @@
+-- The answer of read_hints, handed on.
+use mathlib.Core.Path.{ap, ◌∙◌}
+use Rattle.macho.specs.Refusal.{answer_number}
+use Rattle.macho.specs.declared.refusal.Answer.{Answer}
+use Rattle.hauklivo.proofs.Lent.{count_same}
+use borrow.Author.Rules.{rules}
+use Rattle.hauklivo.proofs.payload.hauklivo_read_hints.Goals as goal
+
+pub returns : goal.returns
+returns c =
+    record {
+  number = c.counted.ensures.0 ∙ ap (λ (a : Answer). answer_number a) c.read_hints-answer.ensures.0;
+  count = c.counted.ensures.1 ∙ count_same _ c.read_hints-answer.ensures.0;
+  slots = c.read_hints-answer.ensures.1;
+}

@@ -1,0 +1,25 @@
+-- `text`: the lines, or the line of the refusal.
+use Rattle.lister_text.proofs.Printed.{counts}
+use Rattle.lister_text.proofs.Answers.{one-digit, text-refused, text-filled}
+use borrow.Author.Rules.{rules}
+use Rattle.lister_text.proofs.text.Goals as goal
+
+pub put_refused-requires : goal.put_refused-requires
+put_refused-requires c =
+    (search rules, one-digit c.args.input.now c.args.out.now (search rules) _ _ c.list.ensures c.in-Refused.is _ c.number.ensures)
+
+pub returns-in-Refused : goal.returns-in-Refused
+returns-in-Refused c =
+    let p = text-refused c.args.input.now c.args.out.now (search rules) _ _ c.list.ensures c.in-Refused.is _ c.number.ensures c.Put-refused.ensures in
+    record {
+  puts = p;
+  upper_bound = counts _ p;
+}
+
+pub returns-in-Filled : goal.returns-in-Filled
+returns-in-Filled c =
+    let p = text-filled c.args.input.now c.args.out.now (search rules) _ _ c.list.ensures c.in-Filled.is in
+    record {
+  puts = p;
+  upper_bound = counts _ p;
+}

@@ -1,0 +1,16 @@
+-- `put_pattern`: up to place i the slots hold the pattern (Slots); one more store keeps that.
+use mathlib.Core.Path.{refl}
+use Prim.Native.Nat.{◌-◌, ◌≤◌}
+use mathlib.Core.List.{[]}
+use mathlib.Core.Path.{◌≡◌, sym, ◌∙◌}
+use native.Mathlib.Omega.{arith}
+use lib.ListN.{length, length-set}
+use borrow.Author.Rules.{rules}
+use Rattle.replay_list.proofs.Slots.{Due, due-pattern, due-stored}
+use Rattle.replay_list.proofs.lent.put_pattern.Given as goal
+
+abbrev pub invariant-loop-i : goal.invariant-loop-i
+invariant-loop-i l = (l.i ≤ length l.initial.slots) × (length l.slots ≡ length l.initial.slots) × Due l.slots [] l.i
+
+abbrev pub decreases-loop-i : goal.decreases-loop-i
+decreases-loop-i l = length l.initial.slots - l.i
