@@ -7,17 +7,17 @@ use Rattle.replay_list.proofs.seen.Seen.after.Goals as goal
 
 pub returns-then-what-eq-END : goal.returns-then-what-eq-END
 unfolding after choose
-returns-then-what-eq-END c =
+returns-then-what-eq-END g c =
     (simp (eq-eqb _ _ c.if-what-eq-END.true), search rules, search rules)
 
 pub returns-then-what-eq-TITLE : goal.returns-then-what-eq-TITLE
 unfolding after choose
-returns-then-what-eq-TITLE c =
+returns-then-what-eq-TITLE g c =
     (simp (ne_eqb _ _ c.if-what-eq-END.false, eq-eqb _ _ c.if-what-eq-TITLE.true), search rules, search rules)
 
 pub returns-then-holds : goal.returns-then-holds
 unfolding after choose
-returns-then-holds c =
+returns-then-holds g c =
     (
       simp (ne_eqb _ _ c.if-what-eq-END.false, ne_eqb _ _ c.if-what-eq-TITLE.false, c.if-holds.true),
       search rules,
@@ -26,7 +26,7 @@ returns-then-holds c =
 
 pub returns : goal.returns
 unfolding after choose
-returns c =
+returns g c =
     (
       simp (ne_eqb _ _ c.if-what-eq-END.false, ne_eqb _ _ c.if-what-eq-TITLE.false, c.if-holds.false),
       search rules,
