@@ -54,8 +54,8 @@ record_of loc sections r subtracted offset addend next =
     passing (check_reloc r subtracted loc) (entered loc sections r subtracted offset addend next)
 
 -- the entry whose own record is record j of a list; `before` says whether the record before the list is SUBTRACTOR
-abbrev pub field_own : List ℕ → List ℕ → Bool → List MachRel → ℕ → ℕ → ℕ → Step
-field_own contents sections before rs j offset addend =
+abbrev pub own_at : List ℕ → List ℕ → Bool → List MachRel → ℕ → ℕ → ℕ → Step
+own_at contents sections before rs j offset addend =
     record_of (drop offset contents) sections (record_at rs j) (subtracted_at ARM64_RELOC_SUBTRACTOR before rs j) offset addend (j + 1)
 
 -- what stands at record i of a list: 3 where its offset is past the contents; an ADDEND record, of whatever form, gives its offset and its
@@ -65,6 +65,6 @@ step_at contents sections before rs i =
     choose (ltb (length contents) (record_at rs i).offset) (S.Refused Bounds)
     (choose (eqb (type_of (record_at rs i).bits) ARM64_RELOC_ADDEND)
     (choose (ltb (i + 1) (length rs))
-    (field_own contents sections before rs (i + 1) (record_at rs i).offset (extend (idx_of (record_at rs i).bits) 24))
+    (own_at contents sections before rs (i + 1) (record_at rs i).offset (extend (idx_of (record_at rs i).bits) 24))
     (S.Refused LoneAddend))
-    (field_own contents sections before rs i (record_at rs i).offset 0))
+    (own_at contents sections before rs i (record_at rs i).offset 0))

@@ -38,7 +38,7 @@ returns-then-entry_absent c =
       le-ltb _ _ c.if-len-h.false,
       ← c.word_past.ensures,
       c.if-word_past.false,
-      ← c.before.entry_IsAbsent.ensures,
+      ← c.entry_absent.ensures,
       c.if-entry_absent.true,
     )
 
@@ -51,6 +51,6 @@ returns c =
       le-ltb _ _ c.if-len-h.false,
       ← c.word_past.ensures,
       c.if-word_past.false,
-      ← c.before.entry_IsAbsent.ensures,
+      ← c.entry_absent.ensures,
       c.if-entry_absent.false,
     )

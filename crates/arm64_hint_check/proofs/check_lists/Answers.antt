@@ -8,16 +8,16 @@ use Rattle.arm64_hint_check.proofs.check_lists.Goals as goal
 pub returns-then-not-is_list : goal.returns-then-not-is_list
 unfolding check_lists choose
 returns-then-not-is_list c =
-    simp (← c.is_list.ensures, not-true c.is_list.result c.if-not-is_list.true)
+    simp (← c.is_list.ensures, c.if-not-is_list.true)
 
 pub returns-then-not-is_list-2 : goal.returns-then-not-is_list-2
 unfolding check_lists choose
 returns-then-not-is_list-2 c =
     simp (
       ← c.is_list.ensures,
-      not-false c.is_list.result c.if-not-is_list.false,
+      c.if-not-is_list.false,
       ← c.is_list-2.ensures,
-      not-true c.is_list-2.result c.if-not-is_list-2.true,
+      c.if-not-is_list-2.true,
     )
 
 pub returns : goal.returns
@@ -25,7 +25,7 @@ unfolding check_lists choose
 returns c =
     simp (
       ← c.is_list.ensures,
-      not-false c.is_list.result c.if-not-is_list.false,
+      c.if-not-is_list.false,
       ← c.is_list-2.ensures,
-      not-false c.is_list-2.result c.if-not-is_list-2.false,
+      c.if-not-is_list-2.false,
     )

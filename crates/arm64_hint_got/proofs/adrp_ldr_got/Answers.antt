@@ -10,7 +10,7 @@ pub returns-then-not-within_1mb : goal.returns-then-not-within_1mb
 unfolding adrp_ldr_got choose
 returns-then-not-within_1mb c =
     simp (
-      not-true c.within_1mb.result c.if-not-within_1mb.true,
+      c.if-not-within_1mb.true,
       ← c.within_1mb.ensures,
       c.in-Slot.is,
       ← c.got_load.ensures,
@@ -45,7 +45,7 @@ unfolding adrp_ldr_got choose
 returns-else-not-within_1mb c =
     simp (
       c.literal_second.ensures,
-      not-false c.within_1mb.result c.if-not-within_1mb.false,
+      c.if-not-within_1mb.false,
       ← c.within_1mb.ensures,
       c.in-Slot.is,
       ← c.got_load.ensures,

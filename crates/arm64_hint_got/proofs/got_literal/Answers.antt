@@ -36,7 +36,7 @@ pub returns-then-not-within_1mb : goal.returns-then-not-within_1mb
 unfolding got_literal slot_to choose
 returns-then-not-within_1mb c =
     simp (
-      not-true c.within_1mb.result c.if-not-within_1mb.true,
+      c.if-not-within_1mb.true,
       ← c.within_1mb.ensures,
       eq-eqb _ _ c.if-end-ne0.false,
       eq-eqb _ _ c.if-ls-got.false,
@@ -48,9 +48,9 @@ pub returns-then-not-within_1mb-2 : goal.returns-then-not-within_1mb-2
 unfolding got_literal slot_to choose
 returns-then-not-within_1mb-2 c =
     simp (
-      not-true c.within_1mb-2.result c.if-not-within_1mb-2.true,
+      c.if-not-within_1mb-2.true,
       ← c.within_1mb-2.ensures,
-      not-false c.within_1mb.result c.if-not-within_1mb.false,
+      c.if-not-within_1mb.false,
       ← c.within_1mb.ensures,
       eq-eqb _ _ c.if-end-ne0.false,
       eq-eqb _ _ c.if-ls-got.false,
@@ -63,9 +63,9 @@ unfolding got_literal slot_to choose
 returns c =
     simp (
       c.literal_second.ensures,
-      not-false c.within_1mb-2.result c.if-not-within_1mb-2.false,
+      c.if-not-within_1mb-2.false,
       ← c.within_1mb-2.ensures,
-      not-false c.within_1mb.result c.if-not-within_1mb.false,
+      c.if-not-within_1mb.false,
       ← c.within_1mb.ensures,
       eq-eqb _ _ c.if-end-ne0.false,
       eq-eqb _ _ c.if-ls-got.false,

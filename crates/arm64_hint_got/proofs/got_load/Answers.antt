@@ -9,7 +9,7 @@ pub returns-then-not-pair : goal.returns-then-not-pair
 unfolding got_load choose
 returns-then-not-pair c =
     simp
-    (not-true c.args.pair c.if-not-pair.true)
+    (c.if-not-pair.true)
 
 pub returns-in_default : goal.returns-in_default
 unfolding got_load choose
@@ -17,7 +17,7 @@ returns-in_default c =
     simp (
       c.in_default.is,
       ← c.decode.ensures,
-      not-false c.args.pair c.if-not-pair.false,
+      c.if-not-pair.false,
     )
 
 pub returns-in-LoadStore : goal.returns-in-LoadStore
@@ -29,7 +29,7 @@ returns-in-LoadStore c =
       ← c.decode-2.ensures,
       c.in-Adrp.is,
       ← c.decode.ensures,
-      not-false c.args.pair c.if-not-pair.false,
+      c.if-not-pair.false,
     )
 
 pub returns-in_default-decode-2 : goal.returns-in_default-decode-2
@@ -42,7 +42,7 @@ returns-in_default-decode-2 c =
       ← c.decode-2.ensures,
       c.in-Adrp.is,
       ← c.decode.ensures,
-      not-false c.args.pair c.if-not-pair.false,
+      c.if-not-pair.false,
     )
 
 pub returns : goal.returns
@@ -56,5 +56,5 @@ returns c =
       ← c.decode-2.ensures,
       c.in-Adrp.is,
       ← c.decode.ensures,
-      not-false c.args.pair c.if-not-pair.false,
+      c.if-not-pair.false,
     )

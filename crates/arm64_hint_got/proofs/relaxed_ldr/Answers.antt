@@ -10,7 +10,7 @@ unfolding relaxed_ldr relaxed_to choose
 returns-then-not-has_literal_form c =
     simp (
       c.adr_or_fold_load.ensures,
-      not-true c.has_literal_form.result c.if-not-has_literal_form.true,
+      c.if-not-has_literal_form.true,
       ← c.has_literal_form.ensures,
     )
 
@@ -20,7 +20,7 @@ returns-then-target-ne0 c =
     simp (
       c.adr_or_fold_load-then-target-ne0.ensures,
       ne_eqb _ _ c.if-target-ne0.true,
-      not-false c.has_literal_form.result c.if-not-has_literal_form.false,
+      c.if-not-has_literal_form.false,
       ← c.has_literal_form.ensures,
     )
 
@@ -31,7 +31,7 @@ returns-in_default c =
       c.in_default.is,
       ← c.sum_of.ensures,
       eq-eqb _ _ c.if-target-ne0.false,
-      not-false c.has_literal_form.result c.if-not-has_literal_form.false,
+      c.if-not-has_literal_form.false,
       ← c.has_literal_form.ensures,
     )
 
@@ -40,12 +40,12 @@ unfolding relaxed_ldr relaxed_to choose
 returns-then-not-within_1mb c =
     simp (
       c.adr_or_fold_load-then-not-within_1mb.ensures,
-      not-true c.within_1mb.result c.if-not-within_1mb.true,
+      c.if-not-within_1mb.true,
       ← c.within_1mb.ensures,
       c.in-Of.is,
       ← c.sum_of.ensures,
       eq-eqb _ _ c.if-target-ne0.false,
-      not-false c.has_literal_form.result c.if-not-has_literal_form.false,
+      c.if-not-has_literal_form.false,
       ← c.has_literal_form.ensures,
     )
 
@@ -54,11 +54,11 @@ unfolding relaxed_ldr relaxed_to choose
 returns c =
     simp (
       c.literal_third.ensures,
-      not-false c.within_1mb.result c.if-not-within_1mb.false,
+      c.if-not-within_1mb.false,
       ← c.within_1mb.ensures,
       c.in-Of.is,
       ← c.sum_of.ensures,
       eq-eqb _ _ c.if-target-ne0.false,
-      not-false c.has_literal_form.result c.if-not-has_literal_form.false,
+      c.if-not-has_literal_form.false,
       ← c.has_literal_form.ensures,
     )

@@ -10,7 +10,7 @@ unfolding relaxed_str choose
 returns-then-not-within_1mb c =
     simp (
       c.fold_third.ensures,
-      not-true c.within_1mb.result c.if-not-within_1mb.true,
+      c.if-not-within_1mb.true,
       ← c.within_1mb.ensures,
     )
 
@@ -19,6 +19,6 @@ unfolding relaxed_str choose
 returns c =
     simp (
       c.adr_first.ensures,
-      not-false c.within_1mb.result c.if-not-within_1mb.false,
+      c.if-not-within_1mb.false,
       ← c.within_1mb.ensures,
     )

@@ -9,7 +9,7 @@ pub returns-then-not-loads_slot : goal.returns-then-not-loads_slot
 unfolding slot_load choose
 returns-then-not-loads_slot c =
     simp (
-      not-true c.loads_slot.result c.if-not-loads_slot.true,
+      c.if-not-loads_slot.true,
       ← c.loads_slot.ensures,
     )
 
@@ -20,7 +20,7 @@ returns-in_default c =
       c.in_default.is,
       ← c.sum_of.ensures,
       ← c.page.ensures,
-      not-false c.loads_slot.result c.if-not-loads_slot.false,
+      c.if-not-loads_slot.false,
       ← c.loads_slot.ensures,
     )
 
@@ -31,6 +31,6 @@ returns c =
       c.in-Of.is,
       ← c.sum_of.ensures,
       ← c.page.ensures,
-      not-false c.loads_slot.result c.if-not-loads_slot.false,
+      c.if-not-loads_slot.false,
       ← c.loads_slot.ensures,
     )

@@ -10,7 +10,7 @@ put_refused-requires c =
 
 pub returns-in-Refused : goal.returns-in-Refused
 returns-in-Refused c =
-    let p = text-refused c.args.input.now c.args.out.now (search rules) _ _ c.list.ensures c.in-Refused.is _ c.number.ensures c.Put-refused.ensures in
+    let p = text-refused c.args.input.now c.args.out.now (search rules) _ _ c.list.ensures c.in-Refused.is _ c.number.ensures c.put_refused.ensures in
     record {
   puts = p;
   upper_bound = counts _ p;

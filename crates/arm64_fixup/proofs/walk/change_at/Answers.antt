@@ -24,7 +24,7 @@ returns-then-width_of-eq0 c =
     simp (
       c.silent.ensures,
       eq-eqb _ _ c.if-width_of-eq0.true,
-      ← c.before.before.width_of_lem.ensures,
+      ← c.width_of.ensures,
     )
 
 pub returns-then-e-eq-ARM64_RELOC_UNSIGNED : goal.returns-then-e-eq-ARM64_RELOC_UNSIGNED
@@ -35,7 +35,7 @@ returns-then-e-eq-ARM64_RELOC_UNSIGNED c =
       c.unsigned_value.ensures,
       eq-eqb _ _ c.if-e-eq-ARM64_RELOC_UNSIGNED.true,
       ne_eqb _ _ c.if-width_of-eq0.false,
-      ← if2.before.width_of_lem.ensures,
+      ← c.width_of.ensures,
     )
 
 pub read-next-requires : goal.read-next-requires
@@ -58,7 +58,7 @@ returns-then-subtracts c =
       ← c.subtracts.ensures,
       ne_eqb _ _ c.if-e-eq-ARM64_RELOC_UNSIGNED.false,
       ne_eqb _ _ c.if-width_of-eq0.false,
-      ← if2.before.width_of_lem.ensures,
+      ← c.width_of.ensures,
       ne_eqb _ _ c.if-e-eq-ARM64_RELOC_AUTHENTICATED_POINTER.false,
     )
 
@@ -71,7 +71,7 @@ pub read32-requires : goal.read32-requires
 read32-requires c =
     let s = sound _ _ _ _ _ c.requires.entries_value in
     let z : eqb (width_of c.args.e c.args.t) 0 ≡ false =
-    ap (λ (n : ℕ). eqb n 0) (sym if2.before.width_of_lem.ensures) ∙ ne_eqb _ _ c.if-width_of-eq0.false in
+    ap (λ (n : ℕ). eqb n 0) (sym c.width_of.ensures) ∙ ne_eqb _ _ c.if-width_of-eq0.false in
     omega (arith, wide _ _ z)
 
 pub returns : goal.returns
@@ -84,6 +84,6 @@ returns c =
       ← c.subtracts.ensures,
       ne_eqb _ _ c.if-e-eq-ARM64_RELOC_UNSIGNED.false,
       ne_eqb _ _ c.if-width_of-eq0.false,
-      ← if2.before.width_of_lem.ensures,
+      ← c.width_of.ensures,
       ne_eqb _ _ c.if-e-eq-ARM64_RELOC_AUTHENTICATED_POINTER.false,
     )

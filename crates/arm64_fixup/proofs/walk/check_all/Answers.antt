@@ -19,10 +19,10 @@ returns-in-Refused c =
     check-refused _ _ _ _ c.loop-i.i c.loop-i.invariant.1 c.loop-i-test.true c.loop-i.invariant.2 c.read-e.ensures c.read-t.ensures
     c.check_entry.ensures c.in-Refused.is
 
-pub overflow_add-i : goal.overflow_add-i
-overflow_add-i c =
-    let t = takes read.read.result.ty c.taken.ensures in
-    omega (arith, read.before.before.before.before.before.well-formed.1.1.0)
+pub overflow_add-i-in-Fit : goal.overflow_add-i-in-Fit
+overflow_add-i-in-Fit c =
+    let t = takes c.read-e.result.ty c.taken-i.ensures in
+    omega (arith, c.well_formed.1.1.0)
 
 pub loop-i-smaller : goal.loop-i-smaller
 loop-i-smaller c =

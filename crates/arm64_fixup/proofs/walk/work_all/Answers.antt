@@ -21,43 +21,43 @@ loop-i-init c =
 
 pub change_at-c-requires : goal.change_at-c-requires
 change_at-c-requires c =
-    let len = ap length head.loop.invariant.4 ∙ length-fix _ _ _ _ head.loop.i in
+    let len = ap length c.loop-i.invariant.4 ∙ length-fix _ _ _ _ c.loop-i.i in
     let fit =
-    fit_at _ _ _ head.before.before.before.before.before.args.buf.now head.loop.i head.loop.invariant.1 head.before.before.before.before.before.requires.0 test.loop-test.true c.before.before.read.ensures
-    c.before.read2.ensures len in
+    fit_at _ _ _ c.args.buf.now c.loop-i.i c.loop-i.invariant.1 c.requires.targets_value c.loop-i-test.true c.read-e.ensures
+    c.read-t.ensures len in
     record {
-  i_bound = (test.loop-test.true, head.before.before.before.before.before.requires.1.1, head.before.before.before.before.before.requires.1.0);
+  i_bound = (c.loop-i-test.true, c.requires.entries_value.1, c.requires.entries_value.0);
   entries_value = fit;
 }
 
 pub store-requires : goal.store-requires
 store-requires c =
-    let len = ap length head.loop.invariant.4 ∙ length-fix _ _ _ _ head.loop.i in
+    let len = ap length c.loop-i.invariant.4 ∙ length-fix _ _ _ _ c.loop-i.i in
     let fit =
-    fit_at _ _ _ head.before.before.before.before.before.args.buf.now head.loop.i head.loop.invariant.1 head.before.before.before.before.before.requires.0 test.loop-test.true read2.before.read.ensures
-    read2.read2.ensures len in
+    fit_at _ _ _ c.args.buf.now c.loop-i.i c.loop-i.invariant.1 c.requires.targets_value c.loop-i-test.true c.read-e.ensures
+    c.read-t.ensures len in
     room _ _ _ _ _ _ _ _ _ fit c.change_at-c.ensures
 
 pub tell-count-requires : goal.tell-count-requires
 tell-count-requires c =
-    omega (arith, head.before.before.before.before.before.requires.1.2, head.loop.invariant.6, head.loop.invariant.2, test.loop-test.true)
+    omega (arith, c.requires.entries_value.2, c.loop-i.invariant.6, c.loop-i.invariant.2, c.loop-i-test.true)
 
 pub overflow_add-i : goal.overflow_add-i
 overflow_add-i c =
-    let t = takes read2.before.read.result.ty c.taken-i.ensures in
-    omega (arith, head.before.before.before.before.before.requires.1.1, test.loop-test.true)
+    let t = takes c.read-e.result.ty c.taken-i.ensures in
+    omega (arith, c.requires.entries_value.1, c.loop-i-test.true)
 
 pub loop-i-smaller : goal.loop-i-smaller
 loop-i-smaller c =
-    let t = takes read2.before.read.result.ty c.taken-i.ensures in
-    omega (arith, test.loop-test.true)
+    let t = takes c.read-e.result.ty c.taken-i.ensures in
+    omega (arith, c.loop-i-test.true)
 
 pub loop-i-preserved : goal.loop-i-preserved
 loop-i-preserved c =
     let w =
-    work-again _ _ _ head.before.before.before.before.before.args.buf.now head.loop.i head.loop.invariant.1 read2.before.read.ensures read2.read2.ensures
-    c.taken-i.ensures head.loop.invariant.4 c.change_at-c.ensures head.before.before.before.before.before.args.slots.now test.loop-test.true
-    head.before.before.before.before.before.requires.0 head.loop.invariant.2 head.loop.invariant.3 head.loop.invariant.5 c.store.ensures c.tell-count.ensures.0 c.tell-count.ensures.1 in
+    work-again _ _ _ c.args.buf.now c.loop-i.i c.loop-i.invariant.1 c.read-e.ensures c.read-t.ensures
+    c.taken-i.ensures c.loop-i.invariant.4 c.change_at-c.ensures c.args.slots.now c.loop-i-test.true
+    c.requires.targets_value c.loop-i.invariant.2 c.loop-i.invariant.3 c.loop-i.invariant.5 c.store.ensures c.tell-count.ensures.0 c.tell-count.ensures.1 in
     (w.0, w.1, w.2, w.3, w.4, w.5, omega arith)
 
 pub shape_of-buf : goal.shape_of-buf

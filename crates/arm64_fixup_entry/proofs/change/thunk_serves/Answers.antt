@@ -16,7 +16,7 @@ pub returns-then-not-has_thunk : goal.returns-then-not-has_thunk
 unfolding thunk_serves
 returns-then-not-has_thunk c =
     simp (
-      not-true c.has_thunk.result c.if-not-has_thunk.true,
+      c.if-not-has_thunk.true,
       ← c.has_thunk.ensures,
       c.if-is_section.false,
       ← c.is_section.ensures,
@@ -27,7 +27,7 @@ unfolding thunk_serves
 returns-then-e-ne0 c =
     simp (
       ne_eqb _ _ c.if-e-ne0.true,
-      not-false c.has_thunk.result c.if-not-has_thunk.false,
+      c.if-not-has_thunk.false,
       ← c.has_thunk.ensures,
       c.if-is_section.false,
       ← c.is_section.ensures,
@@ -39,7 +39,7 @@ returns c =
     simp (
       c.adrp_reaches.ensures,
       eq-eqb _ _ c.if-e-ne0.false,
-      not-false c.has_thunk.result c.if-not-has_thunk.false,
+      c.if-not-has_thunk.false,
       ← c.has_thunk.ensures,
       c.if-is_section.false,
       ← c.is_section.ensures,

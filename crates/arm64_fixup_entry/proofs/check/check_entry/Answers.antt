@@ -33,7 +33,7 @@ pub returns-then-not-is_well_formed : goal.returns-then-not-is_well_formed
 unfolding check_of choose
 returns-then-not-is_well_formed c =
     simp (
-      not-true c.is_well_formed.result c.if-not-is_well_formed.true,
+      c.if-not-is_well_formed.true,
       ← c.is_well_formed.ensures,
       le-ltb _ _ c.if-len-offset.false,
     )
@@ -44,7 +44,7 @@ returns-then-overflows c =
     simp (
       c.if-overflows.true,
       ← c.overflows.ensures,
-      not-false c.is_well_formed.result c.if-not-is_well_formed.false,
+      c.if-not-is_well_formed.false,
       ← c.is_well_formed.ensures,
       le-ltb _ _ c.if-len-offset.false,
     )
@@ -57,7 +57,7 @@ returns-then-e-ge-ARM64_RELOC_ADDEND c =
       none-taken c.args.e.ty c.args.last c.if-e-ge-ARM64_RELOC_ADDEND.true,
       c.if-overflows.false,
       ← c.overflows.ensures,
-      not-false c.is_well_formed.result c.if-not-is_well_formed.false,
+      c.if-not-is_well_formed.false,
       ← c.is_well_formed.ensures,
       le-ltb _ _ c.if-len-offset.false,
     )
@@ -71,7 +71,7 @@ returns-then-lacks_next c =
       lt-leb _ _ c.if-e-ge-ARM64_RELOC_ADDEND.false,
       c.if-overflows.false,
       ← c.overflows.ensures,
-      not-false c.is_well_formed.result c.if-not-is_well_formed.false,
+      c.if-not-is_well_formed.false,
       ← c.is_well_formed.ensures,
       le-ltb _ _ c.if-len-offset.false,
     )
@@ -87,7 +87,7 @@ returns-then-lacks_symbol c =
       lt-leb _ _ c.if-e-ge-ARM64_RELOC_ADDEND.false,
       c.if-overflows.false,
       ← c.overflows.ensures,
-      not-false c.is_well_formed.result c.if-not-is_well_formed.false,
+      c.if-not-is_well_formed.false,
       ← c.is_well_formed.ensures,
       le-ltb _ _ c.if-len-offset.false,
     )
@@ -97,7 +97,7 @@ unfolding check_of choose
 returns-then-len-offset-2 c =
     simp (
       lt-ltb _ _ c.if-len-offset-2.true,
-      ← c.before.width_of_lem.ensures,
+      ← c.width_of.ensures,
       c.if-lacks_symbol.false,
       ← c.lacks_symbol.ensures,
       c.if-lacks_next.false,
@@ -106,7 +106,7 @@ returns-then-len-offset-2 c =
       near c.args.bases c.args.e c.args.t c.if-e-ge-ARM64_RELOC_ADDEND.false,
       c.if-overflows.false,
       ← c.overflows.ensures,
-      not-false c.is_well_formed.result c.if-not-is_well_formed.false,
+      c.if-not-is_well_formed.false,
       ← c.is_well_formed.ensures,
       le-ltb _ _ c.if-len-offset.false,
     )
@@ -116,7 +116,7 @@ unfolding check_of choose
 returns c =
     simp (
       le-ltb _ _ c.if-len-offset-2.false,
-      ← c.before.width_of_lem.ensures,
+      ← c.width_of.ensures,
       c.if-lacks_symbol.false,
       ← c.lacks_symbol.ensures,
       c.if-lacks_next.false,
@@ -125,7 +125,7 @@ returns c =
       near c.args.bases c.args.e c.args.t c.if-e-ge-ARM64_RELOC_ADDEND.false,
       c.if-overflows.false,
       ← c.overflows.ensures,
-      not-false c.is_well_formed.result c.if-not-is_well_formed.false,
+      c.if-not-is_well_formed.false,
       ← c.is_well_formed.ensures,
       le-ltb _ _ c.if-len-offset.false,
     )

@@ -32,7 +32,7 @@ unfolding late_of choose
 returns-then-room-width_of c =
     simp (
       lt-ltb _ _ c.if-room-width_of.true,
-      ← c.before.width_of_lem.ensures,
+      ← c.width_of.ensures,
       c.if-too_far.false,
       ← c.too_far.ensures,
       c.if-lacks_symbol.false,
@@ -46,7 +46,7 @@ unfolding late_of choose
 returns c =
     simp (
       le-ltb _ _ c.if-room-width_of.false,
-      ← c.before.width_of_lem.ensures,
+      ← c.width_of.ensures,
       c.if-too_far.false,
       ← c.too_far.ensures,
       c.if-lacks_symbol.false,

@@ -25,7 +25,7 @@ unfolding adrp_add_ldr load_through choose
 returns-then-not-fits_literal c =
     simp (
       c.fold_or_adr.ensures,
-      not-true c.fits_literal.result c.if-not-fits_literal.true,
+      c.if-not-fits_literal.true,
       ← c.fits_literal.ensures,
       c.in-Of.is,
       ← c.sum_of.ensures,
@@ -58,7 +58,7 @@ unfolding adrp_add_ldr load_through choose
 returns-else-not-fits_literal c =
     simp (
       c.literal_third.ensures,
-      not-false c.fits_literal.result c.if-not-fits_literal.false,
+      c.if-not-fits_literal.false,
       ← c.fits_literal.ensures,
       c.in-Of.is,
       ← c.sum_of.ensures,

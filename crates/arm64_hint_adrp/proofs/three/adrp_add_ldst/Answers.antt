@@ -9,7 +9,7 @@ pub returns-then-not-pair : goal.returns-then-not-pair
 unfolding through choose
 returns-then-not-pair c =
     simp
-    (not-true c.args.pair c.if-not-pair.true)
+    (c.if-not-pair.true)
 
 pub returns-in_default : goal.returns-in_default
 unfolding through choose
@@ -17,7 +17,7 @@ returns-in_default c =
     simp (
       c.in_default.is,
       ← c.decode.ensures,
-      not-false c.args.pair c.if-not-pair.false,
+      c.if-not-pair.false,
     )
 
 pub returns-in_default-decode : goal.returns-in_default-decode
@@ -28,7 +28,7 @@ returns-in_default-decode c =
       ← c.decode-2.ensures,
       c.in-Adrp.is,
       ← c.decode.ensures,
-      not-false c.args.pair c.if-not-pair.false,
+      c.if-not-pair.false,
     )
 
 pub returns-in_default-decode-2 : goal.returns-in_default-decode-2
@@ -41,7 +41,7 @@ returns-in_default-decode-2 c =
       ← c.decode-2.ensures,
       c.in-Adrp.is,
       ← c.decode.ensures,
-      not-false c.args.pair c.if-not-pair.false,
+      c.if-not-pair.false,
     )
 
 pub returns : goal.returns
@@ -55,5 +55,5 @@ returns c =
       ← c.decode-2.ensures,
       c.in-Adrp.is,
       ← c.decode.ensures,
-      not-false c.args.pair c.if-not-pair.false,
+      c.if-not-pair.false,
     )

@@ -20,7 +20,7 @@ pub returns-then-not-within_1mb : goal.returns-then-not-within_1mb
 unfolding fold_or_adr choose
 returns-then-not-within_1mb c =
     simp (
-      not-true c.within_1mb.result c.if-not-within_1mb.true,
+      c.if-not-within_1mb.true,
       ← c.within_1mb.ensures,
       c.if-folds.false,
       ← c.folds.ensures,
@@ -35,7 +35,7 @@ unfolding fold_or_adr choose
 returns c =
     simp (
       c.adr_third.ensures,
-      not-false c.within_1mb.result c.if-not-within_1mb.false,
+      c.if-not-within_1mb.false,
       ← c.within_1mb.ensures,
       c.if-folds.false,
       ← c.folds.ensures,

@@ -9,7 +9,7 @@ use Rattle.arm64_hint_adrp.proofs.three.fold_third.Goals as goal
 pub returns-then-not-folds : goal.returns-then-not-folds
 unfolding fold_third choose
 returns-then-not-folds c =
-    simp (not-true c.folds.result c.if-not-folds.true, ← c.folds.ensures)
+    simp (c.if-not-folds.true, ← c.folds.ensures)
 
 pub fold-requires : goal.fold-requires
 fold-requires c =
@@ -20,6 +20,6 @@ unfolding fold_third choose
 returns c =
     simp (
       c.fold.ensures,
-      not-false c.folds.result c.if-not-folds.false,
+      c.if-not-folds.false,
       ← c.folds.ensures,
     )

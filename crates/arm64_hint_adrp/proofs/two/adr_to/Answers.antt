@@ -9,7 +9,7 @@ pub returns-then-not-within_1mb : goal.returns-then-not-within_1mb
 unfolding adr_to choose
 returns-then-not-within_1mb c =
     simp (
-      not-true c.within_1mb.result c.if-not-within_1mb.true,
+      c.if-not-within_1mb.true,
       ← c.within_1mb.ensures,
     )
 
@@ -18,6 +18,6 @@ unfolding adr_to choose
 returns c =
     simp (
       c.adr_first.ensures,
-      not-false c.within_1mb.result c.if-not-within_1mb.false,
+      c.if-not-within_1mb.false,
       ← c.within_1mb.ensures,
     )

@@ -9,7 +9,7 @@ pub returns-then-not-pages : goal.returns-then-not-pages
 unfolding adrp_adrp choose
 returns-then-not-pages c =
     simp
-    (not-true c.args.pages c.if-not-pages.true)
+    (c.if-not-pages.true)
 
 pub returns-in_default : goal.returns-in_default
 unfolding adrp_adrp choose
@@ -17,7 +17,7 @@ returns-in_default c =
     simp (
       c.in_default.is,
       ← c.decode.ensures,
-      not-false c.args.pages c.if-not-pages.false,
+      c.if-not-pages.false,
     )
 
 pub returns-in_default-decode : goal.returns-in_default-decode
@@ -28,7 +28,7 @@ returns-in_default-decode c =
       ← c.decode-2.ensures,
       c.in-Adrp.is,
       ← c.decode.ensures,
-      not-false c.args.pages c.if-not-pages.false,
+      c.if-not-pages.false,
     )
 
 pub returns : goal.returns
@@ -40,5 +40,5 @@ returns c =
       ← c.decode-2.ensures,
       c.in-Adrp.is,
       ← c.decode.ensures,
-      not-false c.args.pages c.if-not-pages.false,
+      c.if-not-pages.false,
     )

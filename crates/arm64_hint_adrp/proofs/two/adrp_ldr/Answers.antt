@@ -11,7 +11,7 @@ pub returns-then-not-pair : goal.returns-then-not-pair
 unfolding adrp_ldr choose
 returns-then-not-pair c =
     simp
-    (not-true c.args.pair c.if-not-pair.true)
+    (c.if-not-pair.true)
 
 pub returns-in_default : goal.returns-in_default
 unfolding adrp_ldr choose
@@ -19,7 +19,7 @@ returns-in_default c =
     simp (
       c.in_default.is,
       ← c.decode.ensures,
-      not-false c.args.pair c.if-not-pair.false,
+      c.if-not-pair.false,
     )
 
 pub returns-in_default-decode : goal.returns-in_default-decode
@@ -30,7 +30,7 @@ returns-in_default-decode c =
       ← c.decode-2.ensures,
       c.in-Adrp.is,
       ← c.decode.ensures,
-      not-false c.args.pair c.if-not-pair.false,
+      c.if-not-pair.false,
     )
 
 pub ldr_at_page-requires : goal.ldr_at_page-requires
@@ -46,5 +46,5 @@ returns c =
       ← c.decode-2.ensures,
       c.in-Adrp.is,
       ← c.decode.ensures,
-      not-false c.args.pair c.if-not-pair.false,
+      c.if-not-pair.false,
     )

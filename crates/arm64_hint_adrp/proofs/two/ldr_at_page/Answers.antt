@@ -25,7 +25,7 @@ pub returns-then-not-fits_literal : goal.returns-then-not-fits_literal
 unfolding ldr_at_page ldr_second choose
 returns-then-not-fits_literal c =
     simp (
-      not-true c.fits_literal.result c.if-not-fits_literal.true,
+      c.if-not-fits_literal.true,
       ← c.fits_literal.ensures,
       c.in-Of.is,
       ← c.sum_of.ensures,
@@ -38,7 +38,7 @@ unfolding ldr_at_page ldr_second choose
 returns c =
     simp (
       c.literal_second.ensures,
-      not-false c.fits_literal.result c.if-not-fits_literal.false,
+      c.if-not-fits_literal.false,
       ← c.fits_literal.ensures,
       c.in-Of.is,
       ← c.sum_of.ensures,

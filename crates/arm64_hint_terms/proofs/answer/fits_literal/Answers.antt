@@ -8,7 +8,7 @@ pub returns-then-not-has_literal_form : goal.returns-then-not-has_literal_form
 unfolding fits_literal
 returns-then-not-has_literal_form c =
     simp (
-      not-true c.has_literal_form.result c.if-not-has_literal_form.true,
+      c.if-not-has_literal_form.true,
       ← c.has_literal_form.ensures,
     )
 
@@ -17,7 +17,7 @@ unfolding fits_literal
 returns-then-target-ne0 c =
     simp (
       ne_eqb _ _ c.if-target-ne0.true,
-      not-false c.has_literal_form.result c.if-not-has_literal_form.false,
+      c.if-not-has_literal_form.false,
       ← c.has_literal_form.ensures,
     )
 
@@ -27,6 +27,6 @@ returns c =
     simp (
       c.within_1mb.ensures,
       eq-eqb _ _ c.if-target-ne0.false,
-      not-false c.has_literal_form.result c.if-not-has_literal_form.false,
+      c.if-not-has_literal_form.false,
       ← c.has_literal_form.ensures,
     )

@@ -8,7 +8,7 @@ pub returns-then-not-is_page_rel : goal.returns-then-not-is_page_rel
 unfolding has_page_pair
 returns-then-not-is_page_rel c =
     simp (
-      not-true c.is_page_rel.result c.if-not-is_page_rel.true,
+      c.if-not-is_page_rel.true,
       ← c.is_page_rel.ensures,
     )
 
@@ -16,9 +16,9 @@ pub returns-then-not-is_pageoff_rel : goal.returns-then-not-is_pageoff_rel
 unfolding has_page_pair
 returns-then-not-is_pageoff_rel c =
     simp (
-      not-true c.is_pageoff_rel.result c.if-not-is_pageoff_rel.true,
+      c.if-not-is_pageoff_rel.true,
       ← c.is_pageoff_rel.ensures,
-      not-false c.is_page_rel.result c.if-not-is_page_rel.false,
+      c.if-not-is_page_rel.false,
       ← c.is_page_rel.ensures,
     )
 
@@ -26,11 +26,11 @@ pub returns-then-not-same_reference : goal.returns-then-not-same_reference
 unfolding has_page_pair
 returns-then-not-same_reference c =
     simp (
-      not-true c.same_reference.result c.if-not-same_reference.true,
+      c.if-not-same_reference.true,
       ← c.same_reference.ensures,
-      not-false c.is_pageoff_rel.result c.if-not-is_pageoff_rel.false,
+      c.if-not-is_pageoff_rel.false,
       ← c.is_pageoff_rel.ensures,
-      not-false c.is_page_rel.result c.if-not-is_page_rel.false,
+      c.if-not-is_page_rel.false,
       ← c.is_page_rel.ensures,
     )
 
@@ -39,11 +39,11 @@ unfolding has_page_pair
 returns-then-n-lt3 c =
     simp (
       lt-ltb _ _ c.if-n-lt3.true,
-      not-false c.same_reference.result c.if-not-same_reference.false,
+      c.if-not-same_reference.false,
       ← c.same_reference.ensures,
-      not-false c.is_pageoff_rel.result c.if-not-is_pageoff_rel.false,
+      c.if-not-is_pageoff_rel.false,
       ← c.is_pageoff_rel.ensures,
-      not-false c.is_page_rel.result c.if-not-is_page_rel.false,
+      c.if-not-is_page_rel.false,
       ← c.is_page_rel.ensures,
     )
 
@@ -53,10 +53,10 @@ returns-else-n-lt3 c =
     simp (
       c.is_absent.ensures,
       le-ltb _ _ c.if-n-lt3.false,
-      not-false c.same_reference.result c.if-not-same_reference.false,
+      c.if-not-same_reference.false,
       ← c.same_reference.ensures,
-      not-false c.is_pageoff_rel.result c.if-not-is_pageoff_rel.false,
+      c.if-not-is_pageoff_rel.false,
       ← c.is_pageoff_rel.ensures,
-      not-false c.is_page_rel.result c.if-not-is_page_rel.false,
+      c.if-not-is_page_rel.false,
       ← c.is_page_rel.ensures,
     )

@@ -10,6 +10,11 @@ unfolding is_pageoff_rel choose
 returns-then-ty-eq-ARM64_RELOC_PAGEOFF12 c =
     simp (eq-eqb _ _ c.if-ty-eq-ARM64_RELOC_PAGEOFF12.true, c.in-Entry.is)
 
+pub returns-in-Absent : goal.returns-in-Absent
+unfolding is_pageoff_rel choose
+returns-in-Absent c =
+    search rules
+
 pub returns-then-ty-eq-ARM64_RELOC_GOT_LOAD_PAGEOFF12 : goal.returns-then-ty-eq-ARM64_RELOC_GOT_LOAD_PAGEOFF12
 unfolding is_pageoff_rel choose
 returns-then-ty-eq-ARM64_RELOC_GOT_LOAD_PAGEOFF12 c =

@@ -21,3 +21,13 @@ returns-else-x-y c =
       c.in-Entry-b.is,
       c.in-Entry.is,
     )
+
+pub returns-in-Absent-b : goal.returns-in-Absent-b
+unfolding same_reference is_absent
+returns-in-Absent-b c =
+    search rules
+
+pub returns-in-Absent : goal.returns-in-Absent
+unfolding same_reference is_absent
+returns-in-Absent c =
+    search rules

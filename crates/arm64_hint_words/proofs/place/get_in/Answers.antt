@@ -7,14 +7,14 @@ use Rattle.arm64_hint_words.proofs.place.get_in.Goals as goal
 
 pub read32-requires : goal.read32-requires
 read32-requires c =
-    c.before.before.before.before.before.requires.within c.before.before.before.if1.true
+    c.requires.within c.if-i-n.true
 
 pub returns-then-i-n : goal.returns-then-i-n
 returns-then-i-n c =
     (
       c.read32.ensures
-          ∙ sym (word_at if1.before.before.args.buf.now if1.before.before.args.t2 if1.before.before.args.n if1.before.before.args.i if1.if1.true
-          (omega (arith, if1.before.before.well-formed.1.0.1.0.1, if1.before.before.requires.one))),
+          ∙ sym (word_at c.args.buf.now c.args.t2 c.args.n c.args.i c.if-i-n.true
+          (omega (arith, c.well_formed.1.0.1.0.1, c.requires.one))),
       refl,
     )
 

@@ -1,6 +1,4 @@
 -- `three_meet_31` meets its contract: a word that does not make number 31 does not link by it, and is no ADD to it. Assumes nothing.
-use Prim.Native.Nat.{◌%◌}
-use borrow.Author.Tests.{eqb-false}
 use Rattle.arm64_insn.proofs.Linked.{makes-other}
 use borrow.Author.Rules.{rules}
 use Rattle.arm64_insn.proofs.links.three_meet_31.Goals as goal
@@ -8,6 +6,6 @@ use Rattle.arm64_insn.proofs.links.three_meet_31.Goals as goal
 pub returns : goal.returns
 returns c =
     let x = makes-other c.args.w0 c.if-w0-eq31.false c.args.w1 in
-    let y = makes-other c.args.w1 (eqb-false (c.args.w1 % 32) 31 c.if-w1-eq31.false) c.args.w2 in
-    let z = makes-other c.args.w2 (eqb-false (c.args.w2 % 32) 31 c.if-w2-eq31.false) 0 in
+    let y = makes-other c.args.w1 c.if-w1-eq31.false c.args.w2 in
+    let z = makes-other c.args.w2 c.if-w2-eq31.false 0 in
     rw (x.0, x.1, y.0, y.1, z.1)

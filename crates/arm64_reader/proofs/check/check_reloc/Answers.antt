@@ -9,7 +9,7 @@ pub returns-then-not-is_supported : goal.returns-then-not-is_supported
 unfolding check_reloc choose
 returns-then-not-is_supported c =
     simp (
-      not-true c.is_supported.result c.if-not-is_supported.true,
+      c.if-not-is_supported.true,
       ← c.is_supported.ensures,
     )
 
@@ -19,7 +19,7 @@ returns-then-is_pointer32 c =
     simp (
       c.if-is_pointer32.true,
       ← c.is_pointer32.ensures,
-      not-false c.is_supported.result c.if-not-is_supported.false,
+      c.if-not-is_supported.false,
       ← c.is_supported.ensures,
     )
 
@@ -32,7 +32,7 @@ returns-then-ty-eq-ARM64_RELOC_GOT_LOAD_PAGEOFF12 c =
       ← c.ty-ty.ensures,
       c.if-is_pointer32.false,
       ← c.is_pointer32.ensures,
-      not-false c.is_supported.result c.if-not-is_supported.false,
+      c.if-not-is_supported.false,
       ← c.is_supported.ensures,
     )
 
@@ -46,7 +46,7 @@ returns-then-ty-eq-ARM64_RELOC_TLVP_LOAD_PAGEOFF12 c =
       ← c.ty-ty.ensures,
       c.if-is_pointer32.false,
       ← c.is_pointer32.ensures,
-      not-false c.is_supported.result c.if-not-is_supported.false,
+      c.if-not-is_supported.false,
       ← c.is_supported.ensures,
     )
 
@@ -59,6 +59,6 @@ returns c =
       ← c.ty-ty.ensures,
       c.if-is_pointer32.false,
       ← c.is_pointer32.ensures,
-      not-false c.is_supported.result c.if-not-is_supported.false,
+      c.if-not-is_supported.false,
       ← c.is_supported.ensures,
     )

@@ -22,6 +22,6 @@ returns-in-28 c =
 
 pub returns-in_default : goal.returns-in_default
 returns-in_default c =
-    other_byte c.args.r _ (omega arith) refl (λ e. c.in_default.rest.1 (inl e)) (λ e. c.in_default.rest.1 (inr (inl e))) (λ e. c.in_default.rest.1 (inr (inr (inl e))))
-    (λ e. c.in_default.rest.1 (inr (inr (inr (inl e))))) (λ e. c.in_default.rest.1 (inr (inr (inr (inr (inl e)))))) (λ e. c.in_default.rest.1 (inr (inr (inr (inr (inr (inl e)))))))
-    (λ e. c.in_default.rest.1 (inr (inr (inr (inr (inr (inr (inl e)))))))) (λ e. c.in_default.rest.1 (inr (inr (inr (inr (inr (inr (inr e))))))))
+    other_byte c.args.r _ (omega arith) refl (λ e. c.in_default.in_default-own.rest.1 (inl e)) (λ e. c.in_default.in_default-own.rest.1 (inr (inl e))) (λ e. c.in_default.in_default-own.rest.1 (inr (inr (inl e))))
+    (λ e. c.in_default.in_default-own.rest.1 (inr (inr (inr (inl e))))) (λ e. c.in_default.in_default-own.rest.1 (inr (inr (inr (inr (inl e)))))) (λ e. c.in_default.in_default-own.rest.1 (inr (inr (inr (inr (inr (inl e)))))))
+    (λ e. c.in_default.in_default-own.rest.1 (inr (inr (inr (inr (inr (inr (inl e)))))))) (λ e. c.in_default.in_default-own.rest.1 (inr (inr (inr (inr (inr (inr (inr e))))))))

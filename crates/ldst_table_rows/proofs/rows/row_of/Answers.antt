@@ -101,4 +101,4 @@ returns-in-29 c =
 
 pub returns-in_default : goal.returns-in_default
 returns-in_default c =
-    row_other _ _ _ c.requires c.in_default.rest
+    row_other _ _ _ c.requires c.in_default.in_default-own.rest

@@ -31,7 +31,7 @@ read32-requires c =
 
 pub read64-requires : goal.read64-requires
 read64-requires c =
-    eight _ _ _ c.in_default.rest.0.1 c.in_default.rest.1 c.requires
+    eight _ _ _ c.in_default.in_default-own.rest.0.1 c.in_default.in_default-own.rest.1 c.requires
 
 pub returns-in-0 : goal.returns-in-0
 unfolding embedded_at choose
@@ -46,4 +46,4 @@ returns-in-2 c =
 pub returns-in_default : goal.returns-in_default
 unfolding embedded_at choose
 returns-in_default c =
-    rw (c.read64.ensures, ne_eqb _ 0 c.in_default.rest.0.1, ne_eqb _ 2 c.in_default.rest.1)
+    rw (c.read64.ensures, ne_eqb _ 0 c.in_default.in_default-own.rest.0.1, ne_eqb _ 2 c.in_default.in_default-own.rest.1)

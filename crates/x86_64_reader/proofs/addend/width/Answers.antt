@@ -17,4 +17,4 @@ returns-in-2 c =
 pub returns-in_default : goal.returns-in_default
 unfolding width_of choose
 returns-in_default c =
-    rw (ne_eqb _ 0 c.in_default.rest.0.1, ne_eqb _ 2 c.in_default.rest.1)
+    rw (ne_eqb _ 0 c.in_default.in_default-own.rest.0.1, ne_eqb _ 2 c.in_default.in_default-own.rest.1)

@@ -11,7 +11,7 @@ pub returns-then-not-is_supported : goal.returns-then-not-is_supported
 unfolding check_reloc choose
 returns-then-not-is_supported c =
     simp (
-      not-true c.is_supported.result c.if-not-is_supported.true,
+      c.if-not-is_supported.true,
       ← c.is_supported.ensures,
     )
 
@@ -26,7 +26,7 @@ returns-then-size-r c =
       lt-ltb _ _ c.if-size-r.true,
       ← c.width.ensures,
       ← c.p2size.ensures,
-      not-false c.is_supported.result c.if-not-is_supported.false,
+      c.if-not-is_supported.false,
       ← c.is_supported.ensures,
     )
 
@@ -34,12 +34,12 @@ pub returns-then-not-has_target : goal.returns-then-not-has_target
 unfolding check_reloc choose
 returns-then-not-has_target c =
     simp (
-      not-true c.has_target.result c.if-not-has_target.true,
+      c.if-not-has_target.true,
       ← c.has_target.ensures,
       le-ltb _ _ c.if-size-r.false,
       ← c.width.ensures,
       ← c.p2size.ensures,
-      not-false c.is_supported.result c.if-not-is_supported.false,
+      c.if-not-is_supported.false,
       ← c.is_supported.ensures,
     )
 
@@ -47,11 +47,11 @@ pub returns : goal.returns
 unfolding check_reloc choose
 returns c =
     simp (
-      not-false c.has_target.result c.if-not-has_target.false,
+      c.if-not-has_target.false,
       ← c.has_target.ensures,
       le-ltb _ _ c.if-size-r.false,
       ← c.width.ensures,
       ← c.p2size.ensures,
-      not-false c.is_supported.result c.if-not-is_supported.false,
+      c.if-not-is_supported.false,
       ← c.is_supported.ensures,
     )

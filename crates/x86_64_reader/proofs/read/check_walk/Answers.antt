@@ -20,7 +20,7 @@ loop-i-init c =
     (omega arith, λ address. check-start _ _ ∙ ap answer_of (sym (table_is _ _ _ address)))
 
 pub returns-in-Refused : goal.returns-in-Refused
-returns-in-Refused c =
+returns-in-Refused c address =
     let f = ap (λ (r : MachRel). check_reloc (length c.args.contents.now) (length c.args.sections.now) r) (sym c.record_at.ensures)
     ∙ sym c.check_reloc.ensures
     ∙ c.in-Refused.is in
@@ -43,5 +43,5 @@ loop-i-preserved c =
     )
 
 pub returns : goal.returns
-returns c =
+returns c address =
     ap Filled {x = length c.args.records.now / 8} {y = c.loop-i.i} (omega arith) ∙ check_done _ _ c.loop-i.i c.loop-i.i c.loop-i-test.false ∙ c.loop-i.invariant.1 address
