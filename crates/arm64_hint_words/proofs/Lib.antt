@@ -2,10 +2,3 @@
 pub mod First
 pub mod Entries
 pub mod Stores
-pub mod Again
-pub mod Places
-pub mod Value
-pub mod Onward
-pub mod Lend
-pub mod Methods
-pub mod Made

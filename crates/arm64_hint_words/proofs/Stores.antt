@@ -50,23 +50,31 @@ module _ (bytes : List ℕ) (n : ℕ) (a b c : NewWord) where
   in_order insns = put_words (offsets insns) (new_of a ∷ new_of b ∷ new_of c ∷ []) bytes
 
   by_count : (i j k : HintInsn) (n : ℕ) → stored (i ∷ j ∷ k ∷ []) n ≡ in_order (take n (i ∷ j ∷ k ∷ []))
-  by_count i j k zero = set_past _ _ 0 2 c (omega arith) ∙ set_past _ _ 0 1 b (omega arith) ∙ set_past bytes _ 0 0 a (omega arith)
+  by_count i j k zero =
+      let xs : List HintInsn = i ∷ j ∷ k ∷ [] in
+      set_past (set_in (set_in bytes xs 0 0 a) xs 0 1 b) xs 0 2 c (omega arith)
+      ∙ set_past (set_in bytes xs 0 0 a) xs 0 1 b (omega arith)
+      ∙ set_past bytes xs 0 0 a (omega arith)
   by_count i j k (suc zero) =
-      set_past _ _ 1 2 c (omega arith)
-      ∙ set_past _ _ 1 1 b (omega arith)
-      ∙ set_at bytes _ 1 0 a (omega arith)
+      let xs : List HintInsn = i ∷ j ∷ k ∷ [] in
+      set_past (set_in (set_in bytes xs 1 0 a) xs 1 1 b) xs 1 2 c (omega arith)
+      ∙ set_past (set_in bytes xs 1 0 a) xs 1 1 b (omega arith)
+      ∙ set_at bytes xs 1 0 a (omega arith)
       ∙ puts_first i.off [] (new_of a) (new_of b ∷ new_of c ∷ []) bytes
   by_count i j k (suc (suc zero)) =
-      set_past _ _ 2 2 c (omega arith)
-      ∙ set_at _ _ 2 1 b (omega arith)
-      ∙ ap (put_one j b) (set_at bytes _ 2 0 a (omega arith))
+      let xs : List HintInsn = i ∷ j ∷ k ∷ [] in
+      set_past (set_in (set_in bytes xs 2 0 a) xs 2 1 b) xs 2 2 c (omega arith)
+      ∙ set_at (set_in bytes xs 2 0 a) xs 2 1 b (omega arith)
+      ∙ ap (put_one j b) (set_at bytes xs 2 0 a (omega arith))
       ∙ puts_first j.off [] (new_of b) (new_of c ∷ []) (put_one i a bytes)
       ∙ puts_first i.off (j.off ∷ []) (new_of a) (new_of b ∷ new_of c ∷ []) bytes
   by_count i j k (suc (suc (suc n))) =
+      let xs : List HintInsn = i ∷ j ∷ k ∷ [] in
+      let m : ℕ = suc (suc (suc n)) in
       let rest : List ℕ = offsets (take n []) in
-      set_at _ _ (suc (suc (suc n))) 2 c (omega arith)
-      ∙ ap (put_one k c) (set_at _ _ (suc (suc (suc n))) 1 b (omega arith))
-      ∙ ap (λ (x : List ℕ). put_one k c (put_one j b x)) (set_at bytes _ (suc (suc (suc n))) 0 a (omega arith))
+      set_at (set_in (set_in bytes xs m 0 a) xs m 1 b) xs m 2 c (omega arith)
+      ∙ ap (put_one k c) (set_at (set_in bytes xs m 0 a) xs m 1 b (omega arith))
+      ∙ ap (λ (x : List ℕ). put_one k c (put_one j b x)) (set_at bytes xs m 0 a (omega arith))
       ∙ puts_none rest (put_one k c (put_one j b (put_one i a bytes)))
       ∙ puts_first k.off rest (new_of c) [] (put_one j b (put_one i a bytes))
       ∙ puts_first j.off (k.off ∷ rest) (new_of b) (new_of c ∷ []) (put_one i a bytes)

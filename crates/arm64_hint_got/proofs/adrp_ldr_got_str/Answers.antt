@@ -18,7 +18,7 @@ pub returns-then-not-st : goal.returns-then-not-st
 unfolding adrp_ldr_got_str choose
 returns-then-not-st c =
     simp (
-      c.if-not-st.true,
+      not-true c.in-LoadStore.st.is_store c.if-not-st.true,
       c.in-LoadStore.is,
       ← c.decode.ensures,
     )
@@ -34,7 +34,7 @@ returns-then-d-st c =
       ne_eqb _ _ c.if-d-st.true,
       c.in-Relaxed.is,
       ← c.got_load.ensures,
-      c.if-not-st.false,
+      not-false c.in-LoadStore.st.is_store c.if-not-st.false,
       c.in-LoadStore.is,
       ← c.decode.ensures,
     )
@@ -51,7 +51,7 @@ returns-in-Neither c =
     simp (
       c.in-Neither.is,
       ← c.got_load.ensures,
-      c.if-not-st.false,
+      not-false c.in-LoadStore.st.is_store c.if-not-st.false,
       c.in-LoadStore.is,
       ← c.decode.ensures,
     )
@@ -62,7 +62,7 @@ returns-in-Over c =
     simp (
       c.in-Over.is,
       ← c.got_load.ensures,
-      c.if-not-st.false,
+      not-false c.in-LoadStore.st.is_store c.if-not-st.false,
       c.in-LoadStore.is,
       ← c.decode.ensures,
     )
@@ -74,7 +74,7 @@ returns-in-Slot c =
       c.got_literal.ensures,
       c.in-Slot.is,
       ← c.got_load.ensures,
-      c.if-not-st.false,
+      not-false c.in-LoadStore.st.is_store c.if-not-st.false,
       c.in-LoadStore.is,
       ← c.decode.ensures,
     )
@@ -87,7 +87,7 @@ returns-else-d-st c =
       eq-eqb _ _ c.if-d-st.false,
       c.in-Relaxed.is,
       ← c.got_load.ensures,
-      c.if-not-st.false,
+      not-false c.in-LoadStore.st.is_store c.if-not-st.false,
       c.in-LoadStore.is,
       ← c.decode.ensures,
     )

@@ -15,4 +15,4 @@ ending d = 114 ∷ 101 ∷ 102 ∷ 117 ∷ 115 ∷ 101 ∷ 100 ∷ 32 ∷ d ∷ 
 pub returns : goal.returns
 returns c =
     let e : c.digit-last.result ≡ 48 + c.args.number = c.digit-last.ensures ∙ choose-true _ _ _ (lt-ltb c.args.number 10 (search rules)) in
-    subst (λ (k : ℕ). Puts c.args.out.now 0 (ending k) c.put.result c.put.new.0) e c.put.ensures
+    subst (λ (k : ℕ). Puts c.args.out.now 0 (ending k) c.put.result c.put.new.out) e c.put.ensures

@@ -37,7 +37,7 @@ pub returns-in-Fit-check_all : goal.returns-in-Fit-check_all
 returns-in-Fit-check_all c =
     let f = sym c.check_lists.ensures ∙ c.in-Fit.is in
     record {
-  answer = (done _ _ _ _ _ f (sym c.check_all.ensures ∙ c.in-Fit-check_all.is) c.work_all.ensures.0 c.work_all.ensures.1.0 c.work_all.ensures.1.1).0;
-  buf = (done _ _ _ _ _ f (sym c.check_all.ensures ∙ c.in-Fit-check_all.is) c.work_all.ensures.0 c.work_all.ensures.1.0 c.work_all.ensures.1.1).1.0;
-  told = (done _ _ _ _ _ f (sym c.check_all.ensures ∙ c.in-Fit-check_all.is) c.work_all.ensures.0 c.work_all.ensures.1.0 c.work_all.ensures.1.1).1.1;
+  answer = (done _ _ _ _ _ f (sym c.check_all.ensures ∙ c.in-Fit-check_all.is) c.work_all.ensures.count c.work_all.ensures.section c.work_all.ensures.slots).0;
+  buf = (done _ _ _ _ _ f (sym c.check_all.ensures ∙ c.in-Fit-check_all.is) c.work_all.ensures.count c.work_all.ensures.section c.work_all.ensures.slots).1.0;
+  told = (done _ _ _ _ _ f (sym c.check_all.ensures ∙ c.in-Fit-check_all.is) c.work_all.ensures.count c.work_all.ensures.section c.work_all.ensures.slots).1.1;
 }

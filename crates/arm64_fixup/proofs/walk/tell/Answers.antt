@@ -10,14 +10,14 @@ pub returns-in-Silent : goal.returns-in-Silent
 unfolding list_bytes
 returns-in-Silent c =
     record {
-  count = simp c.in-Silent.is (omega arith, refl);
-  slots = simp c.in-Silent.is (omega arith, refl);
+  count = simp c.in-Silent.is (omega arith);
+  slots = simp c.in-Silent.is refl;
 }
 
 pub returns-in-Report : goal.returns-in-Report
 unfolding list_bytes
 returns-in-Report c =
     record {
-  count = simp (c.in-Report.is, append-nil) (refl, c.write.ensures);
-  slots = simp (c.in-Report.is, append-nil) (refl, c.write.ensures);
+  count = simp (c.in-Report.is, append-nil) refl;
+  slots = simp (c.in-Report.is, append-nil) c.write.ensures;
 }

@@ -57,7 +57,7 @@ loop-i-preserved c =
     let w =
     work-again _ _ _ c.args.buf.now c.loop-i.i c.loop-i.invariant.1 c.read-e.ensures c.read-t.ensures
     c.taken-i.ensures c.loop-i.invariant.4 c.change_at-c.ensures c.args.slots.now c.loop-i-test.true
-    c.requires.targets_value c.loop-i.invariant.2 c.loop-i.invariant.3 c.loop-i.invariant.5 c.store.ensures c.tell-count.ensures.0 c.tell-count.ensures.1 in
+    c.requires.targets_value c.loop-i.invariant.2 c.loop-i.invariant.3 c.loop-i.invariant.5 c.store.ensures c.tell-count.ensures.count c.tell-count.ensures.slots in
     (w.0, w.1, w.2, w.3, w.4, w.5, omega arith)
 
 pub shape_of-buf : goal.shape_of-buf

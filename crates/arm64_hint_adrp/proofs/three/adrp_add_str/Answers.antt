@@ -10,7 +10,7 @@ pub returns-then-not-st : goal.returns-then-not-st
 unfolding adrp_add_str choose
 returns-then-not-st c =
     simp (
-      c.if-not-st.true,
+      not-true c.in-At.st.is_store c.if-not-st.true,
       c.in-At.is,
       ← c.adrp_add_ldst.ensures,
     )
@@ -21,7 +21,7 @@ returns-in_default c =
     simp (
       c.in_default.is,
       ← c.sum_of.ensures,
-      c.if-not-st.false,
+      not-false c.in-At.st.is_store c.if-not-st.false,
       c.in-At.is,
       ← c.adrp_add_ldst.ensures,
     )
@@ -53,7 +53,7 @@ returns-in-Of c =
       c.fold_or_adr.ensures,
       c.in-Of.is,
       ← c.sum_of.ensures,
-      c.if-not-st.false,
+      not-false c.in-At.st.is_store c.if-not-st.false,
       c.in-At.is,
       ← c.adrp_add_ldst.ensures,
     )

@@ -13,11 +13,11 @@ pub returns-then-i-n : goal.returns-then-i-n
 returns-then-i-n c =
     (
       c.read32.ensures
-          ∙ sym (word_at c.args.buf.now c.args.t2 c.args.n c.args.i c.if-i-n.true
+          ∙ sym (word_at c.args.buf.now c.args.insns c.args.n c.args.i c.if-i-n.true
           (omega (arith, c.well_formed.1.0.1.0.1, c.requires.one))),
       refl,
     )
 
 pub returns : goal.returns
 returns c =
-    (sym (word-past c.args.buf.now c.args.t2 c.args.n c.args.i c.if-i-n.false), refl)
+    (sym (word-past c.args.buf.now c.args.insns c.args.n c.args.i c.if-i-n.false), refl)

@@ -15,11 +15,11 @@ pub returns-then-i-n : goal.returns-then-i-n
 returns-then-i-n c =
     c.write32.ensures
     ∙ sym
-    (ap (λ (w : NewWord). set_in c.args.buf.now c.args.t2 c.args.n c.args.i w) c.in-Set.is
+    (ap (λ (w : NewWord). set_in c.args.buf.now c.args.insns c.args.n c.args.i w) c.in-Set.is
     ∙ choose-true _ _ _ (lt-ltb _ _ c.if-i-n.true))
 
 pub returns-else-i-n : goal.returns-else-i-n
 returns-else-i-n c =
     sym
-    (ap (λ (w : NewWord). set_in c.args.buf.now c.args.t2 c.args.n c.args.i w) c.in-Set.is
+    (ap (λ (w : NewWord). set_in c.args.buf.now c.args.insns c.args.n c.args.i w) c.in-Set.is
     ∙ choose-false _ _ _ (le-ltb _ _ c.if-i-n.false))

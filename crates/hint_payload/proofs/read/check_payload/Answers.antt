@@ -17,14 +17,6 @@ use Rattle.hint_payload.proofs.Turns.{Rest, check-start, check-refused, check-cl
 use borrow.Author.Rules.{rules}
 use Rattle.hint_payload.proofs.read.check_payload.Goals as goal
 
--- a variant before the last is not the last
-not_last : {e : Expected} → e ≡ Zeros → OneOf (0 ∷ 1 ∷ 2 ∷ []) (tag_of the_type e) → ⊥
-not_last {e} z k =
-    ⊎_elim
-    (λ (q : 3 ≡ 0). omega arith)
-    (λ r. ⊎_elim (λ (q : 3 ≡ 1). omega arith) (λ (q : 3 ≡ 2). omega arith) r)
-    (subst (λ (x : Expected). OneOf (0 ∷ 1 ∷ 2 ∷ []) (tag_of the_type x)) z k)
-
 pub loop-at-init : goal.loop-at-init
 loop-at-init c =
     (search rules, search rules, check-start c.args.payload.now)
@@ -37,14 +29,14 @@ returns-in-NoValue c =
 
 pub after_close-requires : goal.after_close-requires
 after_close-requires c =
-    (read-value c.args.payload.now c.loop-at.at c.value-1.given.0.0 c.value-1.given.0.1.0 c.read_uleb.result c.loop-at.invariant.0 c.value-1.given.1 c.read_uleb.ensures).within
+    (read-value c.args.payload.now c.loop-at.at c.in-Value.value c.in-Value.next c.read_uleb.result c.loop-at.invariant.0 c.in-Value.is c.read_uleb.ensures).within
 
 pub returns-in-Zeros : goal.returns-in-Zeros
 returns-in-Zeros c =
-    let r = read-value c.args.payload.now c.loop-at.at c.value-1.given.0.0 c.value-1.given.0.1.0 c.read_uleb.result c.loop-at.invariant.0 c.value-1.given.1 c.read_uleb.ensures in
+    let r = read-value c.args.payload.now c.loop-at.at c.in-Value.value c.in-Value.next c.read_uleb.result c.loop-at.invariant.0 c.in-Value.is c.read_uleb.ensures in
     let zeros = sym c.after-expected.ensures ∙ c.in-Zeros.is in
     c.after_close.ensures
-    ∙ sym (check-closed c.args.payload.now c.loop-at.count c.loop-at.expected c.loop-at.at c.value-1.given.0.0 c.value-1.given.0.1.0 zeros r)
+    ∙ sym (check-closed c.args.payload.now c.loop-at.count c.loop-at.expected c.loop-at.at c.in-Value.value c.in-Value.next zeros r)
     ∙ c.loop-at.invariant.2
 
 pub overflow_add-count : goal.overflow_add-count
@@ -53,17 +45,17 @@ overflow_add-count c =
 
 pub loop-at-smaller : goal.loop-at-smaller
 loop-at-smaller c =
-    let r = read-value c.args.payload.now c.loop-at.at c.value-1.given.0.0 c.value-1.given.0.1.0 c.read_uleb.result c.loop-at.invariant.0 c.value-1.given.1 c.read_uleb.ensures in
+    let r = read-value c.args.payload.now c.loop-at.at c.in-Value.value c.in-Value.next c.read_uleb.result c.loop-at.invariant.0 c.in-Value.is c.read_uleb.ensures in
     omega (arith, r.onward, c.loop-at-test.true)
 
 pub loop-at-preserved : goal.loop-at-preserved
 loop-at-preserved c =
-    let r = read-value c.args.payload.now c.loop-at.at c.value-1.given.0.0 c.value-1.given.0.1.0 c.read_uleb.result c.loop-at.invariant.0 c.value-1.given.1 c.read_uleb.ensures in
+    let r = read-value c.args.payload.now c.loop-at.at c.in-Value.value c.in-Value.next c.read_uleb.result c.loop-at.invariant.0 c.in-Value.is c.read_uleb.ensures in
     (
       r.within,
       omega (arith, r.onward, c.loop-at.invariant.1),
-      ap (λ (e : Expected). count_after (c.loop-at.count + 1) (Rest c.args.payload.now e c.value-1.given.0.1.0)) c.after-expected.ensures
-          ∙ check-more c.args.payload.now c.loop-at.count c.loop-at.expected c.loop-at.at c.value-1.given.0.0 c.value-1.given.0.1.0 (λ z. not_last (c.after-expected.ensures ∙ z) c.in_default.keys2) r
+      ap (λ (e : Expected). count_after (c.loop-at.count + 1) (Rest c.args.payload.now e c.in-Value.next)) c.after-expected.ensures
+          ∙ check-more c.args.payload.now c.loop-at.count c.loop-at.expected c.loop-at.at c.in-Value.value c.in-Value.next (λ z. c.in_default.not-Zeros (c.after-expected.ensures ∙ z)) r
           ∙ c.loop-at.invariant.2,
     )
 

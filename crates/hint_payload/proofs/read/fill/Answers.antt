@@ -27,12 +27,12 @@ bounds-slots-i c =
 
 pub loop-i-preserved : goal.loop-i-preserved
 loop-i-preserved c =
-    let r = read-value c.args.payload.now c.loop-i.at c.value-1.given.0.0 c.value-1.given.0.1.0 c.read_uleb.result c.loop-i.invariant.1 c.value-1.given.1 c.read_uleb.ensures in
+    let r = read-value c.args.payload.now c.loop-i.at c.in-Value.value c.in-Value.next c.read_uleb.result c.loop-i.invariant.1 c.in-Value.is c.read_uleb.ensures in
     (
       search rules,
       r.within,
       simp length-set c.loop-i.invariant.2,
-      fill-value c.args.payload.now c.loop-i.slots c.loop-i.i (c.args.count - c.loop-i.i) (c.args.count - (c.loop-i.i + 1)) c.loop-i.at c.value-1.given.0.0 c.value-1.given.0.1.0 (omega arith) r ∙ c.loop-i.invariant.3,
+      fill-value c.args.payload.now c.loop-i.slots c.loop-i.i (c.args.count - c.loop-i.i) (c.args.count - (c.loop-i.i + 1)) c.loop-i.at c.in-Value.value c.in-Value.next (omega arith) r ∙ c.loop-i.invariant.3,
     )
 
 pub returns : goal.returns

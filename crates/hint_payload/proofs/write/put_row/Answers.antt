@@ -28,8 +28,8 @@ loop-i-preserved c =
     (
       search rules,
       omega (arith, c.write_uleb-at.ensures.ends, ten-bytes (get_or c.args.row.now c.loop-i.i 0)),
-      c.write_uleb-at.auto.0 ∙ c.loop-i.invariant.2,
-      subst (λ (l : List ℕ). Puts c.args.out.now 0 l c.write_uleb-at.result c.write_uleb-at.new.0) more (put_then c.loop-i.invariant.3 c.write_uleb-at.ensures),
+      c.write_uleb-at.auto.out ∙ c.loop-i.invariant.2,
+      subst (λ (l : List ℕ). Puts c.args.out.now 0 l c.write_uleb-at.result c.write_uleb-at.new.out) more (put_then c.loop-i.invariant.3 c.write_uleb-at.ensures),
     )
 
 pub returns : goal.returns
