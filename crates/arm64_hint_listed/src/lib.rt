@@ -6,7 +6,7 @@ ghost use Rattle.arm64_hint_run.specs.Run.{end_of};
 ghost use Rattle.arm64_hint_listed.specs.Listed.{listed_of, image_of, slots_of};
 
 use arm64_hint_check::{Checked, check_listed};
-use arm64_hint_run::run::{RunAnswer, work_all};
+use arm64_hint_run::run::{RunAnswer, work_and_list};
 use arm64_hint_run::tally::{RunEnd, settled};
 use arm64_hint_work::tally::Tally;
 
@@ -18,7 +18,7 @@ pub fn run_listed(image: &mut [u8], hints: &[u8], entries: &[u8], slots: &mut [u
 {
     match check_listed(image.len(), hints, entries.len(), slots.len()) {
         Checked::Refused(x) => RunAnswer::Refused(x),
-        Checked::Fit(rises) => RunAnswer::Done(work_all(image, hints, entries, slots, true, rises)),
+        Checked::Fit(rises) => RunAnswer::Done(work_and_list(image, hints, entries, slots, true, rises)),
     }
 }
 

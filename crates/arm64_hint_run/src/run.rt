@@ -56,7 +56,7 @@ fn list(slots: &mut [u8], lists: bool, i: usize, hints: &[u8], k: usize, o: Hint
 
 // Works all hints, objects by rising number, in each the two passes by list position, and fills the slots with their records where the run is listed.
 // `rises` is whether the list's object numbers never fall.
-pub fn work_all(
+pub fn work_and_list(
     image: &mut [u8],
     hints: &[u8],
     entries: &[u8],
@@ -97,6 +97,17 @@ pub fn work_all(
     }
 }
 
+// Works all hints as work_and_list does, of a run that is not listed: it touches no slot.
+fn work_all(image: &mut [u8], hints: &[u8], entries: &[u8], rises: bool) -> Tally
+    requires entries_value { check_all (length image.old) hints.now (length entries.now) ≡ Fit }
+    requires rises_value { rises ≡ grouped (object_at hints.now) (hint_count hints.now) }
+    ensures tally { result ≡ (worked image.old hints.now entries.now (order_of hints.now)).tally }
+    ensures image { image.new ≡ (worked image.old hints.now entries.now (order_of hints.now)).image }
+{
+    let mut none = [0u8; 1];
+    work_and_list(image, hints, entries, &mut none, false, rises)
+}
+
 // Works the hints on the image by the entries, unless something lent is turned down.
 pub fn run(image: &mut [u8], hints: &[u8], entries: &[u8]) -> RunAnswer
     ensures answer { result ≡ run_of image.old hints.now entries.now }
@@ -104,10 +115,6 @@ pub fn run(image: &mut [u8], hints: &[u8], entries: &[u8]) -> RunAnswer
 {
     match check_all(image.len(), hints, entries.len()) {
         Checked::Refused(x) => RunAnswer::Refused(x),
-        Checked::Fit(rises) => {
-            // a run that is not listed touches no slot
-            let mut none = [0u8; 1];
-            RunAnswer::Done(work_all(image, hints, entries, &mut none, false, rises))
-        }
+        Checked::Fit(rises) => RunAnswer::Done(work_all(image, hints, entries, rises)),
     }
 }

@@ -14,6 +14,7 @@ use Rattle.arm64_hint_order.specs.Walk.{grouped, last_of}
 use Rattle.arm64_hint_check.specs.Check.{check_hint, check_to}
 use Rattle.arm64_hint_check.proofs.Checks.{check-more, check-stop, grouped-more, and-true, and-false, object-is, says-refused, says-fit}
 use Rattle.arm64_hint_check.proofs.check_hints.Goals as goal
+use Rattle.arm64_hint_check.proofs.check_hints.Goals.{then-grouped, else-grouped}
 
 pub loop-k-init : goal.loop-k-init
 unfolding check_to
@@ -29,7 +30,7 @@ returns-in-Refused c =
 pub loop-k-preserved : goal.loop-k-preserved
 loop-k-preserved c =
     let more : c.if-grouped.grouped ≡ (c.loop-k.grouped && leb c.loop-k.last c.read-h.result.object) =
-    ⊎_elim (λ w. and-true w.0.taken w.2) (λ w. and-false _ w.0.left w.1) c.if-grouped.branch in
+    elim c.if-grouped.branch [ then-grouped w ↦ and-true w.if-grouped.true w.grouped-is | else-grouped w ↦ and-false _ w.if-grouped.false w.grouped-is ] in
     let t = grouped-more (object_at c.args.hints.now) c.loop-k.k c.loop-k.invariant.2 c.loop-k.invariant.3 (object-is c.args.hints.now c.loop-k.k c.read-h.ensures) more in
     (
       search rules,

@@ -7,8 +7,8 @@ use Rattle.arm64_hint_listed.proofs.Run.{listed-refused, listed-done}
 use borrow.Author.Rules.{rules}
 use Rattle.arm64_hint_listed.proofs.run_listed.Goals as goal
 
-pub work_all-requires : goal.work_all-requires
-work_all-requires c =
+pub work_and_list-requires : goal.work_and_list-requires
+work_and_list-requires c =
     let fit = told_fit _ _ _ (sym c.check_listed.ensures ∙ c.in-Fit.is) in
     let run = listed-fit _ _ _ _ fit.0 in
     record {
@@ -29,7 +29,7 @@ pub returns-in-Fit : goal.returns-in-Fit
 unfolding choose
 returns-in-Fit c =
     record {
-  answer = (listed-done _ _ _ _ (told_fit _ _ _ (sym c.check_listed.ensures ∙ c.in-Fit.is)).0 c.work_all.ensures.0 c.work_all.ensures.1.0 c.work_all.ensures.1.1).0;
-  image = (listed-done _ _ _ _ (told_fit _ _ _ (sym c.check_listed.ensures ∙ c.in-Fit.is)).0 c.work_all.ensures.0 c.work_all.ensures.1.0 c.work_all.ensures.1.1).1.0;
-  slots = (listed-done _ _ _ _ (told_fit _ _ _ (sym c.check_listed.ensures ∙ c.in-Fit.is)).0 c.work_all.ensures.0 c.work_all.ensures.1.0 c.work_all.ensures.1.1).1.1;
+  answer = (listed-done _ _ _ _ (told_fit _ _ _ (sym c.check_listed.ensures ∙ c.in-Fit.is)).0 c.work_and_list.ensures.tally c.work_and_list.ensures.image c.work_and_list.ensures.slots).0;
+  image = (listed-done _ _ _ _ (told_fit _ _ _ (sym c.check_listed.ensures ∙ c.in-Fit.is)).0 c.work_and_list.ensures.tally c.work_and_list.ensures.image c.work_and_list.ensures.slots).1.0;
+  slots = (listed-done _ _ _ _ (told_fit _ _ _ (sym c.check_listed.ensures ∙ c.in-Fit.is)).0 c.work_and_list.ensures.tally c.work_and_list.ensures.image c.work_and_list.ensures.slots).1.1;
 }

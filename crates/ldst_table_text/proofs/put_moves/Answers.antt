@@ -14,7 +14,7 @@ put_decimal-registers-requires c =
 pub put_registers-requires : goal.put_registers-requires
 put_registers-requires c =
     omega
-    (arith, moved_length c.class-1.given.0.1.0, decimal-length c.class-1.given.0.0, c.put_moved-size.ensures.ends, c.put_decimal-registers.ensures.ends)
+    (arith, moved_length c.in-Moves.stores, decimal-length c.in-Moves.bytes, c.put_moved-size.ensures.ends, c.put_decimal-registers.ensures.ends)
 
 pub returns-in-Moves : goal.returns-in-Moves
 unfolding class_text

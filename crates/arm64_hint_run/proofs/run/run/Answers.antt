@@ -1,6 +1,5 @@
--- `run`: the check decides. It is not listed, so that its slots, of one byte, are not asked for.
+-- `run`: the check decides.
 use mathlib.Core.Path.{sym, ◌∙◌}
-use mathlib.Core.Bool.{false≢true}
 use Rattle.arm64_hint_check.proofs.Checks.{told_fit, told-refused}
 use Rattle.arm64_hint_run.proofs.Loop.{run-refused, run-done}
 use borrow.Author.Rules.{rules}
@@ -11,7 +10,6 @@ work_all-requires c =
     let fit = told_fit _ _ _ (sym c.check_all.ensures ∙ c.in-Fit.is) in
     record {
   entries_value = fit.0;
-  hints_in_bounds = (λ e. absurd (false≢true e));
   rises_value = fit.1;
 }
 
@@ -25,6 +23,6 @@ returns-in-Refused c =
 pub returns-in-Fit : goal.returns-in-Fit
 returns-in-Fit c =
     record {
-  answer = (run-done _ _ _ (told_fit _ _ _ (sym c.check_all.ensures ∙ c.in-Fit.is)).0 c.work_all.ensures.0 c.work_all.ensures.1.0).0;
-  image = (run-done _ _ _ (told_fit _ _ _ (sym c.check_all.ensures ∙ c.in-Fit.is)).0 c.work_all.ensures.0 c.work_all.ensures.1.0).1;
+  answer = (run-done _ _ _ (told_fit _ _ _ (sym c.check_all.ensures ∙ c.in-Fit.is)).0 c.work_all.ensures.tally c.work_all.ensures.image).0;
+  image = (run-done _ _ _ (told_fit _ _ _ (sym c.check_all.ensures ∙ c.in-Fit.is)).0 c.work_all.ensures.tally c.work_all.ensures.image).1;
 }

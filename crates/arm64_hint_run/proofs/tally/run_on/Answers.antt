@@ -7,4 +7,4 @@ use Rattle.arm64_hint_run.proofs.tally.run_on.Goals as goal
 
 pub returns : goal.returns
 returns c =
-    (c.settled.ensures ∙ ap (λ (a : RunAnswer). end_of c.args.old a) c.run-answer.ensures.0, c.run-answer.ensures.1)
+    (c.settled.ensures ∙ ap (λ (a : RunAnswer). end_of c.args.old a) c.run-answer.ensures.answer, c.run-answer.ensures.image)

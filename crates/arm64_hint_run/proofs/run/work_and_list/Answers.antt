@@ -1,4 +1,4 @@
--- `work_all`: between two hints, the work that is left ends as the whole does (`Going`), and so do the records (`Listing`).
+-- `work_and_list`: between two hints, the work that is left ends as the whole does (`Going`), and so do the records (`Listing`).
 use mathlib.Core.Path.{◌≡◌, sym, subst}
 use Prim.Native.Nat.{ℕ, ◌/◌}
 use native.Mathlib.Omega.{arith}
@@ -13,7 +13,7 @@ use Rattle.arm64_hint_check.specs.Check.{check_hint}
 use Rattle.arm64_hint_check.proofs.Checks.{few-hints, each-fit}
 use Rattle.arm64_hint_run.proofs.Loop.{Going, going-first, going_done, going_next, room}
 use Rattle.arm64_hint_run.proofs.Listing.{Listing, listing-first, listing-done, listing-next, record-room}
-use Rattle.arm64_hint_run.proofs.run.work_all.Goals as goal
+use Rattle.arm64_hint_run.proofs.run.work_and_list.Goals as goal
 
 pub first-c-requires : goal.first-c-requires
 first-c-requires c =
@@ -87,5 +87,5 @@ loop-tally-preserved c =
       going_next _ _ _ c.loop-tally.image c.loop-tally.c c.loop-tally.tally _ c.loop-tally.invariant.0 c.next.ensures.step _ _ c.in-At.is
           c.next.ensures.sound c.work-o.ensures.outcome c.work-o.ensures.image c.add-tally.ensures,
       listing-next _ _ _ _ _ c.loop-tally.image c.loop-tally.c c.loop-tally.slots c.loop-tally.count _ c.loop-tally.invariant.1 c.next.ensures.step _ _ c.in-At.is
-          c.work-o.ensures.outcome c.work-o.ensures.image c.list.ensures c.list.auto.0,
+          c.work-o.ensures.outcome c.work-o.ensures.image c.list.ensures c.list.auto.slots,
     )

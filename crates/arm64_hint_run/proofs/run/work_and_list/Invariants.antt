@@ -1,4 +1,4 @@
--- `work_all`: between two hints, the work that is left ends as the whole does (`Going`), and so do the records (`Listing`).
+-- `work_and_list`: between two hints, the work that is left ends as the whole does (`Going`), and so do the records (`Listing`).
 use mathlib.Core.Path.{◌≡◌, sym, subst}
 use Prim.Native.Nat.{ℕ, ◌/◌}
 use native.Mathlib.Omega.{arith}
@@ -13,7 +13,7 @@ use Rattle.arm64_hint_check.specs.Check.{check_hint}
 use Rattle.arm64_hint_check.proofs.Checks.{few-hints, each-fit}
 use Rattle.arm64_hint_run.proofs.Loop.{Going, going-first, going_done, going_next, room}
 use Rattle.arm64_hint_run.proofs.Listing.{Listing, listing-first, listing-done, listing-next, record-room}
-use Rattle.arm64_hint_run.proofs.run.work_all.Given as goal
+use Rattle.arm64_hint_run.proofs.run.work_and_list.Given as goal
 
 abbrev pub invariant-loop-tally : goal.invariant-loop-tally
 invariant-loop-tally l = Going l.initial.image l.hints l.entries l.image l.c l.tally × Listing l.initial.image l.hints l.entries l.initial.slots l.lists l.image l.c l.slots l.count
