@@ -1,6 +1,7 @@
 // How far a list was replayed, and the table that is written meanwhile.
-ghost use Rattle.std.specs.Prelude.{◌≡◌, ◌<◌, IfOk};
-ghost use Rattle.replay_list.specs.Seen.{none, after, Bounded};
+ghost use Rattle.std.specs.Prelude.{◌≡◌, ◌<◌, IfOk, OnOk};
+ghost use Rattle.std.specs.Io.KnownBytes.{Appends};
+ghost use Rattle.replay_list.specs.Seen.{none, after, count_text, after_text, last_text, Bounded};
 
 use crate::head::{END, TITLE};
 use std::io;
@@ -19,7 +20,9 @@ pub struct Seen {
 }
 
 // Writes how many answers a row has, after its title.
-fn print_count<W: Write>(to: &mut W, n: u64) -> io::Result<()> {
+fn print_count<W: Write>(to: &mut W, n: u64) -> io::Result<()>
+    ensures { OnOk result (Appends (W.contents to.old) (W.contents to.new) (count_text n)) }
+{
     writeln!(to, ": {n}")
 }
 
@@ -39,7 +42,8 @@ impl Seen {
     // After a record, of which `holds` says whether it is an answer that the port gives, too. The count of a row and a difference are written out.
     pub fn after<W: Write>(self, to: &mut W, what: u8, holds: bool) -> io::Result<Seen>
         requires { Bounded self × (0 < self.left) }
-        ensures { IfOk result (λ s. (s ≡ after self what holds) × Bounded s × (s.left < self.left)) }
+        ensures written { OnOk result (Appends (W.contents to.old) (W.contents to.new) (after_text self what holds)) }
+        ensures seen { IfOk result (λ s. (s ≡ after self what holds) × Bounded s × (s.left < self.left)) }
     {
         if what == END {
             return Ok(Seen {
@@ -76,7 +80,9 @@ impl Seen {
     }
 
     // Writes the last line of the table.
-    pub fn print<W: Write>(self, to: &mut W) -> io::Result<()> {
+    pub fn print<W: Write>(self, to: &mut W) -> io::Result<()>
+        ensures { OnOk result (Appends (W.contents to.old) (W.contents to.new) (last_text self)) }
+    {
         let differences = !self.is_whole as u64;
         writeln!(to, "{} answers, {differences} differences", self.held)
     }
