@@ -1,5 +1,7 @@
 // Reading a list.
-ghost use Rattle.std.specs.Prelude.{◌≤◌, length, IfOk};
+ghost use Rattle.std.specs.Prelude.{◌≡◌, ◌<◌, ◌≤◌, length, take, IfOk};
+ghost use Rattle.std.specs.Io.KnownBytes.{Appends, Consumes};
+ghost use Rattle.replay_list.specs.Head.{title_text, IsRead};
 
 use crate::head::{BROKEN, END, Head, TITLE};
 use std::io::{Read, Write};
@@ -25,7 +27,10 @@ fn read_body<R: Read, W: Write>(
     head: Head,
     body: &mut [u8],
 ) -> io::Result<Head>
-    ensures { IfOk result (λ h. h.len ≤ length body.new) }
+    ensures fits { IfOk result (λ h. h.len ≤ length body.new) }
+    ensures same { IfOk result (λ h. h.what < END → h ≡ head) }
+    ensures read { IfOk result (λ h. h.what < END → Consumes (R.remaining from.old) (R.remaining from.new) (take h.len body.new)) }
+    ensures title { IfOk result (λ h. Appends (W.contents to.old) (W.contents to.new) (title_text h body.new)) }
 {
     let len = head.len as usize;
     if head.what >= END {
@@ -45,7 +50,9 @@ fn read_body<R: Read, W: Write>(
 
 // The next record; its body is put at the front of `body`, and a title is written out. After an error `body` has any bytes.
 pub fn next<R: Read, W: Write>(from: &mut R, to: &mut W, body: &mut [u8]) -> io::Result<Head>
-    ensures { IfOk result (λ h. h.len ≤ length body.new) }
+    ensures fits { IfOk result (λ h. h.len ≤ length body.new) }
+    ensures read { IfOk result (λ h. h.what < END → IsRead (R.remaining from.old) (R.remaining from.new) h body.new) }
+    ensures title { IfOk result (λ h. Appends (W.contents to.old) (W.contents to.new) (title_text h body.new)) }
 {
     let mut bytes = [0u8; 16];
     let n = read_full(from, &mut bytes)?;
