@@ -7,4 +7,4 @@ use Rattle.arm64_hint_listed.proofs.listed_on.Goals as goal
 
 pub returns : goal.returns
 returns c =
-    (c.settled.ensures ∙ ap (λ (a : RunAnswer). end_of c.args.old a) c.run_listed-answer.ensures.0, c.run_listed-answer.ensures.1.0, c.run_listed-answer.ensures.1.1)
+    (c.settled.ensures ∙ ap (λ (a : RunAnswer). end_of c.args.old a) c.run_listed-answer.ensures.answer, c.run_listed-answer.ensures.image, c.run_listed-answer.ensures.slots)

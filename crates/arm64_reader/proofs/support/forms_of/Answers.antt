@@ -14,6 +14,7 @@ use Rattle.arch.specs.Form.{form, bit_of, bits_of}
 use Rattle.arm64_reader.specs.Support.{forms, forms_of}
 use borrow.Author.Rules.{rules}
 use Rattle.arm64_reader.proofs.support.forms_of.Goals as goal
+use Rattle.arm64_reader.proofs.support.forms_of.Goals.{in-5-1, in_default+then-ty-lt9}
 
 -- no type from 12 on has a form
 no-form : (ty : ℕ) → 9 ≤ ty → (ty ≡ 9 → ⊥) → (ty ≡ 10 → ⊥) → (ty ≡ 11 → ⊥) → 0 ≡ bits_of (forms_of ty)
@@ -55,15 +56,16 @@ returns-in-11 c =
 
 pub returns-in_default : goal.returns-in_default
 returns-in_default c =
-    no-form c.args.ty c.if-ty-lt9.false (λ e. c.in_default-1.rest.0.0.1 (inr (inr e))) c.in_default-1.rest.0.1 c.in_default-1.rest.1
+    let r = c.in_default.in_default-own.rest in
+    no-form c.args.ty c.in_default.if-ty-lt9-own.false (λ e. r.0.0.1 (inr (inr e))) r.0.1 r.1
 
 pub returns-in-2 : goal.returns-in-2
 unfolding forms_of
 returns-in-2 c =
     rw c.reloc_form-in-2.ensures
-    (⊎_elim
-    (λ m. ap (λ (t : ℕ). bits_of (forms_of t)) (sym m.keys3))
-    (λ m.
-    let r = m.0.rest.0.0 in
-    sym (word c.args.ty m.1.taken r.0.0.0.1 r.0.0.1 (λ e. r.1 (inl e)) r.0.1 (λ e. r.1 (inr (inl e)))))
-    c.in-2-1.branch)
+    (elim c.in-2-1.branch [
+      in-5-1 w ↦ ap (λ (t : ℕ). bits_of (forms_of t)) (sym w.in-5-1.keys3)
+    | in_default+then-ty-lt9 w ↦
+      let r = w.in_default-1.rest.0.0 in
+      sym (word c.args.ty w.if-ty-lt9-1.true r.0.0.0.1 r.0.0.1 (λ e. r.1 (inl e)) r.0.1 (λ e. r.1 (inr (inl e))))
+    ])

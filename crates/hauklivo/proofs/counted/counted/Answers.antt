@@ -1,25 +1,19 @@
 -- By the two cases of the answer.
 use mathlib.Core.Path.{ap, sym, ◌∙◌}
-use mathlib.Core.Logic.{⊎_elim}
 use Rattle.macho.specs.Refusal.{answer_number}
 use Rattle.macho.specs.declared.refusal.Answer.{Answer}
 use Rattle.hauklivo.proofs.Lent.{count_kept, count-new}
 use borrow.Author.Rules.{rules}
 use Rattle.hauklivo.proofs.counted.counted.Goals as goal
+use Rattle.hauklivo.proofs.counted.counted.Goals.{in-Filled, in_default}
 
 pub returns : goal.returns
-returns c =
-    record {
-  number = (⊎_elim
-    (λ w.
-    let e = sym w.1.given.1 in
-    (c.number.ensures ∙ ap (λ (a : Answer). answer_number a) (w.3 ∙ e), w.4 ∙ count-new _ _ _ e))
-    (λ w. (c.number.ensures ∙ ap (λ (a : Answer). answer_number a) w.2, w.3 ∙ count_kept _ _ _ (sym w.1.given.1)))
-    c.match-answer.branch).0;
-  count = (⊎_elim
-    (λ w.
-    let e = sym w.1.given.1 in
-    (c.number.ensures ∙ ap (λ (a : Answer). answer_number a) (w.3 ∙ e), w.4 ∙ count-new _ _ _ e))
-    (λ w. (c.number.ensures ∙ ap (λ (a : Answer). answer_number a) w.2, w.3 ∙ count_kept _ _ _ (sym w.1.given.1)))
-    c.match-answer.branch).1;
+returns c = record {
+  number = c.number.ensures
+      ∙ ap (λ (a : Answer). answer_number a)
+      (elim c.match-answer.branch [ in-Filled w ↦ w.answer-is ∙ sym w.in-Filled.is | in_default w ↦ w.answer-is ]);
+  count = elim c.match-answer.branch [
+    in-Filled w ↦ w.count-is ∙ count-new _ _ _ (sym w.in-Filled.is)
+  | in_default w ↦ w.count-is ∙ count_kept _ _ _ (sym w.in_default.is)
+  ];
 }

@@ -9,8 +9,8 @@ use Rattle.hauklivo.proofs.fixup.hauklivo_apply_reloc_alloc.Goals as goal
 pub returns : goal.returns
 returns c =
     record {
-  number = c.counted.ensures.0 ∙ ap (λ (a : Answer). answer_number a) c.apply_reloc_alloc-answer.ensures.0;
-  count = c.counted.ensures.1 ∙ count_same _ c.apply_reloc_alloc-answer.ensures.0;
-  buf = c.apply_reloc_alloc-answer.ensures.1.0;
-  told = c.apply_reloc_alloc-answer.ensures.1.1;
+  number = c.counted.ensures.number ∙ ap (λ (a : Answer). answer_number a) c.apply_reloc_alloc-answer.ensures.answer;
+  count = c.counted.ensures.count ∙ count_same _ c.apply_reloc_alloc-answer.ensures.answer;
+  buf = c.apply_reloc_alloc-answer.ensures.buf;
+  told = c.apply_reloc_alloc-answer.ensures.told;
 }

@@ -14,27 +14,27 @@ lent old a = lent_number (stub_number a) (reaches_of a) old
 
 pub returns-in-Refused : goal.returns-in-Refused
 returns-in-Refused c =
-    let e = sym c.in-Refused.is ∙ c.write_stub.ensures.0 in
+    let e = sym c.in-Refused.is ∙ c.write_stub.ensures.answer in
     record {
   number = c.number.ensures ∙ ap (λ (a : StubAnswer). stub_number a) e;
   reaches = lent-kept c.in-Refused.refusal _ _ ∙ ap (lent _) e;
-  buf = c.write_stub.ensures.1;
+  buf = c.write_stub.ensures.bytes;
 }
 
 pub returns-in-OutOfReach : goal.returns-in-OutOfReach
 returns-in-OutOfReach c =
-    let e = sym c.in-OutOfReach.is ∙ c.write_stub.ensures.0 in
+    let e = sym c.in-OutOfReach.is ∙ c.write_stub.ensures.answer in
     record {
   number = ap (λ (a : StubAnswer). stub_number a) e;
   reaches = lent-new _ _ ∙ ap (lent _) e;
-  buf = c.write_stub.ensures.1;
+  buf = c.write_stub.ensures.bytes;
 }
 
 pub returns-in-Reaches : goal.returns-in-Reaches
 returns-in-Reaches c =
-    let e = sym c.in-Reaches.is ∙ c.write_stub.ensures.0 in
+    let e = sym c.in-Reaches.is ∙ c.write_stub.ensures.answer in
     record {
   number = ap (λ (a : StubAnswer). stub_number a) e;
   reaches = lent-new _ _ ∙ ap (lent _) e;
-  buf = c.write_stub.ensures.1;
+  buf = c.write_stub.ensures.bytes;
 }
