@@ -2,11 +2,10 @@
 ghost use Rattle.std.specs.Prelude.{◌+◌, ◌≤◌, ◌<◌, length};
 
 use arm64_fixup::walk::apply_reloc_alloc;
-use bytes::copy;
-use check::same;
 use macho::refusal::Answer;
 use replay_list::head::Head;
 use replay_list::lent::{are_filled, put_pattern};
+use std::alloc::{AllocError, Global};
 use util::read64;
 
 // Whether an answer has a number, 0 for none, and says how many reports were filled.
@@ -56,7 +55,7 @@ fn fixes(
     requires { (24 + length section.old ≤ targets) × (targets ≤ length given.now) }
 {
     let entries = 24 + section.len();
-    copy(&given[24..entries], section);
+    section.copy_from_slice(&given[24..entries]);
     put_pattern(slots);
     answers(
         section,
@@ -74,7 +73,7 @@ fn became(section: &[u8], slots: &[u8], due: &[u8]) -> bool
     requires { length section.now ≤ length due.now }
 {
     let len = section.len();
-    same(section, &due[0..len]) && are_filled(slots, &due[len..])
+    section == &due[0..len] && are_filled(slots, &due[len..])
 }
 
 // Whether the fix-up answers as a record says, with room for its section and its slots, and the lengths of its lists.
@@ -99,18 +98,16 @@ fn holds_in(
 }
 
 // Whether the fix-up answers as a record says.
-pub(crate) fn holds(head: Head, body: &[u8]) -> bool {
-    let mut section = io::large_buffer();
-    let mut slots = io::large_buffer();
-    let len = head.v1 as usize;
-    let lent = head.v4 as usize;
-    holds_in(
-        &mut section[0..len],
-        &mut slots[0..lent],
+pub(crate) fn holds(alloc: Global, head: Head, body: &[u8]) -> Result<bool, AllocError> {
+    let mut section = vec![in alloc; 0u8; head.v1 as usize]?;
+    let mut slots = vec![in alloc; 0u8; head.v4 as usize]?;
+    Ok(holds_in(
+        &mut section,
+        &mut slots,
         body,
         head.v2,
         head.v3,
         head.number,
         head.v5 as usize,
-    )
+    ))
 }

@@ -5,12 +5,15 @@
 mod fixup;
 mod stub;
 
-ghost use Rattle.std.specs.Prelude.{◌<◌};
+ghost use Rattle.std.specs.Prelude.{◌<◌, IfOk};
 ghost use Rattle.replay_list.specs.Seen.{Bounded};
 
 use replay_list::head::Head;
-use replay_list::list::{next, open};
+use replay_list::list::{BODY, next, open};
 use replay_list::seen::Seen;
+use std::alloc::{AllocError, Global};
+use std::io;
+use std::io::{Read, Write};
 
 // Records of apply_reloc_alloc, write_stub and write_thunk.
 const FIX: u8 = 2;
@@ -20,32 +23,40 @@ const STUB: u8 = 3;
 const THUNK: u8 = 4;
 
 // Whether a record is an answer that the port gives, too.
-fn holds(head: Head, body: &[u8]) -> bool {
+fn holds(alloc: Global, head: Head, body: &[u8]) -> Result<bool, AllocError> {
     let what = head.what;
     match what {
-        FIX => fixup::holds(head, body),
-        STUB => stub::holds(head, body, true),
-        THUNK => stub::holds(head, body, false),
-        _ => false,
+        FIX => fixup::holds(alloc, head, body),
+        STUB => stub::holds(alloc, head, body, true),
+        THUNK => stub::holds(alloc, head, body, false),
+        _ => Ok(false),
     }
 }
 
 // Replays the next record.
-fn replay(fd: i32, seen: Seen) -> Seen
+fn replay<R: Read, W: Write>(
+    alloc: Global,
+    from: &mut R,
+    to: &mut W,
+    body: &mut [u8],
+    seen: Seen,
+) -> io::Result<Seen>
     requires { Bounded seen × (0 < seen.left) }
-    ensures { Bounded result × (result.left < seen.left) }
+    ensures { IfOk result (λ s. Bounded s × (s.left < seen.left)) }
 {
-    let mut body = io::buffer();
-    let head = next(fd, &mut body);
+    let head = next(from, to, body)?;
     let len = head.len as usize;
-    seen.after(head.what, holds(head, &body[0..len]))
+    let is_held = holds(alloc, head, &body[0..len])?;
+    seen.after(to, head.what, is_held)
 }
 
-fn main() {
-    let fd = open();
+fn main(rt: HostRuntime) -> io::Result<()> {
+    let mut from = open(&rt)?;
+    let mut to = rt.stdout();
+    let mut body = vec![in rt.alloc(); 0u8; BODY]?;
     let mut seen = Seen::none();
     while seen.left > 0 {
-        seen = replay(fd, seen);
+        seen = replay(rt.alloc(), &mut from, &mut to, &mut body, seen)?;
     }
-    seen.print();
+    seen.print(&mut to)
 }

@@ -3,9 +3,8 @@ ghost use Rattle.std.specs.Prelude.{◌+◌, ◌≤◌, ◌<◌, length};
 
 use arm64_hint_run::run::{RunAnswer, run};
 use arm64_hint_work::tally::Tally;
-use bytes::copy;
-use check::same;
 use replay_list::head::Head;
+use std::alloc::{AllocError, Global};
 use util::read32;
 
 // The tally at the front of a body.
@@ -41,7 +40,7 @@ fn answers(image: &mut [u8], given: &[u8], entries: usize, number: u8) -> bool
     requires { (16 + length image.old ≤ entries) × (entries ≤ length given.now) }
 {
     let hints = 16 + image.len();
-    copy(&given[16..hints], image);
+    image.copy_from_slice(&given[16..hints]);
     is_answer(
         run(image, &given[hints..entries], &given[entries..]),
         number,
@@ -58,12 +57,11 @@ fn holds_in(image: &mut [u8], body: &[u8], hints: u16, entries: u16, number: u8)
     if body.len() != after + image.len() {
         return false;
     }
-    answers(image, &body[0..after], start, number) && same(image, &body[after..])
+    answers(image, &body[0..after], start, number) && &*image == &body[after..]
 }
 
 // Whether the run answers as a record says.
-pub(crate) fn holds(head: Head, body: &[u8]) -> bool {
-    let mut image = io::large_buffer();
-    let len = head.v1 as usize;
-    holds_in(&mut image[0..len], body, head.v2, head.v3, head.number)
+pub(crate) fn holds(alloc: Global, head: Head, body: &[u8]) -> Result<bool, AllocError> {
+    let mut image = vec![in alloc; 0u8; head.v1 as usize]?;
+    Ok(holds_in(&mut image, body, head.v2, head.v3, head.number))
 }

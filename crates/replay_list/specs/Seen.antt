@@ -1,5 +1,6 @@
 -- How far a list was replayed.
-use Rattle.std.specs.Prelude.{ℕ, ◌+◌, ◌-◌, ◌≤◌, Bool, true, false, eqb}
+use Rattle.std.specs.Prelude.{ℕ, ◌+◌, ◌-◌, ◌≤◌, Bool, true, false, eqb, List, [], ◌∷◌, ◌++◌, codes}
+use Rattle.std.specs.Fmt.{decimal}
 use Rattle.util.specs.Choice.{choose}
 use Rattle.replay_list.specs.declared.seen.Seen.{Seen}
 
@@ -18,3 +19,16 @@ after s what holds =
 -- the counts stay within the records that may be read
 abbrev pub Bounded : Seen → Type 0
 Bounded s = (s.held + s.left ≤ 1000000) × (s.row ≤ s.held)
+
+-- what is written of a row's count, and of a list at its end
+abbrev pub count_text : ℕ → List ℕ
+count_text n = codes ": " ++ (decimal n ++ (10 ∷ []))
+
+abbrev pub last_text : Seen → List ℕ
+last_text s = decimal s.held ++ (codes " answers, " ++ (decimal (choose s.is_whole 0 1) ++ (codes " differences" ++ (10 ∷ []))))
+
+-- what is written after a record: the row's count after a title, and a difference
+unfoldable pub after_text : Seen → ℕ → Bool → List ℕ
+after_text s what holds =
+    choose (eqb what 0xfe) []
+    (choose (eqb what 0) (count_text s.row) (choose holds [] (codes " DIFFERENCE")))

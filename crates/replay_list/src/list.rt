@@ -1,55 +1,66 @@
 // Reading a list.
-ghost use Rattle.std.specs.Prelude.{◌≤◌, length};
+ghost use Rattle.std.specs.Prelude.{◌≡◌, ◌<◌, ◌≤◌, length, take, IfOk};
+ghost use Rattle.std.specs.Io.KnownBytes.{Appends, Consumes};
+ghost use Rattle.replay_list.specs.Head.{title_text, IsRead};
 
 use crate::head::{BROKEN, END, Head, TITLE};
-use libc::STDOUT_FILENO;
+use std::io::{Read, Write};
+use std::rt::Files;
+use std::{fs, io};
+use text_io::read_full;
 
 // The name of the file that the list is in.
-const NAME: [u8; 7] = *b"answers";
+const NAME: &str = "answers";
 
-// Opens the list, or says on standard error why it can't be opened.
-pub fn open() -> i32 {
-    let fd = os::open_read(&NAME);
-    if fd < 0 {
-        os::fail(&NAME);
-    }
-    fd
+// The most bytes of a record's body.
+pub const BODY: usize = 4096;
+
+// Opens the list.
+pub fn open<F: Files>(files: &F) -> io::Result<F::File> {
+    fs::open(files, NAME)
 }
 
-// Reads the body of a record to the front of `body`, and writes a title out.
-fn read_body(fd: i32, head: Head, body: &mut [u8]) -> Head
-    ensures { result.len ≤ length body.new }
+// Reads the body of a record to the front of `body`, and writes a title out. After an error `body` has any bytes.
+fn read_body<R: Read, W: Write>(
+    from: &mut R,
+    to: &mut W,
+    head: Head,
+    body: &mut [u8],
+) -> io::Result<Head>
+    ensures fits { IfOk result (λ h. h.len ≤ length body.new) }
+    ensures same { IfOk result (λ h. h.what < END → h ≡ head) }
+    ensures read { IfOk result (λ h. h.what < END → Consumes (R.remaining from.old) (R.remaining from.new) (take h.len body.new)) }
+    ensures title { IfOk result (λ h. Appends (W.contents to.old) (W.contents to.new) (title_text h body.new)) }
 {
     let len = head.len as usize;
     if head.what >= END {
-        return Head::bare(BROKEN);
+        return Ok(Head::bare(BROKEN));
     }
     if body.len() < len {
-        return Head::bare(BROKEN);
+        return Ok(Head::bare(BROKEN));
     }
-    if io::read_full(fd, &mut body[0..len]) < len {
-        return Head::bare(BROKEN);
+    if read_full(from, &mut body[0..len])? < len {
+        return Ok(Head::bare(BROKEN));
     }
     if head.what == TITLE {
-        io::write_all(STDOUT_FILENO, &body[0..len]);
+        to.write_all(&body[0..len])?;
     }
-    head
+    Ok(head)
 }
 
-// The next record; its body is put at the front of `body`, and a title is written out. A list that could not be opened is broken.
-pub fn next(fd: i32, body: &mut [u8]) -> Head
-    ensures { result.len ≤ length body.new }
+// The next record; its body is put at the front of `body`, and a title is written out. After an error `body` has any bytes.
+pub fn next<R: Read, W: Write>(from: &mut R, to: &mut W, body: &mut [u8]) -> io::Result<Head>
+    ensures fits { IfOk result (λ h. h.len ≤ length body.new) }
+    ensures read { IfOk result (λ h. h.what < END → IsRead (R.remaining from.old) (R.remaining from.new) h body.new) }
+    ensures title { IfOk result (λ h. Appends (W.contents to.old) (W.contents to.new) (title_text h body.new)) }
 {
-    if fd < 0 {
-        return Head::bare(BROKEN);
-    }
     let mut bytes = [0u8; 16];
-    let n = io::read_full(fd, &mut bytes);
+    let n = read_full(from, &mut bytes)?;
     if n == 0 {
-        return Head::bare(END);
+        return Ok(Head::bare(END));
     }
     if n < 16 {
-        return Head::bare(BROKEN);
+        return Ok(Head::bare(BROKEN));
     }
-    read_body(fd, Head::read(&bytes), body)
+    read_body(from, to, Head::read(&bytes), body)
 }

@@ -1,9 +1,11 @@
 // How far a list was replayed, and the table that is written meanwhile.
-ghost use Rattle.std.specs.Prelude.{◌≡◌, ◌<◌};
-ghost use Rattle.replay_list.specs.Seen.{none, after, Bounded};
+ghost use Rattle.std.specs.Prelude.{◌≡◌, ◌<◌, IfOk, OnOk};
+ghost use Rattle.std.specs.Io.KnownBytes.{Appends};
+ghost use Rattle.replay_list.specs.Seen.{none, after, count_text, after_text, last_text, Bounded};
 
 use crate::head::{END, TITLE};
-use libc::STDOUT_FILENO;
+use std::io;
+use std::io::Write;
 
 // The most records of a list.
 const MOST: u64 = 1_000_000;
@@ -18,10 +20,10 @@ pub struct Seen {
 }
 
 // Writes how many answers a row has, after its title.
-fn print_count(n: u64) {
-    io::write_all(STDOUT_FILENO, b": ");
-    io::print_decimal(STDOUT_FILENO, n);
-    io::write_all(STDOUT_FILENO, b"\n");
+fn print_count<W: Write>(to: &mut W, n: u64) -> io::Result<()>
+    ensures { OnOk result (Appends (W.contents to.old) (W.contents to.new) (count_text n)) }
+{
+    writeln!(to, ": {n}")
 }
 
 impl Seen {
@@ -38,49 +40,50 @@ impl Seen {
     }
 
     // After a record, of which `holds` says whether it is an answer that the port gives, too. The count of a row and a difference are written out.
-    pub fn after(self, what: u8, holds: bool) -> Seen
+    pub fn after<W: Write>(self, to: &mut W, what: u8, holds: bool) -> io::Result<Seen>
         requires { Bounded self × (0 < self.left) }
-        ensures { (result ≡ after self what holds) × Bounded result × (result.left < self.left) }
+        ensures written { OnOk result (Appends (W.contents to.old) (W.contents to.new) (after_text self what holds)) }
+        ensures seen { IfOk result (λ s. (s ≡ after self what holds) × Bounded s × (s.left < self.left)) }
     {
         if what == END {
-            return Seen {
+            return Ok(Seen {
                 left: 0,
                 row: self.row,
                 held: self.held,
                 is_whole: true,
-            };
+            });
         }
         if what == TITLE {
-            print_count(self.row);
-            return Seen {
+            print_count(to, self.row)?;
+            return Ok(Seen {
                 left: self.left - 1,
                 row: 0,
                 held: self.held,
                 is_whole: false,
-            };
+            });
         }
         if holds {
-            return Seen {
+            return Ok(Seen {
                 left: self.left - 1,
                 row: self.row + 1,
                 held: self.held + 1,
                 is_whole: false,
-            };
+            });
         }
-        io::write_all(STDOUT_FILENO, b" DIFFERENCE");
-        Seen {
+        to.write_all(b" DIFFERENCE")?;
+        Ok(Seen {
             left: 0,
             row: self.row,
             held: self.held,
             is_whole: false,
-        }
+        })
     }
 
     // Writes the last line of the table.
-    pub fn print(self) {
-        io::print_decimal(STDOUT_FILENO, self.held);
-        io::write_all(STDOUT_FILENO, b" answers, ");
-        io::print_decimal(STDOUT_FILENO, !self.is_whole as u64);
-        io::write_all(STDOUT_FILENO, b" differences\n");
+    pub fn print<W: Write>(self, to: &mut W) -> io::Result<()>
+        ensures { OnOk result (Appends (W.contents to.old) (W.contents to.new) (last_text self)) }
+    {
+        let differences = !self.is_whole as u64;
+        writeln!(to, "{} answers, {differences} differences", self.held)
     }
 }

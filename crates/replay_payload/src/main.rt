@@ -3,20 +3,21 @@
 // this must write.
 #![tactic(auto)]
 
-ghost use Rattle.std.specs.Prelude.{◌≡◌, ◌≤◌, length};
+ghost use Rattle.std.specs.Prelude.{◌≡◌, ◌≤◌, length, IfOk, vec_len};
 
-use check::same;
 use hint_payload::read::read_hints;
 use hint_payload::write::write_hints;
-use libc::STDOUT_FILENO;
 use macho::refusal::Answer;
+use std::alloc::{AllocError, Global};
+use std::io::Write;
+use std::{fs, io};
 use uleb::uleb_size;
 
 // Room for the values of a payload.
-fn room() -> [u64; 4096]
-    ensures { 4096 ≡ length result }
+fn room(alloc: Global) -> Result<Vec<u64>, AllocError>
+    ensures { IfOk result (λ v. 4096 ≡ vec_len v) }
 {
-    [0; 4096]
+    vec![in alloc; 0; 4096]
 }
 
 // How many elements an answer says are filled, at most so many; 0 for a refusal.
@@ -49,47 +50,44 @@ fn size_of(row: &[u64], most: usize) -> usize
 // Whether a row is written as the first bytes of a payload.
 fn is_written(row: &[u64], first: &[u8], out: &mut [u8]) -> bool {
     let n = count_of(write_hints(row, out), out.len());
-    same(&out[0..n], first)
+    &out[0..n] == first
 }
 
-fn print_row(row: &[u64]) {
-    let mut i = 0;
-    while i < row.len() {
-        io::print_decimal(STDOUT_FILENO, row[i]);
-        io::write_all(STDOUT_FILENO, b"\n");
-        i += 1;
+fn print_row<W: Write>(to: &mut W, row: &[u64]) -> io::Result<()> {
+    for n in row {
+        writeln!(to, "{n}")?;
     }
+    Ok(())
 }
 
 // Writes how many bytes of the payload a row is written back to, or that it is not.
-fn print_written(row: &[u64], payload: &[u8]) {
-    let mut out = io::large_buffer();
+fn print_written<W: Write>(
+    alloc: Global,
+    to: &mut W,
+    row: &[u64],
+    payload: &[u8],
+) -> io::Result<()> {
+    let mut out = vec![in alloc; 0u8; 65536]?;
     let size = size_of(row, payload.len());
     if !is_written(row, &payload[0..size], &mut out) {
-        io::write_all(STDOUT_FILENO, b"not written back\n");
-        return;
+        return writeln!(to, "not written back");
     }
-    io::print_decimal(STDOUT_FILENO, size as u64);
-    io::write_all(STDOUT_FILENO, b" of ");
-    io::print_decimal(STDOUT_FILENO, payload.len() as u64);
-    io::write_all(STDOUT_FILENO, b" bytes are written back\n");
+    writeln!(to, "{size} of {} bytes are written back", payload.len())
 }
 
-fn replay(payload: &[u8], slots: &mut [u64]) {
+fn replay<W: Write>(
+    alloc: Global,
+    to: &mut W,
+    payload: &[u8],
+    slots: &mut [u64],
+) -> io::Result<()> {
     let n = count_of(read_hints(payload, slots), slots.len());
-    print_row(&slots[0..n]);
-    print_written(&slots[0..n], payload);
+    print_row(to, &slots[0..n])?;
+    print_written(alloc, to, &slots[0..n], payload)
 }
 
-fn main() {
-    let fd = os::open_read(b"payload");
-    if fd < 0 {
-        os::fail(b"payload");
-        return;
-    }
-    let mut buf = io::buffer();
-    let n = io::read_full(fd, &mut buf);
-    libc::close(fd);
-    let mut slots = room();
-    replay(&buf[..n], &mut slots);
+fn main(rt: HostRuntime) -> io::Result<()> {
+    let payload = fs::read(&rt, "payload")?;
+    let mut slots = room(rt.alloc())?;
+    replay(rt.alloc(), &mut rt.stdout(), &payload, &mut slots)
 }

@@ -6,66 +6,59 @@ mod fixup;
 mod reader;
 mod row;
 
-ghost use Rattle.std.specs.Prelude.{◌*◌, ◌/◌, ◌≤◌, length};
+ghost use Rattle.std.specs.Prelude.{◌*◌, ◌/◌, ◌≤◌, length, IfOk};
 
-use libc::STDOUT_FILENO;
 use macho::reloc::Reloc;
 use row::ROW;
+use std::alloc::{AllocError, Global};
+use std::io::Write;
+use std::{fs, io};
 
 // How many rows from the front agree, in reading and then in fix-up, with room for the section and its entries.
-fn replay_in(s: &[u8], contents: &mut [u8], entries: &mut [u8]) -> usize
-    requires { (length s.now ≤ 65536) × (24 * (length s.now / 120) ≤ length entries.old) }
-    ensures { result ≤ length s.now / 120 }
+fn replay_in(
+    alloc: Global,
+    s: &[u8],
+    contents: &mut [u8],
+    entries: &mut [u8],
+) -> Result<usize, AllocError>
+    requires { 24 * (length s.now / 120) ≤ length entries.old }
+    ensures { IfOk result (λ n. n ≤ length s.now / 120) }
 {
-    let agreed = reader::agreed(s, contents, entries);
+    let agreed = reader::agreed(alloc, s, contents, entries)?;
     if agreed < s.len() / ROW {
-        return agreed;
+        return Ok(agreed);
     }
-    fixup::agreed(s, contents, entries)
+    fixup::agreed(alloc, s, contents, entries)
 }
 
 // How many rows from the front agree.
-fn replay(s: &[u8]) -> usize
-    requires { length s.now ≤ 65536 }
-    ensures { result ≤ length s.now / 120 }
+fn replay(alloc: Global, s: &[u8]) -> Result<usize, AllocError>
+    ensures { IfOk result (λ n. n ≤ length s.now / 120) }
 {
-    let mut contents = io::large_buffer();
-    let mut entries = io::large_buffer();
-    let section = 8 * (s.len() / ROW);
-    let list = Reloc::SIZE * (s.len() / ROW);
-    replay_in(s, &mut contents[0..section], &mut entries[0..list])
+    let rows = s.len() / ROW;
+    let mut contents = vec![in alloc; 0u8; 8 * rows]?;
+    let mut entries = vec![in alloc; 0u8; Reloc::SIZE * rows]?;
+    replay_in(alloc, s, &mut contents, &mut entries)
 }
 
-fn print_row(s: &[u8]) {
+fn print_row<W: Write>(to: &mut W, s: &[u8]) -> io::Result<()> {
     if s.len() < ROW {
-        io::write_all(STDOUT_FILENO, s);
-        return;
+        return to.write_all(s);
     }
-    io::write_all(STDOUT_FILENO, &s[0..ROW]);
+    to.write_all(&s[0..ROW])
 }
 
-fn print_replay(s: &[u8])
-    requires { length s.now ≤ 65536 }
-{
-    let agreed = replay(s);
+fn print_replay<W: Write>(alloc: Global, to: &mut W, s: &[u8]) -> io::Result<()> {
+    let agreed = replay(alloc, s)?;
     let at = ROW * agreed;
     if at < s.len() {
-        io::write_all(STDOUT_FILENO, b"the first row that disagrees:\n");
-        print_row(&s[at..]);
-        return;
+        writeln!(to, "the first row that disagrees:")?;
+        return print_row(to, &s[at..]);
     }
-    io::print_decimal(STDOUT_FILENO, agreed as u64);
-    io::write_all(STDOUT_FILENO, b" pointers agree\n");
+    writeln!(to, "{agreed} pointers agree")
 }
 
-fn main() {
-    let fd = os::open_read(b"pointers.txt");
-    if fd < 0 {
-        os::fail(b"pointers.txt");
-        return;
-    }
-    let mut buf = io::large_buffer();
-    let n = io::read_full(fd, &mut buf);
-    libc::close(fd);
-    print_replay(&buf[..n]);
+fn main(rt: HostRuntime) -> io::Result<()> {
+    let rows = fs::read(&rt, "pointers.txt")?;
+    print_replay(rt.alloc(), &mut rt.stdout(), &rows)
 }

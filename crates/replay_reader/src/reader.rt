@@ -5,6 +5,7 @@ use arm64_reader::read::read_relocs;
 use macho::refusal::Answer;
 use replay_list::head::Head;
 use replay_list::lent::{are_filled, put_pattern};
+use std::alloc::{AllocError, Global};
 use util::read64;
 use x86_64_reader::read::read_relocs as read_relocs_of_x86_64;
 
@@ -80,15 +81,14 @@ fn holds_in(list: &mut [u64], slots: &mut [u8], head: Head, body: &[u8], own: us
 }
 
 // Whether the reader answers as a record says that has so many bytes for the section's own address: 0 for arm64, 8 for x86_64.
-pub(crate) fn holds(head: Head, body: &[u8], own: usize) -> bool
+pub(crate) fn holds(alloc: Global, head: Head, body: &[u8], own: usize) -> Result<bool, AllocError>
     requires { own ≤ 8 }
 {
     let mut list = [0u64; 8];
-    let mut slots = io::large_buffer();
+    let mut slots = vec![in alloc; 0u8; head.v4 as usize]?;
     let count = head.v3 as usize;
-    let lent = head.v4 as usize;
     if count > 8 {
-        return false;
+        return Ok(false);
     }
-    holds_in(&mut list[0..count], &mut slots[0..lent], head, body, own)
+    Ok(holds_in(&mut list[0..count], &mut slots, head, body, own))
 }

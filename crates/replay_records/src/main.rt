@@ -4,10 +4,11 @@
 
 ghost use Rattle.std.specs.Prelude.{◌+◌, ◌≤◌, ◌<◌, length};
 
-use libc::STDOUT_FILENO;
 use macho::consts;
 use macho::hint::word_count;
 use macho::mach_rel::MachRel;
+use std::io::Write;
+use std::{fs, io};
 
 // A row, with its newline.
 const ROW: usize = 78;
@@ -175,40 +176,30 @@ fn replay(s: &[u8]) -> Agreed {
     }
 }
 
-fn print_count(n: u64, what: &[u8]) {
-    io::print_decimal(STDOUT_FILENO, n);
-    io::write_all(STDOUT_FILENO, what);
+fn print_count<W: Write>(to: &mut W, n: u64, what: &str) -> io::Result<()> {
+    writeln!(to, "{n} {what}")
 }
 
-fn print_row(s: &[u8]) {
+fn print_row<W: Write>(to: &mut W, s: &[u8]) -> io::Result<()> {
     if s.len() < ROW {
-        io::write_all(STDOUT_FILENO, s);
-        return;
+        return to.write_all(s);
     }
-    io::write_all(STDOUT_FILENO, &s[0..ROW]);
+    to.write_all(&s[0..ROW])
 }
 
-fn print_replay(s: &[u8]) {
+fn print_replay<W: Write>(to: &mut W, s: &[u8]) -> io::Result<()> {
     let seen = replay(s);
     let at = seen.at;
     if at < s.len() {
-        io::write_all(STDOUT_FILENO, b"the first row that disagrees:\n");
-        print_row(&s[at..]);
-        return;
+        writeln!(to, "the first row that disagrees:")?;
+        return print_row(to, &s[at..]);
     }
-    print_count(seen.records, b" records agree\n");
-    print_count(seen.names, b" numbers of types and kinds agree\n");
-    print_count(seen.hints, b" word counts agree\n");
+    print_count(to, seen.records, "records agree")?;
+    print_count(to, seen.names, "numbers of types and kinds agree")?;
+    print_count(to, seen.hints, "word counts agree")
 }
 
-fn main() {
-    let fd = os::open_read(b"records.txt");
-    if fd < 0 {
-        os::fail(b"records.txt");
-        return;
-    }
-    let mut buf = io::large_buffer();
-    let n = io::read_full(fd, &mut buf);
-    libc::close(fd);
-    print_replay(&buf[..n]);
+fn main(rt: HostRuntime) -> io::Result<()> {
+    let rows = fs::read(&rt, "records.txt")?;
+    print_replay(&mut rt.stdout(), &rows)
 }

@@ -9,7 +9,9 @@ use arm64_insn::fix::OffsetWord;
 use arm64_insn::ldst::{LoadStore, LoadStoreWord};
 use arm64_insn::stub::Words3;
 use arm64_ldst_table::lookup;
-use libc::STDOUT_FILENO;
+use std::io::{Read, Write};
+use std::{fs, io};
+use text_io::read_full;
 
 // The two letters of each kind of row.
 const AR: u32 = 0x6172;
@@ -277,43 +279,35 @@ const HELD: u64 = 1;
 const BROKEN: u64 = 2;
 
 // Reads a row, and writes it out if it does not hold.
-fn replay(fd: i32) -> u64 {
+fn replay<R: Read, W: Write>(from: &mut R, to: &mut W) -> io::Result<u64> {
     let mut row = [0u8; 108];
-    let n = io::read_full(fd, &mut row);
+    let n = read_full(from, &mut row)?;
     if n < 108 {
-        return END;
+        return Ok(END);
     }
     if holds(&row) {
-        return HELD;
+        return Ok(HELD);
     }
-    io::write_all(STDOUT_FILENO, &row);
-    BROKEN
+    to.write_all(&row)?;
+    Ok(BROKEN)
 }
 
 // Replays the rows, at most a million, and writes how many held, of how many.
-fn replay_all(fd: i32) {
+fn replay_all<R: Read, W: Write>(from: &mut R, to: &mut W) -> io::Result<()> {
     let mut left: u64 = 1_000_000;
     let mut held: u64 = 0;
     while left > 0 {
-        let outcome = replay(fd);
+        let outcome = replay(from, to)?;
         if outcome == END {
             break;
         }
         held += outcome % 2;
         left -= 1;
     }
-    io::print_decimal(STDOUT_FILENO, held);
-    io::write_all(STDOUT_FILENO, b" of ");
-    io::print_decimal(STDOUT_FILENO, 1_000_000 - left);
-    io::write_all(STDOUT_FILENO, b" rows hold\n");
+    writeln!(to, "{held} of {} rows hold", 1_000_000 - left)
 }
 
-fn main() {
-    let fd = os::open_read(b"words");
-    if fd < 0 {
-        os::fail(b"words");
-        return;
-    }
-    replay_all(fd);
-    libc::close(fd);
+fn main(rt: HostRuntime) -> io::Result<()> {
+    let mut words = fs::open(&rt, "words")?;
+    replay_all(&mut words, &mut rt.stdout())
 }

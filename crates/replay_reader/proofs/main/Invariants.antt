@@ -1,5 +1,4 @@
 -- Each turn leaves fewer records.
-use borrow.Author.Rules.{rules}
 use Rattle.replay_list.specs.Seen.{Bounded}
 use Rattle.replay_reader.proofs.main.Given as goal
 

@@ -1,7 +1,5 @@
 -- Each turn leaves fewer bytes; no count passes the place that the rows have come to.
-use Prim.Native.Nat.{◌-◌, ◌≤◌}
-use lib.ListN.{length}
-use borrow.Author.Rules.{rules}
+use Rattle.std.proofs.Common.{◌-◌, ◌≤◌, length}
 use Rattle.replay_records.proofs.replay.Given as goal
 
 abbrev pub invariant-loop-at : goal.invariant-loop-at

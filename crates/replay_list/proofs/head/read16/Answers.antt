@@ -5,7 +5,6 @@ use native.Mathlib.Nat.{mod-eq_of_lt, add-zero}
 use Prim.Native.Nat.{ℕ, ◌+◌, ◌<◌}
 use lib.ListN.{get_or}
 use Rattle.util.specs.Word.{le}
-use borrow.Author.Rules.{rules}
 use Rattle.replay_list.proofs.head.read16.Goals as goal
 
 pub returns : goal.returns

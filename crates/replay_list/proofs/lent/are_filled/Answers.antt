@@ -1,12 +1,10 @@
 -- `are_filled`: up to place i the slots hold what is due (Slots); the first that does not decides.
 use mathlib.Core.Bool.{false≢true}
 use mathlib.Core.Path.{refl, sym}
-use Prim.Native.Nat.{◌-◌, ◌≤◌}
 use mathlib.Core.Path.{◌∙◌}
 use native.Mathlib.Omega.{arith}
-use lib.ListN.{length}
 use borrow.Author.Rules.{rules}
-use Rattle.replay_list.proofs.Slots.{Due, due-more}
+use Rattle.replay_list.proofs.Slots.{due-more}
 use Rattle.replay_list.proofs.lent.are_filled.Goals as goal
 
 pub returns-then-slots-records : goal.returns-then-slots-records

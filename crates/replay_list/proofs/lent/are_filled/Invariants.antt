@@ -1,12 +1,7 @@
 -- `are_filled`: up to place i the slots hold what is due (Slots); the first that does not decides.
-use mathlib.Core.Bool.{false≢true}
-use mathlib.Core.Path.{refl, sym}
 use Prim.Native.Nat.{◌-◌, ◌≤◌}
-use mathlib.Core.Path.{◌∙◌}
-use native.Mathlib.Omega.{arith}
 use lib.ListN.{length}
-use borrow.Author.Rules.{rules}
-use Rattle.replay_list.proofs.Slots.{Due, due-more}
+use Rattle.replay_list.proofs.Slots.{Due}
 use Rattle.replay_list.proofs.lent.are_filled.Given as goal
 
 abbrev pub invariant-loop-i : goal.invariant-loop-i

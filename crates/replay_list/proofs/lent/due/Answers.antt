@@ -2,7 +2,6 @@
 use borrow.Author.Tests.{lt-ltb, le-ltb}
 use Rattle.util.specs.Choice.{choose}
 use Rattle.replay_list.specs.Lent.{due_at}
-use borrow.Author.Rules.{rules}
 use Rattle.replay_list.proofs.lent.due.Goals as goal
 
 pub returns-then-i-records : goal.returns-then-i-records

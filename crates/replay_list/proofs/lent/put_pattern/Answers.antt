@@ -1,12 +1,11 @@
 -- `put_pattern`: up to place i the slots hold the pattern (Slots); one more store keeps that.
 use mathlib.Core.Path.{refl}
-use Prim.Native.Nat.{◌-◌, ◌≤◌}
 use mathlib.Core.List.{[]}
-use mathlib.Core.Path.{◌≡◌, sym, ◌∙◌}
+use mathlib.Core.Path.{sym, ◌∙◌}
 use native.Mathlib.Omega.{arith}
-use lib.ListN.{length, length-set}
+use lib.ListN.{length-set}
 use borrow.Author.Rules.{rules}
-use Rattle.replay_list.proofs.Slots.{Due, due-pattern, due-stored}
+use Rattle.replay_list.proofs.Slots.{due-pattern, due-stored}
 use Rattle.replay_list.proofs.lent.put_pattern.Goals as goal
 
 pub loop-i-init : goal.loop-i-init

@@ -1,8 +1,6 @@
 -- Each turn leaves fewer rows; the targets keep their length.
-use Prim.Native.Nat.{◌-◌, ◌*◌, ◌/◌, ◌≤◌}
-use lib.ListN.{length}
-use mathlib.Core.Path.{◌≡◌}
-use borrow.Author.Rules.{rules}
+use Rattle.std.proofs.Common.{◌-◌, ◌*◌, ◌/◌, ◌≤◌, length}
+use Rattle.std.proofs.Common.{◌≡◌}
 use Rattle.replay_pointers.proofs.fixup.put_targets.Given as goal
 
 abbrev pub invariant-loop-k : goal.invariant-loop-k

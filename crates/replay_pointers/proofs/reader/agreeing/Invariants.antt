@@ -1,7 +1,5 @@
 -- Each turn leaves fewer rows.
-use Prim.Native.Nat.{◌-◌, ◌/◌, ◌≤◌}
-use lib.ListN.{length}
-use borrow.Author.Rules.{rules}
+use Rattle.std.proofs.Common.{◌-◌, ◌/◌, ◌≤◌, length}
 use Rattle.replay_pointers.proofs.reader.agreeing.Given as goal
 
 abbrev pub invariant-loop-k : goal.invariant-loop-k

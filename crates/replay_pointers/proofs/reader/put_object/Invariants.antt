@@ -1,8 +1,6 @@
 -- Each turn leaves fewer rows; section and records keep their lengths.
-use Prim.Native.Nat.{◌-◌, ◌*◌, ◌/◌, ◌≤◌}
-use lib.ListN.{length}
-use mathlib.Core.Path.{◌≡◌}
-use borrow.Author.Rules.{rules}
+use Rattle.std.proofs.Common.{◌-◌, ◌*◌, ◌/◌, ◌≤◌, length}
+use Rattle.std.proofs.Common.{◌≡◌}
 use Rattle.replay_pointers.proofs.reader.put_object.Given as goal
 
 abbrev pub invariant-loop-k : goal.invariant-loop-k

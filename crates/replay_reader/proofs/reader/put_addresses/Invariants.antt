@@ -1,8 +1,6 @@
 -- Each turn leaves fewer addresses.
-use Prim.Native.Nat.{◌-◌, ◌*◌, ◌/◌, ◌≤◌}
-use lib.ListN.{length}
-use mathlib.Core.Path.{◌≡◌}
-use borrow.Author.Rules.{rules}
+use Rattle.std.proofs.Common.{◌-◌, ◌*◌, ◌/◌, ◌≤◌, length}
+use Rattle.std.proofs.Common.{◌≡◌}
 use Rattle.replay_reader.proofs.reader.put_addresses.Given as goal
 
 abbrev pub invariant-loop-i : goal.invariant-loop-i

@@ -1,6 +1,5 @@
 -- `Head::read`: each field is the promise of the read at its place, and the places lie in the 16 bytes.
 use Rattle.replay_list.specs.Head.{head_of}
-use borrow.Author.Rules.{rules}
 use Rattle.replay_list.proofs.head.Head.read.Goals as goal
 
 pub returns : goal.returns
