@@ -13,7 +13,7 @@ returns c = record {
       ∙ ap (λ (a : Answer). answer_number a)
       (elim c.match-answer.branch [ in-Filled w ↦ w.answer-is ∙ sym w.in-Filled.is | in_default w ↦ w.answer-is ]);
   count = elim c.match-answer.branch [
-    in-Filled w ↦ w.count-is ∙ count-new _ _ _ (sym w.in-Filled.is)
-  | in_default w ↦ w.count-is ∙ count_kept _ _ _ (sym w.in_default.is)
+    | in-Filled w ↦ w.count-is ∙ count-new _ _ _ (sym w.in-Filled.is)
+    | in_default w ↦ w.count-is ∙ count_kept _ _ _ (sym w.in_default.is)
   ];
 }

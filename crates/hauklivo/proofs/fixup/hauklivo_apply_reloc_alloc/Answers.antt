@@ -9,8 +9,8 @@ use Rattle.hauklivo.proofs.fixup.hauklivo_apply_reloc_alloc.Goals as goal
 pub returns : goal.returns
 returns c =
     record {
-  number = c.counted.ensures.number ∙ ap (λ (a : Answer). answer_number a) c.apply_reloc_alloc-answer.ensures.answer;
-  count = c.counted.ensures.count ∙ count_same _ c.apply_reloc_alloc-answer.ensures.answer;
-  buf = c.apply_reloc_alloc-answer.ensures.buf;
-  told = c.apply_reloc_alloc-answer.ensures.told;
-}
+      number = c.counted.ensures.number ∙ ap (λ (a : Answer). answer_number a) c.apply_reloc_alloc-answer.ensures.answer;
+      count = c.counted.ensures.count ∙ count_same _ c.apply_reloc_alloc-answer.ensures.answer;
+      buf = c.apply_reloc_alloc-answer.ensures.buf;
+      told = c.apply_reloc_alloc-answer.ensures.told;
+    }

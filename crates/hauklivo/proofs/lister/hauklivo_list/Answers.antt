@@ -9,7 +9,7 @@ use Rattle.hauklivo.proofs.lister.hauklivo_list.Goals as goal
 pub returns : goal.returns
 returns c =
     record {
-  number = c.counted.ensures.number ∙ ap (λ (a : Answer). answer_number a) c.list-answer.ensures.answer;
-  count = c.counted.ensures.count ∙ count_same _ c.list-answer.ensures.answer;
-  out = c.list-answer.ensures.out;
-}
+      number = c.counted.ensures.number ∙ ap (λ (a : Answer). answer_number a) c.list-answer.ensures.answer;
+      count = c.counted.ensures.count ∙ count_same _ c.list-answer.ensures.answer;
+      out = c.list-answer.ensures.out;
+    }

@@ -9,7 +9,7 @@ use Rattle.hauklivo.proofs.payload.hauklivo_write_hints.Goals as goal
 pub returns : goal.returns
 returns c =
     record {
-  number = c.counted.ensures.number ∙ ap (λ (a : Answer). answer_number a) c.write_hints-answer.ensures.answer;
-  count = c.counted.ensures.count ∙ count_same _ c.write_hints-answer.ensures.answer;
-  out = c.write_hints-answer.ensures.out;
-}
+      number = c.counted.ensures.number ∙ ap (λ (a : Answer). answer_number a) c.write_hints-answer.ensures.answer;
+      count = c.counted.ensures.count ∙ count_same _ c.write_hints-answer.ensures.answer;
+      out = c.write_hints-answer.ensures.out;
+    }

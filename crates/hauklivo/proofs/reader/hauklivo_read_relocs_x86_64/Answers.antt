@@ -9,7 +9,7 @@ use Rattle.hauklivo.proofs.reader.hauklivo_read_relocs_x86_64.Goals as goal
 pub returns : goal.returns
 returns c =
     record {
-  number = c.counted.ensures.number ∙ ap (λ (a : Answer). answer_number a) c.read_relocs-answer.ensures.answer;
-  count = c.counted.ensures.count ∙ count_same _ c.read_relocs-answer.ensures.answer;
-  slots = c.read_relocs-answer.ensures.slots;
-}
+      number = c.counted.ensures.number ∙ ap (λ (a : Answer). answer_number a) c.read_relocs-answer.ensures.answer;
+      count = c.counted.ensures.count ∙ count_same _ c.read_relocs-answer.ensures.answer;
+      slots = c.read_relocs-answer.ensures.slots;
+    }

@@ -16,25 +16,25 @@ pub returns-in-Refused : goal.returns-in-Refused
 returns-in-Refused c =
     let e = sym c.in-Refused.is ∙ c.write_stub.ensures.answer in
     record {
-  number = c.number.ensures ∙ ap (λ (a : StubAnswer). stub_number a) e;
-  reaches = lent-kept c.in-Refused.refusal _ _ ∙ ap (lent _) e;
-  buf = c.write_stub.ensures.bytes;
-}
+      number = c.number.ensures ∙ ap (λ (a : StubAnswer). stub_number a) e;
+      reaches = lent-kept c.in-Refused.refusal _ _ ∙ ap (lent _) e;
+      buf = c.write_stub.ensures.bytes;
+    }
 
 pub returns-in-OutOfReach : goal.returns-in-OutOfReach
 returns-in-OutOfReach c =
     let e = sym c.in-OutOfReach.is ∙ c.write_stub.ensures.answer in
     record {
-  number = ap (λ (a : StubAnswer). stub_number a) e;
-  reaches = lent-new _ _ ∙ ap (lent _) e;
-  buf = c.write_stub.ensures.bytes;
-}
+      number = ap (λ (a : StubAnswer). stub_number a) e;
+      reaches = lent-new _ _ ∙ ap (lent _) e;
+      buf = c.write_stub.ensures.bytes;
+    }
 
 pub returns-in-Reaches : goal.returns-in-Reaches
 returns-in-Reaches c =
     let e = sym c.in-Reaches.is ∙ c.write_stub.ensures.answer in
     record {
-  number = ap (λ (a : StubAnswer). stub_number a) e;
-  reaches = lent-new _ _ ∙ ap (lent _) e;
-  buf = c.write_stub.ensures.bytes;
-}
+      number = ap (λ (a : StubAnswer). stub_number a) e;
+      reaches = lent-new _ _ ∙ ap (lent _) e;
+      buf = c.write_stub.ensures.bytes;
+    }

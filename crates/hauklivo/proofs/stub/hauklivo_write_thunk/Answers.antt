@@ -7,6 +7,6 @@ use Rattle.hauklivo.proofs.stub.hauklivo_write_thunk.Goals as goal
 pub returns : goal.returns
 returns c =
     record {
-  number = c.number.ensures ∙ ap check_number c.write_thunk.ensures.answer;
-  buf = c.write_thunk.ensures.bytes;
-}
+      number = c.number.ensures ∙ ap check_number c.write_thunk.ensures.answer;
+      buf = c.write_thunk.ensures.bytes;
+    }
