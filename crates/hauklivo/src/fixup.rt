@@ -7,8 +7,7 @@ use crate::counted::counted;
 use arm64_fixup::walk::apply_reloc_alloc;
 
 // Fixes a section's bytes by its entries and their resolved targets; `count` gets the number of reports.
-#[unsafe(no_mangle)]
-pub extern "C" fn hauklivo_apply_reloc_alloc(
+pub fn hauklivo_apply_reloc_alloc(
     buf: &mut [u8],
     base: u64,
     tls_begin: u64,

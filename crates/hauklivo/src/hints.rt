@@ -8,13 +8,7 @@ use arm64_hint_run::tally::apply_hints;
 use arm64_hint_work::tally::Tally;
 
 // Works the hints on the image by the entries; `tally` gets the counts.
-#[unsafe(no_mangle)]
-pub extern "C" fn hauklivo_apply_hints(
-    image: &mut [u8],
-    hints: &[u8],
-    entries: &[u8],
-    tally: &mut Tally,
-) -> u8
+pub fn hauklivo_apply_hints(image: &mut [u8], hints: &[u8], entries: &[u8], tally: &mut Tally) -> u8
     ensures { (result ≡ number_to image.old hints.now entries.now)
         × (tally.new ≡ tally_to image.old hints.now entries.now tally.old)
         × (image.new ≡ image_to image.old hints.now entries.now) }
@@ -23,8 +17,7 @@ pub extern "C" fn hauklivo_apply_hints(
 }
 
 // Works the hints as hauklivo_apply_hints does, and fills `records` with what became of each, in the order of work; `tally` gets the counts.
-#[unsafe(no_mangle)]
-pub extern "C" fn hauklivo_apply_hints_listed(
+pub fn hauklivo_apply_hints_listed(
     image: &mut [u8],
     hints: &[u8],
     entries: &[u8],

@@ -7,8 +7,7 @@ use crate::counted::counted;
 use lister_text::list;
 
 // Lists words with their offsets and classes at the start of `out`; `count` gets how many bytes that is.
-#[unsafe(no_mangle)]
-pub extern "C" fn hauklivo_list(words: &[u8], out: &mut [u8], count: &mut usize) -> u8
+pub fn hauklivo_list(words: &[u8], out: &mut [u8], count: &mut usize) -> u8
     ensures number { result ≡ number_to words.now out.old }
     ensures count { count.new ≡ count_to words.now out.old count.old }
     ensures out { out.new ≡ out_after words.now out.old }

@@ -8,8 +8,7 @@ use hint_payload::read::read_hints;
 use hint_payload::write::write_hints;
 
 // Reads a payload into a row of values, kind, count and addresses for each hint; `count` gets how many.
-#[unsafe(no_mangle)]
-pub extern "C" fn hauklivo_read_hints(payload: &[u8], slots: &mut [u64], count: &mut usize) -> u8
+pub fn hauklivo_read_hints(payload: &[u8], slots: &mut [u64], count: &mut usize) -> u8
     ensures number { result ≡ read_number_to payload.now slots.old }
     ensures count { count.new ≡ read_count_to payload.now slots.old count.old }
     ensures slots { slots.new ≡ row_to payload.now slots.old }
@@ -19,8 +18,7 @@ pub extern "C" fn hauklivo_read_hints(payload: &[u8], slots: &mut [u64], count: 
 }
 
 // Writes such a row as a payload, each value in its shortest spelling; `count` gets how many bytes that is.
-#[unsafe(no_mangle)]
-pub extern "C" fn hauklivo_write_hints(row: &[u64], out: &mut [u8], count: &mut usize) -> u8
+pub fn hauklivo_write_hints(row: &[u64], out: &mut [u8], count: &mut usize) -> u8
     ensures number { result ≡ write_number_to row.now out.old }
     ensures count { count.new ≡ write_count_to row.now out.old count.old }
     ensures out { out.new ≡ bytes_to row.now out.old }

@@ -10,8 +10,7 @@ use arm64_reader::read::read_relocs;
 use x86_64_reader::read::read_relocs as read_relocs_of_x86_64;
 
 // Reads relocation records of arm64 into entries; `count` gets how many.
-#[unsafe(no_mangle)]
-pub extern "C" fn hauklivo_read_relocs(
+pub fn hauklivo_read_relocs(
     contents: &[u8],
     records: &[u8],
     sections: &[u64],
@@ -28,8 +27,7 @@ pub extern "C" fn hauklivo_read_relocs(
 }
 
 // Reads relocation records of x86_64 into entries; `address` is that of the section itself, `count` gets how many.
-#[unsafe(no_mangle)]
-pub extern "C" fn hauklivo_read_relocs_x86_64(
+pub fn hauklivo_read_relocs_x86_64(
     contents: &[u8],
     records: &[u8],
     sections: &[u64],

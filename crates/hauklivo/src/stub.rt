@@ -5,8 +5,7 @@ ghost use Rattle.hauklivo.specs.Stub.{stub_number_to, reaches_to, stub_to, thunk
 use arm64_fixup::stub::{StubAnswer, write_stub, write_thunk};
 
 // Writes the stub entry at `addr` whose pointer is at `ptr`; `reaches` gets 1 where ADRP reaches the pointer's page, else 0.
-#[unsafe(no_mangle)]
-pub extern "C" fn hauklivo_write_stub(buf: &mut [u8], addr: u64, ptr: u64, reaches: &mut u8) -> u8
+pub fn hauklivo_write_stub(buf: &mut [u8], addr: u64, ptr: u64, reaches: &mut u8) -> u8
     ensures number { result ≡ stub_number_to buf.old addr ptr }
     ensures reaches { reaches.new ≡ reaches_to buf.old addr ptr reaches.old }
     ensures buf { buf.new ≡ stub_to buf.old addr ptr }
@@ -25,8 +24,7 @@ pub extern "C" fn hauklivo_write_stub(buf: &mut [u8], addr: u64, ptr: u64, reach
 }
 
 // Writes the thunk entry at `addr` that jumps to `target`.
-#[unsafe(no_mangle)]
-pub extern "C" fn hauklivo_write_thunk(buf: &mut [u8], addr: u64, target: u64) -> u8
+pub fn hauklivo_write_thunk(buf: &mut [u8], addr: u64, target: u64) -> u8
     ensures number { result ≡ thunk_number_to buf.old }
     ensures buf { buf.new ≡ thunk_to buf.old addr target }
 {

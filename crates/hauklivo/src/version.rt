@@ -6,16 +6,14 @@ ghost use Rattle.hauklivo.specs.Version.{version};
 const VERSION: u32 = 5;
 
 // The version of the calls.
-#[unsafe(no_mangle)]
-pub extern "C" fn hauklivo_version() -> u32
+pub fn hauklivo_version() -> u32
     ensures { result ≡ version }
 {
     VERSION
 }
 
 // The same, by a name that only an archive of this version has.
-#[unsafe(no_mangle)]
-pub extern "C" fn hauklivo_version_5() -> u32
+pub fn hauklivo_version_5() -> u32
     ensures { result ≡ version }
 {
     VERSION
