@@ -1,7 +1,7 @@
--- One turn of the second walk, in the form in which the loop asks for it.
+-- One turn of the second walk, in the form in which the loop asks for it, and the reports' bytes one after another.
 use mathlib.Core.Path.{◌≡◌, refl, sym, ap, ◌∙◌}
 use mathlib.Core.Bool.{Bool, false}
-use mathlib.Core.List.{List}
+use mathlib.Core.List.{List, ◌++◌}
 use Prim.Native.Nat.{ℕ, ◌+◌, ◌*◌, ◌≤◌, ◌<◌}
 use native.Mathlib.Omega.{arith}
 use lib.Dec.{eqb}
@@ -10,13 +10,14 @@ use lib.Seq.{sets}
 use Rattle.util.specs.Word.{le}
 use Rattle.macho.specs.Record.{list_bytes}
 use Rattle.macho.specs.Report.{report_bytes}
-use Rattle.macho.proofs.RoundTrip.{report}
-use Rattle.macho.proofs.Stored.{stored_more, stored-front}
+use Rattle.macho.specs.declared.report.Report.{Report}
+use Rattle.macho.proofs.RoundTrip.{report, length-image}
+use Rattle.macho.proofs.Stored.{length-list, list-append, stored_more, stored-front}
 use Rattle.macho.specs.declared.reloc.Reloc.{Reloc}
 use Rattle.macho.specs.declared.resolved.Resolved.{Resolved}
 use Rattle.arm64_fixup_entry.specs.Check.{check_of}
 use Rattle.arm64_fixup_entry.specs.Change.{bytes_in, change_of}
-use Rattle.arm64_fixup.specs.Walk.{entry_count, lent_entry, lent_target, taken_by, consumed, check_all, stored, reports_of}
+use Rattle.arm64_fixup.specs.Walk.{entry_count, lent_entry, lent_target, taken_by, consumed, check_all, stored, reports_of, Fixed}
 use Rattle.arm64_fixup.specs.Walk.{applied, fix_to, fix_all}
 use Rattle.arm64_fixup.specs.Answer.{filled}
 use Rattle.arm64_fixup_entry.specs.declared.target.Bases.{Bases}
@@ -26,6 +27,26 @@ use Rattle.arm64_fixup_entry.specs.declared.change.Change.{Change}
 use Rattle.arm64_fixup_entry.proofs.Sound.{sound}
 use Rattle.arm64_fixup.proofs.Turns.{next-worked, passes, check-worked, next-within, ended, takes, fix-next}
 use Rattle.arm64_fixup_entry.proofs.Width.{change-fits}
+
+-- ---- reports
+
+length-report : (r : Report) → length (report_bytes r) ≡ 24
+length-report r = length-image report r
+
+length-reports : (rs : List Report) → length (list_bytes report_bytes rs) ≡ 24 * length rs
+length-reports rs = length-list report rs
+
+reports_append : (rs qs : List Report) → list_bytes report_bytes (rs ++ qs) ≡ list_bytes report_bytes rs ++ list_bytes report_bytes qs
+reports_append rs qs = list-append report rs qs
+
+-- reports stored after others
+more : (slots : List ℕ) (rs qs : List Report)
+    → sets slots 0 (list_bytes report_bytes (rs ++ qs)) ≡ sets (sets slots 0 (list_bytes report_bytes rs)) (24 * length rs) (list_bytes report_bytes qs)
+more slots rs qs = stored_more report slots rs qs
+
+-- stored reports are the front of the slots
+front : (slots : List ℕ) (f : Fixed) → 24 * length f.reports ≤ length slots → sets slots 0 (list_bytes report_bytes f.reports) ≡ filled f slots
+front slots f h = stored-front report slots f.reports h
 
 -- at most one report an entry
 at_most_one : (t : Told) → length (reports_of t) ≤ 1
@@ -76,7 +97,7 @@ module _ (b : Bases) (entries targets section : List ℕ) (i : ℕ) (free : cons
         omega (arith, at_most_one c.told, (takes e.ty pk).0),
         rw step (qn ∙ simp length-append (omega arith)),
         rw step (qb ∙ ap (λ (s : List ℕ). stored s e.offset c.write) pb),
-        rw step (qs ∙ rw (ps, pn) (sym (stored_more report slots₀ (fix_to b entries targets section i).reports (reports_of c.told)))),
+        rw step (qs ∙ rw (ps, pn) (sym (more slots₀ (fix_to b entries targets section i).reports (reports_of c.told)))),
       )
 
 -- what holds after the last turn
@@ -95,4 +116,4 @@ work-done b entries targets section slots₀ i {count} {buf} {slots} l g few eno
     × ((buf ≡ (fix_to b entries targets section k).section) × (slots ≡ filled (fix_to b entries targets section k) slots₀)))
     l
     g
-    (pn, (pb, ps ∙ stored-front report slots₀ (fix_to b entries targets section i).reports (omega arith)))
+    (pn, (pb, ps ∙ front slots₀ (fix_to b entries targets section i) (omega arith)))

@@ -18,7 +18,7 @@ module _ {A : Type 0} {n : ℕ} {value : List ℕ → ℕ → A} {fields : A →
   length-list [] = sym (mul-zero n)
   length-list (r ∷ rs) = simp (length-append, length-image L r, length-list rs) (omega (arith, mul-suc n (length rs)))
 
-  list-append : (rs qs : List A) → list_bytes image (rs ++ qs) ≡ list_bytes image rs ++ list_bytes image qs
+  pub list-append : (rs qs : List A) → list_bytes image (rs ++ qs) ≡ list_bytes image rs ++ list_bytes image qs
   unfolding list_bytes
   list-append [] qs = refl
   list-append (r ∷ rs) qs = rw (list-append rs qs) (sym (append_assoc (image r) (list_bytes image rs) (list_bytes image qs)))
