@@ -55,6 +55,7 @@ fn adrp_add_ldst(s: Insns, pair: bool) -> Through
 
 // Whether the ADD folds into an access: that has no offset of its own, and the ADD makes a multiple of the bytes moved. The division comes last, for
 // its time.
+#[tactic(auto, unfolding(crate::specs::Three::folds))]
 fn folds(addr: u64, ls: LoadStore) -> bool
     requires { 0 < ls.size }
     ensures { result ≡ folds addr ls }
