@@ -193,7 +193,8 @@ numbers =
     let h = Hints.numbers in
     record {
       number-1 = (at 0 r, f.0, h.0, h.1);
-      number-2 = (at 1 r, f.1, listed-short);
+      number-2 = (at 1 r, f.1);
+      number-2-listed = listed-short;
       number-3 = (at 2 r, f.2, h.2, h.3);
       number-4 = at 3 r;
       number-5 = (at 4 r, f.3);

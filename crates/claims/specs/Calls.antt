@@ -1,5 +1,5 @@
 -- The calls that a linker makes (RULES 1.1 to 1.3, 2.28, 14.9, 14.10, 16.1): each meets its contract, and one that is refused has changed nothing that it
--- was lent.
+-- was lent. They are the functions of hauklivo; hauklivo_c exports each to C with the same clauses.
 use Rattle.std.specs.Prelude.{◌≡◌, List, ℕ, ◌≤◌}
 use Rattle.macho.specs.Refusal as Refusal
 use Rattle.macho.specs.declared.refusal.Refusal.{Refusal}

@@ -1,5 +1,5 @@
 -- The table of load and store classes (RULES 7.19, 7.32, 7.33): what an entry holds, that the table is the manual's rows, where the Rust parts from it, and the
--- file that the generator prints. That the exported call answers the entry of what the decoder sees is `Calls.load-store-class`.
+-- file that the generator prints. That the call answers the entry of what the decoder sees is `Calls.load-store-class`.
 use Rattle.std.specs.Prelude.{◌≡◌, Bool, false, ◌&&◌, not, List, [], ◌∷◌, ◌++◌, map, ℕ, zero, suc, ◌/◌, ◌^◌, ◌≤◌, ◌<◌, eqb}
 use Rattle.util.specs.Choice.{choose}
 use Rattle.text.specs.Digits.{ascii}

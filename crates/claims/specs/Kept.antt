@@ -93,7 +93,7 @@ pub record Kept : Type 0 where
       × (Once (hint_count hints) (order_of hints))
       × (Order.KeepsOrder hints (order_of hints))
       × ((l : List ℕ) → Once (hint_count hints) l → HintsKept image hints entries l t × Literally image hints entries l t)
-  -- RULES 1.9 to 1.13 of the exported call: `number`, `tally` and `left` are what the contract of hauklivo/src/hints.rt says that it returns and leaves
+  -- RULES 1.9 to 1.13 of the call: `number`, `tally` and `left` are what the contract of hauklivo/src/hints.rt says that it returns and leaves
   pub of-the-call : (image hints entries left : List ℕ) (old tally : Tally) (number : ℕ) → number ≡ HintsCall.number_to image hints entries
       → tally ≡ HintsCall.tally_to image hints entries old → left ≡ HintsCall.image_to image hints entries → number ≡ 0
       → (worked image hints entries (order_of hints) ≡ record { image = left; tally = tally })

@@ -59,10 +59,11 @@ pub record Numbers : Type 0 where
       × (fix_up [] 0 (bytes 7 0) [] [] ≡ 1)
       × (hint_run 8 (bytes 7 0) [] ≡ 1)
       × (hint_run 8 [] (bytes 23 0) ≡ 1)
-  -- one record or one entry, and 23 bytes of slots; one hint, and 15
+  -- one record or one entry, and 23 bytes of slots
   pub number-2 : (reader [] (mach_rel 0 0x3d000000) (zeros 23) ≡ 2)
       × (fix_up (bytes 8 0) 0 (entry ARM64_RELOC_UNSIGNED 0 0) (resolved 0 0) (bytes 23 0) ≡ 2)
-      × (run_number (listed_of (bytes 8 0) entry_one pair (bytes 15 0)) ≡ 2)
+  -- one hint, and 15 bytes of slots
+  pub number-2-listed : run_number (listed_of (bytes 8 0) entry_one pair (bytes 15 0)) ≡ 2
   -- an 8-byte UNSIGNED at offset 4 of 8 bytes, as a record and as an entry; a part of 8 bytes in an image of 7; a word at offset 5 of a part of 8
   pub number-3 : (reader (zeros 8) (mach_rel 4 0x0e000000) (zeros 24) ≡ 3)
       × (fix_up (bytes 8 0) 0 (entry ARM64_RELOC_UNSIGNED 4 0) (resolved 0 0) (bytes 24 0) ≡ 3)
