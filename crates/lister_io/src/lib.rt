@@ -1,7 +1,7 @@
 // The word lister (RULES 10) at work: what a reader gives is listed on a writer.
 #![tactic(auto)]
 
-ghost use Rattle.std.specs.Prelude.{◌<◌, ◌≤◌, length, take, IfOk};
+ghost use Rattle.std.specs.Prelude.{◌≡◌, ◌<◌, ◌≤◌, length, take, IfOk, OnErr};
 ghost use Rattle.std.specs.Io.KnownBytes.{Appends, Consumes, IsAtEnd};
 ghost use Rattle.lister_text.specs.Text.{text_of};
 ghost use Rattle.util.specs.Puts.{Puts};
@@ -28,6 +28,7 @@ pub fn run<R: Read, W: Write>(
     ensures text { IfOk result (λ r. Puts out.old 0 (text_of (take r.input input.new)) r.text out.new) }
     ensures taken { IfOk result (λ r. Consumes (R.remaining from.old) (R.remaining from.new) (take r.input input.new)) }
     ensures end { IfOk result (λ r. r.input < length input.new → IsAtEnd (R.remaining from.new)) }
+    ensures lent { OnErr result ((length input.new ≡ length input.old) × (length out.new ≡ length out.old)) }
     ensures written { IfOk result (λ r. Appends (W.contents to.old) (W.contents to.new) (take r.text out.new)) }
 {
     let got = text_io::read_full(from, input)?;

@@ -9,6 +9,7 @@ use macho::hint::word_count;
 use macho::mach_rel::MachRel;
 use std::io::Write;
 use std::{fs, io};
+use text_io::read_full;
 
 // A row, with its newline.
 const ROW: usize = 78;
@@ -200,6 +201,8 @@ fn print_replay<W: Write>(to: &mut W, s: &[u8]) -> io::Result<()> {
 }
 
 fn main(rt: HostRuntime) -> io::Result<()> {
-    let rows = fs::read(&rt, "records.txt")?;
-    print_replay(&mut rt.stdout(), &rows)
+    let mut file = fs::File::open(&rt, "records.txt")?;
+    let mut buf = [0u8; 65536];
+    let n = read_full(&mut file, &mut buf)?;
+    print_replay(&mut rt.stdout(), &buf[..n])
 }

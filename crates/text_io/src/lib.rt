@@ -1,7 +1,7 @@
 // Bytes from a reader, and a text to a writer. Where a reader or a writer says which bytes it has, the contracts say what becomes of them.
 #![tactic(auto)]
 
-ghost use Rattle.std.specs.Prelude.{◌≡◌, ◌<◌, ◌≤◌, length, take, IfOk, OnOk};
+ghost use Rattle.std.specs.Prelude.{◌≡◌, ◌<◌, ◌≤◌, length, take, IfOk, OnErr, OnOk};
 ghost use Rattle.std.specs.Io.KnownBytes.{Appends, Consumes, IsAtEnd};
 
 use std::io;
@@ -12,6 +12,7 @@ pub fn read_full<R: Read>(from: &mut R, input: &mut [u8]) -> io::Result<usize>
     ensures bound { IfOk result (λ n. n ≤ length input.new) }
     ensures bytes { IfOk result (λ n. Consumes (R.remaining from.old) (R.remaining from.new) (take n input.new)) }
     ensures end { IfOk result (λ n. n < length input.new → IsAtEnd (R.remaining from.new)) }
+    ensures lent { OnErr result (length input.new ≡ length input.old) }
 {
     let mut done = 0;
     while done < input.len() {
