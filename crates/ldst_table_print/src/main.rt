@@ -9,7 +9,8 @@ ghost use Rattle.ldst_table_text.specs.Text.{table_text};
 use std::io;
 use std::io::Write;
 
-// Puts the table into `out`, and writes it. What reaches standard output is outside every contract, but not what a writer says it has.
+// Puts the table into `out`, and writes it. What reaches standard output is outside every contract, but not what a writer says it has. After
+// an error the table stands in `out` all the same.
 fn print<W: Write>(to: &mut W, out: &mut [u8; 49152]) -> io::Result<usize>
     ensures text { IfOk result (λ n. Puts out.old 0 table_text n out.new) }
     ensures put { OnErr result (Puts out.old 0 table_text (length table_text) out.new) }

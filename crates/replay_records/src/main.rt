@@ -177,8 +177,9 @@ fn replay(s: &[u8]) -> Agreed {
     }
 }
 
-fn print_count<W: Write>(to: &mut W, n: u64, what: &str) -> io::Result<()> {
-    writeln!(to, "{n} {what}")
+fn print_count<W: Write>(to: &mut W, n: u64, what: &[u8]) -> io::Result<()> {
+    write!(to, "{n}")?;
+    to.write_all(what)
 }
 
 fn print_row<W: Write>(to: &mut W, s: &[u8]) -> io::Result<()> {
@@ -195,9 +196,9 @@ fn print_replay<W: Write>(to: &mut W, s: &[u8]) -> io::Result<()> {
         writeln!(to, "the first row that disagrees:")?;
         return print_row(to, &s[at..]);
     }
-    print_count(to, seen.records, "records agree")?;
-    print_count(to, seen.names, "numbers of types and kinds agree")?;
-    print_count(to, seen.hints, "word counts agree")
+    print_count(to, seen.records, b" records agree\n")?;
+    print_count(to, seen.names, b" numbers of types and kinds agree\n")?;
+    print_count(to, seen.hints, b" word counts agree\n")
 }
 
 fn main(rt: HostRuntime) -> io::Result<()> {
