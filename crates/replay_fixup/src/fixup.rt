@@ -5,7 +5,6 @@ use arm64_fixup::walk::apply_reloc_alloc;
 use macho::refusal::Answer;
 use replay_list::head::Head;
 use replay_list::lent::{are_filled, put_pattern};
-use std::alloc::{AllocError, Global};
 use util::read64;
 
 // Whether an answer has a number, 0 for none, and says how many reports were filled.
@@ -98,16 +97,18 @@ fn holds_in(
 }
 
 // Whether the fix-up answers as a record says.
-pub(crate) fn holds(alloc: Global, head: Head, body: &[u8]) -> Result<bool, AllocError> {
-    let mut section = vec![in alloc; 0u8; head.v1 as usize]?;
-    let mut slots = vec![in alloc; 0u8; head.v4 as usize]?;
-    Ok(holds_in(
-        &mut section,
-        &mut slots,
+pub(crate) fn holds(head: Head, body: &[u8]) -> bool {
+    let mut section = [0u8; 65536];
+    let mut slots = [0u8; 65536];
+    let len = head.v1 as usize;
+    let lent = head.v4 as usize;
+    holds_in(
+        &mut section[0..len],
+        &mut slots[0..lent],
         body,
         head.v2,
         head.v3,
         head.number,
         head.v5 as usize,
-    ))
+    )
 }

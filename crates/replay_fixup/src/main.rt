@@ -11,7 +11,6 @@ ghost use Rattle.replay_list.specs.Seen.{Bounded};
 use replay_list::head::Head;
 use replay_list::list::{BODY, next, open};
 use replay_list::seen::Seen;
-use std::alloc::{AllocError, Global};
 use std::io;
 use std::io::{Read, Write};
 
@@ -23,40 +22,33 @@ const STUB: u8 = 3;
 const THUNK: u8 = 4;
 
 // Whether a record is an answer that the port gives, too.
-fn holds(alloc: Global, head: Head, body: &[u8]) -> Result<bool, AllocError> {
+fn holds(head: Head, body: &[u8]) -> bool {
     let what = head.what;
     match what {
-        FIX => fixup::holds(alloc, head, body),
-        STUB => stub::holds(alloc, head, body, true),
-        THUNK => stub::holds(alloc, head, body, false),
-        _ => Ok(false),
+        FIX => fixup::holds(head, body),
+        STUB => stub::holds(head, body, true),
+        THUNK => stub::holds(head, body, false),
+        _ => false,
     }
 }
 
 // Replays the next record.
-fn replay<R: Read, W: Write>(
-    alloc: Global,
-    from: &mut R,
-    to: &mut W,
-    body: &mut [u8],
-    seen: Seen,
-) -> io::Result<Seen>
+fn replay<R: Read, W: Write>(from: &mut R, to: &mut W, seen: Seen) -> io::Result<Seen>
     requires { Bounded seen × (0 < seen.left) }
     ensures { IfOk result (λ s. Bounded s × (s.left < seen.left)) }
 {
-    let head = next(from, to, body)?;
+    let mut body = [0u8; BODY];
+    let head = next(from, to, &mut body)?;
     let len = head.len as usize;
-    let is_held = holds(alloc, head, &body[0..len])?;
-    seen.after(to, head.what, is_held)
+    seen.after(to, head.what, holds(head, &body[0..len]))
 }
 
 fn main(rt: HostRuntime) -> io::Result<()> {
     let mut from = open(&rt)?;
     let mut to = rt.stdout();
-    let mut body = vec![in rt.alloc(); 0u8; BODY]?;
     let mut seen = Seen::none();
     while seen.left > 0 {
-        seen = replay(rt.alloc(), &mut from, &mut to, &mut body, seen)?;
+        seen = replay(&mut from, &mut to, seen)?;
     }
     seen.print(&mut to)
 }

@@ -3,7 +3,6 @@ use arm64_fixup::stub::{StubAnswer, write_stub, write_thunk};
 use macho::refusal::Check;
 use replay_list::head::Head;
 use replay_list::lent::put_pattern;
-use std::alloc::{AllocError, Global};
 use util::read64;
 
 // Whether an answer has a number, 0 for none, and says whether the stub's ADRP reaches.
@@ -52,12 +51,8 @@ fn holds_in(buf: &mut [u8], body: &[u8], is_stub: bool, number: u8, reaches: u16
 }
 
 // Whether a stub entry, or a thunk entry, is answered as a record says.
-pub(crate) fn holds(
-    alloc: Global,
-    head: Head,
-    body: &[u8],
-    is_stub: bool,
-) -> Result<bool, AllocError> {
-    let mut buf = vec![in alloc; 0u8; head.v1 as usize]?;
-    Ok(holds_in(&mut buf, body, is_stub, head.number, head.v2))
+pub(crate) fn holds(head: Head, body: &[u8], is_stub: bool) -> bool {
+    let mut buf = [0u8; 65536];
+    let len = head.v1 as usize;
+    holds_in(&mut buf[0..len], body, is_stub, head.number, head.v2)
 }

@@ -4,7 +4,6 @@ ghost use Rattle.std.specs.Prelude.{◌+◌, ◌≤◌, ◌<◌, length};
 use arm64_hint_run::run::{RunAnswer, run};
 use arm64_hint_work::tally::Tally;
 use replay_list::head::Head;
-use std::alloc::{AllocError, Global};
 use util::read32;
 
 // The tally at the front of a body.
@@ -61,7 +60,8 @@ fn holds_in(image: &mut [u8], body: &[u8], hints: u16, entries: u16, number: u8)
 }
 
 // Whether the run answers as a record says.
-pub(crate) fn holds(alloc: Global, head: Head, body: &[u8]) -> Result<bool, AllocError> {
-    let mut image = vec![in alloc; 0u8; head.v1 as usize]?;
-    Ok(holds_in(&mut image, body, head.v2, head.v3, head.number))
+pub(crate) fn holds(head: Head, body: &[u8]) -> bool {
+    let mut image = [0u8; 65536];
+    let len = head.v1 as usize;
+    holds_in(&mut image[0..len], body, head.v2, head.v3, head.number)
 }

@@ -1,5 +1,5 @@
 // Reading a list.
-ghost use Rattle.std.specs.Prelude.{◌≡◌, ◌<◌, ◌≤◌, length, take, IfOk};
+ghost use Rattle.std.specs.Prelude.{◌≡◌, ◌<◌, ◌≤◌, length, take, IfOk, OnErr};
 ghost use Rattle.std.specs.Io.KnownBytes.{Appends, Consumes};
 ghost use Rattle.replay_list.specs.Head.{title_text, IsRead};
 
@@ -28,6 +28,7 @@ fn read_body<R: Read, W: Write>(
     body: &mut [u8],
 ) -> io::Result<Head>
     ensures fits { IfOk result (λ h. h.len ≤ length body.new) }
+    ensures lent { OnErr result (length body.new ≡ length body.old) }
     ensures same { IfOk result (λ h. h.what < END → h ≡ head) }
     ensures read { IfOk result (λ h. h.what < END → Consumes (R.remaining from.old) (R.remaining from.new) (take h.len body.new)) }
     ensures title { IfOk result (λ h. Appends (W.contents to.old) (W.contents to.new) (title_text h body.new)) }
@@ -51,6 +52,7 @@ fn read_body<R: Read, W: Write>(
 // The next record; its body is put at the front of `body`, and a title is written out. After an error `body` has any bytes.
 pub fn next<R: Read, W: Write>(from: &mut R, to: &mut W, body: &mut [u8]) -> io::Result<Head>
     ensures fits { IfOk result (λ h. h.len ≤ length body.new) }
+    ensures lent { OnErr result (length body.new ≡ length body.old) }
     ensures read { IfOk result (λ h. h.what < END → IsRead (R.remaining from.old) (R.remaining from.new) h body.new) }
     ensures title { IfOk result (λ h. Appends (W.contents to.old) (W.contents to.new) (title_text h body.new)) }
 {

@@ -3,21 +3,21 @@
 // this must write.
 #![tactic(auto)]
 
-ghost use Rattle.std.specs.Prelude.{◌≡◌, ◌≤◌, length, IfOk, vec_len};
+ghost use Rattle.std.specs.Prelude.{◌≡◌, ◌≤◌, length};
 
 use hint_payload::read::read_hints;
 use hint_payload::write::write_hints;
 use macho::refusal::Answer;
-use std::alloc::{AllocError, Global};
 use std::io::Write;
 use std::{fs, io};
+use text_io::read_full;
 use uleb::uleb_size;
 
 // Room for the values of a payload.
-fn room(alloc: Global) -> Result<Vec<u64>, AllocError>
-    ensures { IfOk result (λ v. 4096 ≡ vec_len v) }
+fn room() -> [u64; 4096]
+    ensures { 4096 ≡ length result }
 {
-    vec![in alloc; 0; 4096]
+    [0; 4096]
 }
 
 // How many elements an answer says are filled, at most so many; 0 for a refusal.
@@ -61,13 +61,8 @@ fn print_row<W: Write>(to: &mut W, row: &[u64]) -> io::Result<()> {
 }
 
 // Writes how many bytes of the payload a row is written back to, or that it is not.
-fn print_written<W: Write>(
-    alloc: Global,
-    to: &mut W,
-    row: &[u64],
-    payload: &[u8],
-) -> io::Result<()> {
-    let mut out = vec![in alloc; 0u8; 65536]?;
+fn print_written<W: Write>(to: &mut W, row: &[u64], payload: &[u8]) -> io::Result<()> {
+    let mut out = [0u8; 65536];
     let size = size_of(row, payload.len());
     if !is_written(row, &payload[0..size], &mut out) {
         return writeln!(to, "not written back");
@@ -75,19 +70,16 @@ fn print_written<W: Write>(
     writeln!(to, "{size} of {} bytes are written back", payload.len())
 }
 
-fn replay<W: Write>(
-    alloc: Global,
-    to: &mut W,
-    payload: &[u8],
-    slots: &mut [u64],
-) -> io::Result<()> {
+fn replay<W: Write>(to: &mut W, payload: &[u8], slots: &mut [u64]) -> io::Result<()> {
     let n = count_of(read_hints(payload, slots), slots.len());
     print_row(to, &slots[0..n])?;
-    print_written(alloc, to, &slots[0..n], payload)
+    print_written(to, &slots[0..n], payload)
 }
 
 fn main(rt: HostRuntime) -> io::Result<()> {
-    let payload = fs::read(&rt, "payload")?;
-    let mut slots = room(rt.alloc())?;
-    replay(rt.alloc(), &mut rt.stdout(), &payload, &mut slots)
+    let mut file = fs::File::open(&rt, "payload")?;
+    let mut buf = [0u8; 4096];
+    let n = read_full(&mut file, &mut buf)?;
+    let mut slots = room();
+    replay(&mut rt.stdout(), &buf[..n], &mut slots)
 }

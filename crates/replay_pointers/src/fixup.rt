@@ -1,12 +1,11 @@
 // Rows by apply_reloc_alloc.
-ghost use Rattle.std.specs.Prelude.{◌+◌, ◌*◌, ◌/◌, ◌≤◌, length, IfOk};
+ghost use Rattle.std.specs.Prelude.{◌+◌, ◌*◌, ◌/◌, ◌≤◌, length};
 
 use crate::row;
 use crate::row::ROW;
 use arm64_fixup::walk::apply_reloc_alloc;
 use macho::refusal::Answer;
 use macho::resolved::Resolved;
-use std::alloc::{AllocError, Global};
 use util::{read32, wrapping_sub, write64};
 
 // Three addresses, all different, none a multiple of 2^32.
@@ -89,18 +88,15 @@ fn fixes(
 }
 
 // Fixes the section up by its entries. How many rows from the front agree with it; none where the fix-up refuses or reports.
-pub(crate) fn agreed(
-    alloc: Global,
-    s: &[u8],
-    contents: &mut [u8],
-    entries: &[u8],
-) -> Result<usize, AllocError>
-    ensures { IfOk result (λ n. n ≤ length s.now / 120) }
+pub(crate) fn agreed(s: &[u8], contents: &mut [u8], entries: &[u8]) -> usize
+    requires { length s.now ≤ 65536 }
+    ensures { result ≤ length s.now / 120 }
 {
-    let mut targets = vec![in alloc; 0u8; Resolved::SIZE * (s.len() / ROW)]?;
-    let mut slots = vec![in alloc; 0u8; 65536]?;
-    if !fixes(s, contents, entries, &mut targets, &mut slots) {
-        return Ok(0);
+    let mut targets = [0u8; 65536];
+    let mut slots = [0u8; 65536];
+    let len = Resolved::SIZE * (s.len() / ROW);
+    if !fixes(s, contents, entries, &mut targets[0..len], &mut slots) {
+        return 0;
     }
-    Ok(agreeing(s, contents))
+    agreeing(s, contents)
 }

@@ -6,39 +6,36 @@ mod fixup;
 mod reader;
 mod row;
 
-ghost use Rattle.std.specs.Prelude.{◌*◌, ◌/◌, ◌≤◌, length, IfOk};
+ghost use Rattle.std.specs.Prelude.{◌*◌, ◌/◌, ◌≤◌, length};
 
 use macho::reloc::Reloc;
 use row::ROW;
-use std::alloc::{AllocError, Global};
 use std::io::Write;
 use std::{fs, io};
+use text_io::read_full;
 
 // How many rows from the front agree, in reading and then in fix-up, with room for the section and its entries.
-fn replay_in(
-    alloc: Global,
-    s: &[u8],
-    contents: &mut [u8],
-    entries: &mut [u8],
-) -> Result<usize, AllocError>
-    requires { 24 * (length s.now / 120) ≤ length entries.old }
-    ensures { IfOk result (λ n. n ≤ length s.now / 120) }
+fn replay_in(s: &[u8], contents: &mut [u8], entries: &mut [u8]) -> usize
+    requires { (length s.now ≤ 65536) × (24 * (length s.now / 120) ≤ length entries.old) }
+    ensures { result ≤ length s.now / 120 }
 {
-    let agreed = reader::agreed(alloc, s, contents, entries)?;
+    let agreed = reader::agreed(s, contents, entries);
     if agreed < s.len() / ROW {
-        return Ok(agreed);
+        return agreed;
     }
-    fixup::agreed(alloc, s, contents, entries)
+    fixup::agreed(s, contents, entries)
 }
 
 // How many rows from the front agree.
-fn replay(alloc: Global, s: &[u8]) -> Result<usize, AllocError>
-    ensures { IfOk result (λ n. n ≤ length s.now / 120) }
+fn replay(s: &[u8]) -> usize
+    requires { length s.now ≤ 65536 }
+    ensures { result ≤ length s.now / 120 }
 {
-    let rows = s.len() / ROW;
-    let mut contents = vec![in alloc; 0u8; 8 * rows]?;
-    let mut entries = vec![in alloc; 0u8; Reloc::SIZE * rows]?;
-    replay_in(alloc, s, &mut contents, &mut entries)
+    let mut contents = [0u8; 65536];
+    let mut entries = [0u8; 65536];
+    let section = 8 * (s.len() / ROW);
+    let list = Reloc::SIZE * (s.len() / ROW);
+    replay_in(s, &mut contents[0..section], &mut entries[0..list])
 }
 
 fn print_row<W: Write>(to: &mut W, s: &[u8]) -> io::Result<()> {
@@ -48,8 +45,10 @@ fn print_row<W: Write>(to: &mut W, s: &[u8]) -> io::Result<()> {
     to.write_all(&s[0..ROW])
 }
 
-fn print_replay<W: Write>(alloc: Global, to: &mut W, s: &[u8]) -> io::Result<()> {
-    let agreed = replay(alloc, s)?;
+fn print_replay<W: Write>(to: &mut W, s: &[u8]) -> io::Result<()>
+    requires { length s.now ≤ 65536 }
+{
+    let agreed = replay(s);
     let at = ROW * agreed;
     if at < s.len() {
         writeln!(to, "the first row that disagrees:")?;
@@ -59,6 +58,8 @@ fn print_replay<W: Write>(alloc: Global, to: &mut W, s: &[u8]) -> io::Result<()>
 }
 
 fn main(rt: HostRuntime) -> io::Result<()> {
-    let rows = fs::read(&rt, "pointers.txt")?;
-    print_replay(rt.alloc(), &mut rt.stdout(), &rows)
+    let mut file = fs::File::open(&rt, "pointers.txt")?;
+    let mut buf = [0u8; 65536];
+    let n = read_full(&mut file, &mut buf)?;
+    print_replay(&mut rt.stdout(), &buf[..n])
 }

@@ -1,5 +1,5 @@
 // Rows by read_relocs.
-ghost use Rattle.std.specs.Prelude.{◌+◌, ◌*◌, ◌/◌, ◌≤◌, length, IfOk};
+ghost use Rattle.std.specs.Prelude.{◌+◌, ◌*◌, ◌/◌, ◌≤◌, length};
 
 use crate::row;
 use crate::row::ROW;
@@ -8,7 +8,6 @@ use macho::consts::ARM64_RELOC_AUTHENTICATED_POINTER;
 use macho::mach_rel::MachRel;
 use macho::refusal::Answer;
 use macho::reloc::Reloc;
-use std::alloc::{AllocError, Global};
 
 // Puts the words of all rows into the section, and their records into its table.
 fn put_object(s: &[u8], contents: &mut [u8], records: &mut [u8])
@@ -72,18 +71,14 @@ fn reads(s: &[u8], contents: &mut [u8], records: &mut [u8], entries: &mut [u8]) 
 }
 
 // Makes the section and its entries of the rows. How many rows from the front agree with the entries; none where the reader refuses.
-pub(crate) fn agreed(
-    alloc: Global,
-    s: &[u8],
-    contents: &mut [u8],
-    entries: &mut [u8],
-) -> Result<usize, AllocError>
-    requires { 24 * (length s.now / 120) ≤ length entries.old }
-    ensures { IfOk result (λ n. n ≤ length s.now / 120) }
+pub(crate) fn agreed(s: &[u8], contents: &mut [u8], entries: &mut [u8]) -> usize
+    requires { (length s.now ≤ 65536) × (24 * (length s.now / 120) ≤ length entries.old) }
+    ensures { result ≤ length s.now / 120 }
 {
-    let mut records = vec![in alloc; 0u8; MachRel::SIZE * (s.len() / ROW)]?;
-    if !reads(s, contents, &mut records, entries) {
-        return Ok(0);
+    let mut records = [0u8; 65536];
+    let len = MachRel::SIZE * (s.len() / ROW);
+    if !reads(s, contents, &mut records[0..len], entries) {
+        return 0;
     }
-    Ok(agreeing(s, entries))
+    agreeing(s, entries)
 }

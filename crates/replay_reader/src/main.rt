@@ -10,7 +10,6 @@ ghost use Rattle.replay_list.specs.Seen.{Bounded};
 use replay_list::head::Head;
 use replay_list::list::{BODY, next, open};
 use replay_list::seen::Seen;
-use std::alloc::{AllocError, Global};
 use std::io;
 use std::io::{Read, Write};
 
@@ -20,39 +19,32 @@ const READ: u8 = 1;
 const READ_X86_64: u8 = 9;
 
 // Whether a record is an answer that the port gives, too.
-fn holds(alloc: Global, head: Head, body: &[u8]) -> Result<bool, AllocError> {
+fn holds(head: Head, body: &[u8]) -> bool {
     let what = head.what;
     match what {
-        READ => reader::holds(alloc, head, body, 0),
-        READ_X86_64 => reader::holds(alloc, head, body, 8),
-        _ => Ok(false),
+        READ => reader::holds(head, body, 0),
+        READ_X86_64 => reader::holds(head, body, 8),
+        _ => false,
     }
 }
 
 // Replays the next record.
-fn replay<R: Read, W: Write>(
-    alloc: Global,
-    from: &mut R,
-    to: &mut W,
-    body: &mut [u8],
-    seen: Seen,
-) -> io::Result<Seen>
+fn replay<R: Read, W: Write>(from: &mut R, to: &mut W, seen: Seen) -> io::Result<Seen>
     requires { Bounded seen × (0 < seen.left) }
     ensures { IfOk result (λ s. Bounded s × (s.left < seen.left)) }
 {
-    let head = next(from, to, body)?;
+    let mut body = [0u8; BODY];
+    let head = next(from, to, &mut body)?;
     let len = head.len as usize;
-    let is_held = holds(alloc, head, &body[0..len])?;
-    seen.after(to, head.what, is_held)
+    seen.after(to, head.what, holds(head, &body[0..len]))
 }
 
 fn main(rt: HostRuntime) -> io::Result<()> {
     let mut from = open(&rt)?;
     let mut to = rt.stdout();
-    let mut body = vec![in rt.alloc(); 0u8; BODY]?;
     let mut seen = Seen::none();
     while seen.left > 0 {
-        seen = replay(rt.alloc(), &mut from, &mut to, &mut body, seen)?;
+        seen = replay(&mut from, &mut to, seen)?;
     }
     seen.print(&mut to)
 }

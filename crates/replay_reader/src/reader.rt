@@ -5,7 +5,6 @@ use arm64_reader::read::read_relocs;
 use macho::refusal::Answer;
 use replay_list::head::Head;
 use replay_list::lent::{are_filled, put_pattern};
-use std::alloc::{AllocError, Global};
 use util::read64;
 use x86_64_reader::read::read_relocs as read_relocs_of_x86_64;
 
@@ -81,14 +80,15 @@ fn holds_in(list: &mut [u64], slots: &mut [u8], head: Head, body: &[u8], own: us
 }
 
 // Whether the reader answers as a record says that has so many bytes for the section's own address: 0 for arm64, 8 for x86_64.
-pub(crate) fn holds(alloc: Global, head: Head, body: &[u8], own: usize) -> Result<bool, AllocError>
+pub(crate) fn holds(head: Head, body: &[u8], own: usize) -> bool
     requires { own ≤ 8 }
 {
     let mut list = [0u64; 8];
-    let mut slots = vec![in alloc; 0u8; head.v4 as usize]?;
+    let mut slots = [0u8; 65536];
     let count = head.v3 as usize;
+    let lent = head.v4 as usize;
     if count > 8 {
-        return Ok(false);
+        return false;
     }
-    Ok(holds_in(&mut list[0..count], &mut slots, head, body, own))
+    holds_in(&mut list[0..count], &mut slots[0..lent], head, body, own)
 }

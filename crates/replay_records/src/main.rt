@@ -9,6 +9,7 @@ use macho::hint::word_count;
 use macho::mach_rel::MachRel;
 use std::io::Write;
 use std::{fs, io};
+use text_io::read_full;
 
 // A row, with its newline.
 const ROW: usize = 78;
@@ -176,8 +177,9 @@ fn replay(s: &[u8]) -> Agreed {
     }
 }
 
-fn print_count<W: Write>(to: &mut W, n: u64, what: &str) -> io::Result<()> {
-    writeln!(to, "{n} {what}")
+fn print_count<W: Write>(to: &mut W, n: u64, what: &[u8]) -> io::Result<()> {
+    write!(to, "{n}")?;
+    to.write_all(what)
 }
 
 fn print_row<W: Write>(to: &mut W, s: &[u8]) -> io::Result<()> {
@@ -194,12 +196,14 @@ fn print_replay<W: Write>(to: &mut W, s: &[u8]) -> io::Result<()> {
         writeln!(to, "the first row that disagrees:")?;
         return print_row(to, &s[at..]);
     }
-    print_count(to, seen.records, "records agree")?;
-    print_count(to, seen.names, "numbers of types and kinds agree")?;
-    print_count(to, seen.hints, "word counts agree")
+    print_count(to, seen.records, b" records agree\n")?;
+    print_count(to, seen.names, b" numbers of types and kinds agree\n")?;
+    print_count(to, seen.hints, b" word counts agree\n")
 }
 
 fn main(rt: HostRuntime) -> io::Result<()> {
-    let rows = fs::read(&rt, "records.txt")?;
-    print_replay(&mut rt.stdout(), &rows)
+    let mut file = fs::File::open(&rt, "records.txt")?;
+    let mut buf = [0u8; 65536];
+    let n = read_full(&mut file, &mut buf)?;
+    print_replay(&mut rt.stdout(), &buf[..n])
 }

@@ -1,17 +1,20 @@
 // Bytes from a reader, and a text to a writer. Where a reader or a writer says which bytes it has, the contracts say what becomes of them.
 #![tactic(auto)]
 
-ghost use Rattle.std.specs.Prelude.{◌≡◌, ◌<◌, ◌≤◌, length, take, IfOk, OnOk};
+ghost use Rattle.std.specs.Prelude.{◌≡◌, ℕ, ◌<◌, ◌≤◌, length, take, IfOk, OnErr, OnOk};
 ghost use Rattle.std.specs.Io.KnownBytes.{Appends, Consumes, IsAtEnd};
 
 use std::io;
 use std::io::{Read, Write};
 
-// Reads until `input` is full or nothing is left, and says how many bytes were put at its front.
+// Reads until `input` is full or nothing is left, and says how many bytes were put at its front. After an error those that were read before
+// it stand there.
 pub fn read_full<R: Read>(from: &mut R, input: &mut [u8]) -> io::Result<usize>
     ensures bound { IfOk result (λ n. n ≤ length input.new) }
     ensures bytes { IfOk result (λ n. Consumes (R.remaining from.old) (R.remaining from.new) (take n input.new)) }
     ensures end { IfOk result (λ n. n < length input.new → IsAtEnd (R.remaining from.new)) }
+    ensures lent { OnErr result (length input.new ≡ length input.old) }
+    ensures none_lost { OnErr result ((n : ℕ) × Consumes (R.remaining from.old) (R.remaining from.new) (take n input.new)) }
 {
     let mut done = 0;
     while done < input.len() {
