@@ -20,10 +20,11 @@ after s what holds =
 abbrev pub Bounded : Seen → Type 0
 Bounded s = (s.held + s.left ≤ 1000000) × (s.row ≤ s.held)
 
--- what is written of a row's count, and of a list at its end
+-- what is written of a row's count
 abbrev pub count_text : ℕ → List ℕ
 count_text n = codes ": " ++ (decimal n ++ (10 ∷ []))
 
+-- what is written of a list at its end
 abbrev pub last_text : Seen → List ℕ
 last_text s = decimal s.held ++ (codes " answers, " ++ (decimal (choose s.is_whole 0 1) ++ (codes " differences" ++ (10 ∷ []))))
 
