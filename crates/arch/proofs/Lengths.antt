@@ -1,4 +1,5 @@
 -- Numbers 1 and 2 by the lengths that a reader is lent, whatever its table reads to: each from the choices in `lengths_of`.
+use Rattle.std.specs.Prelude.{Result, Ok, Err, ⊤}
 use mathlib.Core.Path.{◌≡◌, refl}
 use mathlib.Core.Bool.{Bool, true, false}
 use mathlib.Core.List.{List}
@@ -10,8 +11,6 @@ use Rattle.util.specs.Choice.{choose}
 use Rattle.macho.specs.declared.reloc.Reloc.{Reloc}
 use Rattle.macho.specs.declared.refusal.Refusal.{Refusal}
 use Rattle.macho.specs.declared.refusal.Refusal.TheVariants.{Lengths, Slots}
-use Rattle.macho.specs.declared.refusal.Check.{Check}
-use Rattle.macho.specs.declared.refusal.Check.TheVariants as C
 use Rattle.arch.specs.Table.{lengths_of}
 use Rattle.arch.specs.Walk.{Reading, refused, entries, checked}
 
@@ -70,13 +69,6 @@ module _ (records sections slots : ℕ) (a : Reading) where
   pub filled : {es : List Reloc} → Call ≡ entries es → a ≡ entries es
   filled e = go (lengths_of records sections slots) e
     where
-      go : (c : Check) {es : List Reloc} → checked c a ≡ entries es → a ≡ entries es
-      go C.Fit e = e
-      go (C.Refused x) e = let z : ◌≡◌ {A = ℕ} 0 1 = cc in absurd (omega arith)
-
-  -- by what the lengths' check says
-  pub lengths-refuse : {x : Refusal} → lengths_of records sections slots ≡ C.Refused x → Call ≡ refused x
-  lengths-refuse e = rw e
-
-  pub lengths-fit : lengths_of records sections slots ≡ C.Fit → Call ≡ a
-  lengths-fit e = rw e
+      go : (c : Result ⊤ Refusal) {es : List Reloc} → checked c a ≡ entries es → a ≡ entries es
+      go (Ok tt) e = e
+      go (Err x) e = let z : ◌≡◌ {A = ℕ} 0 1 = cc in absurd (omega arith)

@@ -1,13 +1,10 @@
 -- The entry of a record (RULES 4.11, 15.8, 2.15; input_sections.rs, `Reloc`).
-use Rattle.std.specs.Prelude.{ℕ, ◌^◌, Bool, List}
+use Rattle.std.specs.Prelude.{ℕ, ◌^◌, Bool, List, Result, Ok, Err}
 use Rattle.util.specs.Choice.{flag}
 use Rattle.macho.specs.MachRel.{pcrel_of, p2size_of, type_of}
 use Rattle.macho.specs.declared.mach_rel.MachRel.{MachRel}
 use Rattle.macho.specs.declared.reloc.Reloc.{Reloc}
-use Rattle.arch.specs.declared.target.Target.{Target}
-use Rattle.arch.specs.declared.target.Target.TheVariants as T
-use Rattle.arch.specs.declared.step.Step.{Step}
-use Rattle.arch.specs.declared.step.Step.TheVariants.{Read, Refused}
+use Rattle.macho.specs.declared.refusal.Refusal.{Refusal}
 use Rattle.arch.specs.Target.{target_of}
 
 -- the entry of a record, at an offset, with a target and an addend
@@ -25,10 +22,10 @@ entry_of r subtracted offset target addend =
     }
 
 -- the step that reads the entry with a target, and goes on at record `next`
-abbrev pub enter : MachRel → Bool → ℕ → ℕ → Target → Step
-enter r subtracted offset next (T.Named target addend) = Read (entry_of r subtracted offset target addend) next
-enter r subtracted offset next (T.Refused x) = Refused x
+abbrev pub enter : MachRel → Bool → ℕ → ℕ → Result (ℕ × ℕ) Refusal → Result (Reloc × ℕ) Refusal
+enter r subtracted offset next (Ok (target, addend)) = Ok (entry_of r subtracted offset target addend, next)
+enter r subtracted offset next (Err x) = Err x
 
 -- the same with the record's own target
-unfoldable pub targeted : List ℕ → MachRel → Bool → ℕ → ℕ → ℕ → Step
+unfoldable pub targeted : List ℕ → MachRel → Bool → ℕ → ℕ → ℕ → Result (Reloc × ℕ) Refusal
 targeted sections r subtracted offset addend next = enter r subtracted offset next (target_of sections r addend)

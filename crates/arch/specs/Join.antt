@@ -1,9 +1,8 @@
 -- What two tables, one after the other, read to (RULES 4.15, 15.10), and sections with their tables (RULES 4.23).
-use Rattle.std.specs.Prelude.{ℕ, ◌+◌, ◌%◌, ◌^◌, ◌++◌, map}
+use Rattle.std.specs.Prelude.{ℕ, ◌+◌, ◌%◌, ◌^◌, ◌++◌, map, Result, Ok, Err}
 use Rattle.macho.specs.declared.mach_rel.MachRel.{MachRel}
 use Rattle.macho.specs.declared.reloc.Reloc.{Reloc}
-use Rattle.arch.specs.declared.step.Step.{Step}
-use Rattle.arch.specs.declared.step.Step.TheVariants as S
+use Rattle.macho.specs.declared.refusal.Refusal.{Refusal}
 use Rattle.arch.specs.Walk.{Reading, refused, entries}
 
 -- the entries of the first, then those of the second, or the first refusal
@@ -18,9 +17,9 @@ mapped f (refused x) = refused x
 mapped f (entries es) = entries (map f es)
 
 -- a step of a table that stands d records further on, with its entry changed
-abbrev pub moved : ℕ → (Reloc → Reloc) → Step → Step
-moved d f (S.Refused x) = S.Refused x
-moved d f (S.Read e next) = S.Read (f e) (d + next)
+abbrev pub moved : ℕ → (Reloc → Reloc) → Result (Reloc × ℕ) Refusal → Result (Reloc × ℕ) Refusal
+moved d f (Err x) = Err x
+moved d f (Ok (e, next)) = Ok (f e, d + next)
 
 -- a record of a section that stands d bytes further on: its offset has 32 bits
 abbrev pub record_later : ℕ → MachRel → MachRel

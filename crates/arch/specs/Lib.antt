@@ -5,3 +5,4 @@ pub mod Target
 pub mod Entry
 pub mod Walk
 pub mod Join
+pub mod Reader

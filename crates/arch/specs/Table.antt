@@ -1,13 +1,12 @@
 -- A table of relocation records (RULES 2.10, 4.12) and the numbers of its lengths (RULES 3.9, 3.10).
-use Rattle.std.specs.Prelude.{ℕ, zero, suc, ◌+◌, ◌-◌, ◌*◌, ◌/◌, ◌%◌, Bool, List, [], ◌∷◌, length, get_or, eqb, ltb}
+use Rattle.std.specs.Prelude.{ℕ, zero, suc, ◌+◌, ◌-◌, ◌*◌, ◌/◌, ◌%◌, Bool, List, [], ◌∷◌, length, get_or, eqb, ltb, Result, Ok, Err, ⊤}
 use Rattle.util.specs.Choice.{choose}
 use Rattle.macho.specs.Record.{most_records}
 use Rattle.macho.specs.MachRel.{mach_rel_size, mach_rel_at, type_of}
 use Rattle.macho.specs.Reloc.{reloc_size}
 use Rattle.macho.specs.declared.mach_rel.MachRel.{MachRel}
 use Rattle.macho.specs.declared.refusal.Refusal.TheVariants.{Lengths, Slots}
-use Rattle.macho.specs.declared.refusal.Check.{Check}
-use Rattle.macho.specs.declared.refusal.Check.TheVariants.{Fit, Refused}
+use Rattle.macho.specs.declared.refusal.Refusal.{Refusal}
 
 -- the n records from `at` on
 unfoldable pub records_from : List ℕ → ℕ → ℕ → List MachRel
@@ -35,10 +34,10 @@ abbrev pub ends_in : ℕ → Bool → List MachRel → Bool
 ends_in subtractor before rs = subtracted_at subtractor before rs (length rs)
 
 -- numbers 1 and 2, of the lengths that a reader is lent
-unfoldable pub lengths_of : ℕ → ℕ → ℕ → Check
+unfoldable pub lengths_of : ℕ → ℕ → ℕ → Result ⊤ Refusal
 lengths_of records sections slots =
     choose (eqb (records % mach_rel_size) 0)
     (choose (ltb most_records (records / mach_rel_size))
-    (Refused Lengths)
-    (choose (ltb most_records sections) (Refused Lengths) (choose (ltb slots (reloc_size * (records / mach_rel_size))) (Refused Slots) Fit)))
-    (Refused Lengths)
+    (Err Lengths)
+    (choose (ltb most_records sections) (Err Lengths) (choose (ltb slots (reloc_size * (records / mach_rel_size))) (Err Slots) (Ok tt))))
+    (Err Lengths)

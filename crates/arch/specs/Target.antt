@@ -1,22 +1,21 @@
 -- What a relocation record refers to (RULES 4.10, 15.3, 15.7; Apple's reloc.h, r_symbolnum).
-use Rattle.std.specs.Prelude.{ℕ, zero, suc, ◌+◌, ◌-◌, Bool, not, ◌&&◌, ◌||◌, List, length, get_or, eqb, ltb, leb}
+use Rattle.std.specs.Prelude.{ℕ, zero, suc, ◌+◌, ◌-◌, Bool, not, ◌&&◌, ◌||◌, List, length, get_or, eqb, ltb, leb, Result, Ok, Err}
 use Rattle.util.specs.Choice.{choose}
 use Rattle.util.specs.Wrap.{diff}
 use Rattle.macho.specs.MachRel.{idx_of, extern_of}
 use Rattle.macho.specs.Reloc.{target_section}
 use Rattle.macho.specs.declared.mach_rel.MachRel.{MachRel}
 use Rattle.macho.specs.declared.refusal.Refusal.TheVariants.{NoSection}
-use Rattle.arch.specs.declared.target.Target.{Target}
-use Rattle.arch.specs.declared.target.Target.TheVariants.{Named, Refused}
+use Rattle.macho.specs.declared.refusal.Refusal.{Refusal}
 
 -- the section of an ordinal that counts from 1, and an address less that section's
-unfoldable pub section_target : List ℕ → ℕ → ℕ → Target
-section_target sections zero addend = Refused NoSection
-section_target sections (suc i) addend = choose (ltb i (length sections)) (Named (target_section + i) (diff addend (get_or sections i 0))) (Refused NoSection)
+unfoldable pub section_target : List ℕ → ℕ → ℕ → Result (ℕ × ℕ) Refusal
+section_target sections zero addend = Err NoSection
+section_target sections (suc i) addend = choose (ltb i (length sections)) (Ok (target_section + i, diff addend (get_or sections i 0))) (Err NoSection)
 
 -- a symbol where the record is extern, else a section
-unfoldable pub target_of : List ℕ → MachRel → ℕ → Target
-target_of sections r addend = choose (eqb (extern_of r.bits) 1) (Named (idx_of r.bits) addend) (section_target sections (idx_of r.bits) addend)
+unfoldable pub target_of : List ℕ → MachRel → ℕ → Result (ℕ × ℕ) Refusal
+target_of sections r addend = choose (eqb (extern_of r.bits) 1) (Ok (idx_of r.bits, addend)) (section_target sections (idx_of r.bits) addend)
 
 -- ---- the same by fields
 

@@ -8,6 +8,22 @@ ghost use Rattle.arch.specs.Form.{form, bit_of};
 use macho::mach_rel::MachRel;
 use util::bit;
 
+// Forms as bits of a set, as `reloc_form` gives them: bit pcrel, plus 2 times p2size, plus 8 for extern. By whether they are pc-relative, what they name and
+// how many bytes they are about.
+pub const SECTION_4: u16 = 1 << (2 * 2);
+
+pub const SECTION_8: u16 = 1 << (2 * 3);
+
+pub const SYMBOL_4: u16 = 1 << (2 * 2 + 8);
+
+pub const SYMBOL_8: u16 = 1 << (2 * 3 + 8);
+
+pub const PCREL_SECTION_4: u16 = 1 << (1 + 2 * 2);
+
+pub const PCREL_SYMBOL_4: u16 = 1 << (1 + 2 * 2 + 8);
+
+pub const PCREL_SYMBOL_1: u16 = 1 << (1 + 8);
+
 // One form of a record, its pcrel, p2size and extern fields, as a bit in a set of forms.
 pub fn reloc_form(pcrel: bool, p2size: u32, ext: bool) -> u16
     requires { p2size < 4 }

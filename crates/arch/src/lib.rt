@@ -2,6 +2,8 @@
 #![tactic(auto)]
 
 pub mod form;
+pub mod lent;
+pub mod reader;
 pub mod step;
 pub mod table;
 pub mod target;

@@ -2,17 +2,10 @@
 ghost use Rattle.std.specs.Prelude.{◌≡◌};
 ghost use Rattle.arch.specs.Entry.{entry_of, targeted};
 
-use crate::target::{Target, target_of};
+use crate::target::target_of;
 use macho::mach_rel::MachRel;
 use macho::refusal::Refusal;
 use macho::reloc::Reloc;
-
-// What stands at a record: an entry and the number of the record after it, or a refusal.
-#[derive(Clone, Copy)]
-pub enum Step {
-    Read(Reloc, usize),
-    Refused(Refusal),
-}
 
 // The entry of a record.
 pub fn entry_of(r: MachRel, subtracted: bool, offset: u32, target: u32, addend: u64) -> Reloc
@@ -30,7 +23,8 @@ pub fn entry_of(r: MachRel, subtracted: bool, offset: u32, target: u32, addend: 
     }
 }
 
-// The step of a record that passed its machine's checks; `next` is the record after it.
+// What stands at a record that passed its machine's checks: its entry, and `next`, the number of the record after it.
+#[tactic(auto, unfolding(crate::specs::Entry::targeted))]
 pub fn read_target(
     sections: &[u64],
     r: MachRel,
@@ -38,13 +32,9 @@ pub fn read_target(
     offset: u32,
     addend: u64,
     next: usize,
-) -> Step
+) -> Result<(Reloc, usize), Refusal>
     ensures { result ≡ targeted sections.now r subtracted offset addend next }
 {
-    match target_of(sections, r, addend) {
-        Target::Refused(refusal) => Step::Refused(refusal),
-        Target::Named(target, own) => {
-            Step::Read(entry_of(r, subtracted, offset, target, own), next)
-        }
-    }
+    let (target, own) = target_of(sections, r, addend)?;
+    Ok((entry_of(r, subtracted, offset, target, own), next))
 }

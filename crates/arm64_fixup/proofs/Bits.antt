@@ -1,5 +1,6 @@
 -- On any word, of whatever class: which of its bits an entry changes, and to what. For entry k of any accepted list that no SUBTRACTOR
 -- consumes and whose bytes no other entry writes. The new word is a sum of fields, which are read off by arithmetic.
+use Rattle.std.specs.Prelude.{None}
 use mathlib.Core.Path.{◌≡◌}
 use mathlib.Core.List.{List}
 use Prim.Native.Nat.{ℕ, ◌+◌, ◌*◌, ◌/◌, ◌%◌, ◌^◌, ◌<◌}
@@ -17,7 +18,6 @@ use Rattle.arm64_fixup_entry.specs.Roles.{Page, Offset}
 use Rattle.arm64_fixup.specs.Walk.{lent_entry, lent_target, Fixed}
 use Rattle.arm64_fixup.specs.Footprint.{Lone, word_at}
 use Rattle.arm64_fixup_entry.specs.declared.target.Bases.{Bases}
-use Rattle.arm64_fixup_entry.specs.declared.change.Traced.TheVariants.{Untraced}
 use Rattle.arm64_fixup.proofs.Means.{page-word, offset_word}
 use Rattle.arm64_fixup.proofs.Branches.{branch-word}
 
@@ -85,7 +85,7 @@ module _ {section : List ℕ} {b : Bases} {entries targets slots : List ℕ} {f 
       (omega arith) (omega arith) (omega arith))
 
   -- a branch at no tracing site: bits 31..26 stay, bits 25..0 are the displacement in words
-  pub branch-bits : (lent_entry entries k).ty ≡ ARM64_RELOC_BRANCH26 → dtrace_site_insn (lent_entry entries k) (lent_target targets k) ≡ Untraced
+  pub branch-bits : (lent_entry entries k).ty ≡ ARM64_RELOC_BRANCH26 → dtrace_site_insn (lent_entry entries k) (lent_target targets k) ≡ None
       → (field (word_at entries f.section k) 26 6 ≡ field (word_at entries section k) 26 6)
       × (imm26_in (word_at entries f.section k) ≡ field (displacement (lent_entry entries k) (lent_target targets k) (address_of b (lent_entry entries k))) 2 26)
   branch-bits ty plain =

@@ -1,5 +1,6 @@
 -- Where branches go after the fix-up, from the manual's definitions: for entry k of any accepted list that no SUBTRACTOR consumes and whose
 -- bytes no other entry writes. The words are those of arm64_insn's `Encodes`, their targets those of its `Meaning`.
+use Rattle.std.specs.Prelude.{Option, Some, None}
 use mathlib.Core.Path.{◌≡◌, refl, ap, ◌∙◌}
 use mathlib.Core.Bool.{Bool, true, false}
 use mathlib.Core.List.{List}
@@ -30,8 +31,6 @@ use Rattle.arm64_fixup.specs.Footprint.{Lone, word_at}
 use Rattle.arm64_fixup_entry.specs.declared.target.Bases.{Bases}
 use Rattle.arm64_fixup_entry.specs.declared.change.Site.{Site}
 use Rattle.arm64_fixup_entry.specs.declared.change.Change.{Change}
-use Rattle.arm64_fixup_entry.specs.declared.change.Traced.{Traced}
-use Rattle.arm64_fixup_entry.specs.declared.change.Traced.TheVariants.{Insn, Untraced}
 use Rattle.arm64_fixup_entry.specs.declared.change.Write.TheVariants.{Word}
 use Rattle.arm64_fixup_entry.proofs.ByType.{site_of, branch-does, branch-untraced, got-page-does}
 use Rattle.arm64_fixup.proofs.Lone.{passed, stores-word}
@@ -66,7 +65,7 @@ unfolding branch_word
 branch-word-lt w d = omega arith
 
 module _ {section : List ℕ} {b : Bases} {entries targets slots : List ℕ} {f : Fixed} {k : ℕ} (l : Lone section b entries targets slots f k)
-    (ty : (lent_entry entries k).ty ≡ ARM64_RELOC_BRANCH26) (plain : dtrace_site_insn (lent_entry entries k) (lent_target targets k) ≡ Untraced)
+    (ty : (lent_entry entries k).ty ≡ ARM64_RELOC_BRANCH26) (plain : dtrace_site_insn (lent_entry entries k) (lent_target targets k) ≡ None)
   where
     -- any word, at no tracing site: bits 31..26 stay, the others are the displacement in words
     pub branch-word : word_at entries f.section k
@@ -117,13 +116,13 @@ module _ {section : List ℕ} {b : Bases} {entries targets slots : List ℕ} {f 
 module _ {section : List ℕ} {b : Bases} {entries targets slots : List ℕ} {f : Fixed} {k : ℕ} (l : Lone section b entries targets slots f k)
     (ty : (lent_entry entries k).ty ≡ ARM64_RELOC_BRANCH26)
   where
-    site-word : {w : ℕ} → dtrace_site_insn (lent_entry entries k) (lent_target targets k) ≡ Insn w → word_at entries f.section k ≡ w % 2 ^ 32
+    site-word : {w : ℕ} → dtrace_site_insn (lent_entry entries k) (lent_target targets k) ≡ Some w → word_at entries f.section k ≡ w % 2 ^ 32
     site-word d =
         stores-word l
         (ap (λ (c : Change). c.write)
         (branch-does b k _ _ _ _ _ ty
         ∙ ap
-        (λ (d : Traced). branch_unless d (branch (site_of b k (lent_entry entries k)) (lent_entry entries k) (lent_target targets k) (word_at entries section k)))
+        (λ (d : Option ℕ). branch_unless d (branch (site_of b k (lent_entry entries k)) (lent_entry entries k) (lent_target targets k) (word_at entries section k)))
         d))
 
     -- a symbol's probe becomes NOP, is-enabled "movz x0, #0"

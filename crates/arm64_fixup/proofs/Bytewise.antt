@@ -1,4 +1,5 @@
 -- The second walk byte by byte: an entry leaves what it does not write, and what it writes lies in its footprint.
+use Rattle.std.specs.Prelude.{Ok}
 use mathlib.Core.Path.{◌≡◌, refl, sym, ap, ◌∙◌}
 use mathlib.Core.Bool.{Bool, true, false}
 use mathlib.Core.List.{List}
@@ -19,7 +20,6 @@ use Rattle.arm64_fixup_entry.specs.Change.{bytes_in, silent, change_of}
 use Rattle.arm64_fixup.specs.Walk.{lent_entry, lent_target, entry_count, consumed, check_to, stored, Fixed, change_at, work_at, fix_to}
 use Rattle.arm64_fixup.specs.Footprint.{offset_at, width_at, Touches, written_at, Writes}
 use Rattle.arm64_fixup_entry.specs.declared.target.Bases.{Bases}
-use Rattle.macho.specs.declared.refusal.Check.TheVariants.{Fit}
 use Rattle.arm64_fixup_entry.specs.declared.change.Change.{Change}
 use Rattle.arm64_fixup_entry.specs.declared.change.Write.{Write}
 use Rattle.arm64_fixup_entry.specs.declared.change.Write.TheVariants.{Nothing, Word, Pointer}
@@ -155,7 +155,7 @@ reads-touch b entries targets i s s' free same = go (eqb (width_of (lent_entry e
 -- ---- an entry whose bytes no other writes
 
 module _ (section : List ℕ) (b : Bases) (entries targets : List ℕ) (k : ℕ) (below : k < entry_count entries)
-    (fit : check_to (length section) b entries targets (entry_count entries) ≡ Fit)
+    (fit : check_to (length section) b entries targets (entry_count entries) ≡ Ok tt)
     (before : (j p : ℕ) → j < k → Touches entries targets k p → Writes section b entries targets j p → ⊥)
   where
     -- the entries before it leave its bytes

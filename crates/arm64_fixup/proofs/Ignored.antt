@@ -1,5 +1,6 @@
 -- What is ignored changes nothing: of an entry and its target what `seen` and `SameUse` leave out, and of an entry that a SUBTRACTOR
 -- consumes everything but its addend and its target's address. Lists that agree in the rest have the same outcome.
+use Rattle.std.specs.Prelude.{Result, Ok, Err, ⊤}
 use mathlib.Core.Path.{◌≡◌, refl, sym, ap, ap₂, ◌∙◌, subst}
 use mathlib.Core.Bool.{Bool, true, false, true≢false, ◌&&◌, not}
 use mathlib.Core.List.{List}
@@ -26,8 +27,7 @@ use Rattle.arm64_fixup_entry.specs.Seen.{seen, SameUse, same-all}
 use Rattle.arm64_fixup.specs.Walk.{lent_entry, lent_target, entry_count, consumed, check_at, check_to, Fixed, change_at, applied, work_at, fix_to}
 use Rattle.arm64_fixup.specs.Answer.{check_lists, after, fixed, outcome_of}
 use Rattle.arm64_fixup_entry.specs.declared.target.Bases.{Bases}
-use Rattle.macho.specs.declared.refusal.Check.{Check}
-use Rattle.macho.specs.declared.refusal.Check.TheVariants.{Fit, Refused}
+use Rattle.macho.specs.declared.refusal.Refusal.{Refusal}
 use Rattle.arm64_fixup_entry.specs.declared.change.Change.{Change}
 use Rattle.arm64_fixup_entry.proofs.Sound.{followed}
 use Rattle.arm64_fixup_entry.proofs.Seen.{check-seen, of_addend, of_address, change-seen, check-same, change-same}
@@ -90,7 +90,7 @@ module _ (b : Bases) (entries entries' targets targets' : List ℕ) (alike : Ali
       × ((lent_target targets (i + 1)).addr ≡ (lent_target targets' (i + 1)).addr)
   same_next i l e = alike.taken (i + 1) l (subst (λ (k : ℕ). consumed entries k ≡ true) {x = suc i} {y = i + 1} (omega arith) e)
 
-  module _ (len : ℕ) (fit : check_to len b entries targets (entry_count entries) ≡ Fit) where
+  module _ (len : ℕ) (fit : check_to len b entries targets (entry_count entries) ≡ Ok tt) where
     module _ (i : ℕ) (l : i < entry_count entries) (free : consumed entries i ≡ false) (s : List ℕ) where
       -- the entry's own fields
       same-own : (next : Reloc) (next_target : Resolved)
@@ -145,10 +145,10 @@ module _ (b : Bases) (entries entries' targets targets' : List ℕ) (alike : Ali
       checks-same : check_to (length section) b entries targets (entry_count entries) ≡ check_to (length section) b entries' targets' (entry_count entries')
       checks-same = same_check (length section) (entry_count entries) (omega arith) ∙ ap (λ (n : ℕ). check_to (length section) b entries' targets' n) same_count
 
-      go : (c : Check) → check_to (length section) b entries targets (entry_count entries) ≡ c
+      go : (c : Result ⊤ Refusal) → check_to (length section) b entries targets (entry_count entries) ≡ c
           → outcome_of section b entries targets slots ≡ outcome_of section b entries' targets' slots
-      go (Refused r) e = ap₂ after lists-same (rw (e, sym checks-same ∙ e))
-      go Fit e =
+      go (Err r) e = ap₂ after lists-same (rw (e, sym checks-same ∙ e))
+      go (Ok tt) e =
           ap₂ after lists-same
           (rw (e, sym checks-same ∙ e)
           (ap fixed

@@ -1,5 +1,6 @@
 -- What the fixed words mean, from the manual's definitions: for entry k of any accepted list that no SUBTRACTOR consumes and whose bytes
 -- no other entry writes. The words are those of arm64_insn's `Encodes`, their targets those of its `Meaning`.
+use Rattle.std.specs.Prelude.{Ok, Err}
 use mathlib.Core.Path.{◌≡◌, refl, ap, ◌∙◌}
 use mathlib.Core.Bool.{true, false}
 use mathlib.Core.List.{List}
@@ -22,7 +23,6 @@ use Rattle.arm64_insn.specs.ManualTargets as M
 use Rattle.arm64_insn.specs.Page.{page_of, adrp_page}
 use Rattle.arm64_insn.specs.Reach.{page_imm, page_offset, adrp_reaches}
 use Rattle.arm64_insn.specs.Fix.{adrp_with, scale_of, offset_with, relaxed_word}
-use Rattle.arm64_insn.specs.declared.fix.OffsetWord.TheVariants as OffsetWord
 use Rattle.arm64_insn.proofs.Encodes.{adrp-patched, add-patched, load-store-patched, prefetch-patched, relaxed-made}
 use Rattle.arm64_insn.proofs.Meaning.{adrp-means, add-means, access-means}
 use Rattle.arm64_insn.proofs.Manual.{decode-encode, decode-in-range, encode-lt}
@@ -97,10 +97,10 @@ offset-width e t (got-offset g n) = got-offset-width e t g
 
 module _ {section : List ℕ} {b : Bases} {entries targets slots : List ℕ} {f : Fixed} {k : ℕ} (l : Lone section b entries targets slots f k) where
   module _ {target : ℕ} (r : Offset (lent_entry entries k) (lent_target targets k) target) where
-    fits : {w : ℕ} → offset_with (word_at entries section k) target ≡ OffsetWord.Word w → word_at entries f.section k ≡ w % 2 ^ 32
+    fits : {w : ℕ} → offset_with (word_at entries section k) target ≡ Ok w → word_at entries f.section k ≡ w % 2 ^ 32
     fits e = stores-word l (ap (λ (c : Change). c.write) (offset-does-it b k _ _ _ _ _ r ∙ ap (fitted (site_of b k (lent_entry entries k))) e))
 
-    stays : {n : ℕ} → offset_with (word_at entries section k) target ≡ OffsetWord.Misaligned n → word_at entries f.section k ≡ word_at entries section k
+    stays : {n : ℕ} → offset_with (word_at entries section k) target ≡ Err n → word_at entries f.section k ≡ word_at entries section k
     stays e =
         leaves_word l (offset-width _ _ r)
         (ap (λ (c : Change). c.write) (offset-does-it b k _ _ _ _ _ r ∙ ap (fitted (site_of b k (lent_entry entries k))) e))

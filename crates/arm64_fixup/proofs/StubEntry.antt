@@ -14,7 +14,7 @@ use Rattle.util.specs.Bits.{field}
 use Rattle.util.specs.Word.{le, put}
 use Rattle.util.proofs.Word.{length-put, get_d-put-other, le-put, le-put-other}
 use Rattle.util.proofs.Choice.{choose-false}
-use Rattle.macho.specs.Refusal.{check_number}
+use Rattle.macho.specs.Refusal.{answer_number}
 use Rattle.arm64_insn.specs.Manual.{ADRP, ADD, LDST, BR, InRange, instruction, decode}
 use Rattle.arm64_insn.specs.LoadStoreTable.{row_of}
 use Rattle.arm64_insn.specs.ManualTargets as M
@@ -29,7 +29,7 @@ use Rattle.arm64_fixup.specs.Stub.{words_in, stub_answer, thunk_check, stub_numb
 
 -- fewer than 12 bytes: number 3, and nothing written
 pub short-entry : (s : List ℕ) (addr ptr : ℕ) → length s < 12
-    → (stub_number (stub_answer s addr ptr) ≡ 3) × (check_number (thunk_check s) ≡ 3) × ((w : Words3) → words_in s w ≡ s)
+    → (stub_number (stub_answer s addr ptr) ≡ 3) × (answer_number (thunk_check s) ≡ 3) × ((w : Words3) → words_in s w ≡ s)
 unfolding stub_answer thunk_check words_in choose
 short-entry s addr ptr h = let t = lt-ltb (length s) 12 h in (rw t, rw t, λ w. rw t)
 

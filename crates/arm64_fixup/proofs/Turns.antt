@@ -1,4 +1,5 @@
 -- One turn of each walk: the entry at an index that no SUBTRACTOR takes, and with it the one that it takes.
+use Rattle.std.specs.Prelude.{Result, Ok, Err, ⊤}
 use mathlib.Core.Path.{◌≡◌, refl, sym, ap, ◌∙◌, subst}
 use mathlib.Core.Bool.{Bool, true, false}
 use mathlib.Core.List.{List}
@@ -19,8 +20,6 @@ use Rattle.arm64_fixup_entry.specs.Check.{subtracts, check_of}
 use Rattle.arm64_fixup.specs.Walk.{entry_count, lent_entry, lent_target, taken_by, consumed, check_at, check_to, stored, Fixed, change_at, applied}
 use Rattle.arm64_fixup.specs.Walk.{work_at, fix_to}
 use Rattle.arm64_fixup_entry.specs.declared.target.Bases.{Bases}
-use Rattle.macho.specs.declared.refusal.Check.{Check}
-use Rattle.macho.specs.declared.refusal.Check.TheVariants.{Fit, Refused}
 use Rattle.arm64_fixup_entry.specs.declared.change.Write.{Write}
 use Rattle.arm64_fixup_entry.specs.declared.change.Write.TheVariants.{Nothing, Word, Pointer}
 use Rattle.arm64_fixup_entry.proofs.Sound.{followed}
@@ -58,9 +57,9 @@ module _ (entries : List ℕ) (i : ℕ) (free : consumed entries i ≡ false) wh
 
 -- ---- the first walk
 
-first-fit : (a c : Check) → first a c ≡ Fit → (a ≡ Fit) × (c ≡ Fit)
-first-fit Fit c h = (refl, h)
-first-fit (Refused r) c h = let z : ◌≡◌ {A = ℕ} 0 1 = cc in absurd (omega arith)
+first-fit : (a c : Result ⊤ Refusal) → first a c ≡ Ok tt → (a ≡ Ok tt) × (c ≡ Ok tt)
+first-fit (Ok tt) c h = (refl, h)
+first-fit (Err r) c h = let z : ◌≡◌ {A = ℕ} 0 1 = cc in absurd (omega arith)
 
 module _ (len : ℕ) (b : Bases) (entries targets : List ℕ) where
   check-suc : (i : ℕ) → check_to len b entries targets (suc i) ≡ first (check_to len b entries targets i) (check_at len b entries targets i)
@@ -68,22 +67,22 @@ module _ (len : ℕ) (b : Bases) (entries targets : List ℕ) where
   check-suc i = refl
 
   -- every entry of a list that passes has passed
-  pub passes : (n i : ℕ) → check_to len b entries targets n ≡ Fit → i < n → check_at len b entries targets i ≡ Fit
+  pub passes : (n i : ℕ) → check_to len b entries targets n ≡ Ok tt → i < n → check_at len b entries targets i ≡ Ok tt
   passes zero i h l = absurd (not-suc-le-zero l)
   passes (suc n) i h l =
       let p = first-fit (check_to len b entries targets n) _ (sym (check-suc n) ∙ h) in
       ⊎_elim (λ (e : i ≡ n). rw e p.1) (λ (w : i < n). passes n i p.0 w) (eq-or-lt_of_le (le_of_suc-le-suc l))
 
   -- a refusal stays
-  stays : (k i : ℕ) (r : Refusal) → check_to len b entries targets i ≡ Refused r → check_to len b entries targets (k + i) ≡ Refused r
+  stays : (k i : ℕ) (r : Refusal) → check_to len b entries targets i ≡ Err r → check_to len b entries targets (k + i) ≡ Err r
   stays zero i r h = ap (λ (m : ℕ). check_to len b entries targets m) (omega arith) ∙ h
   stays (suc k) i r h =
       ap (λ (m : ℕ). check_to len b entries targets m) {x = suc k + i} {y = suc (k + i)} (omega arith)
       ∙ check-suc (k + i)
-      ∙ ap (λ (c : Check). first c (check_at len b entries targets (k + i))) (stays k i r h)
+      ∙ ap (λ (c : Result ⊤ Refusal). first c (check_at len b entries targets (k + i))) (stays k i r h)
 
   -- the check of an entry that a SUBTRACTOR takes
-  pub check-taken : (i : ℕ) → consumed entries i ≡ true → check_at len b entries targets i ≡ Fit
+  pub check-taken : (i : ℕ) → consumed entries i ≡ true → check_at len b entries targets i ≡ Ok tt
   unfolding check_at choose
   check-taken i h = rw h
 
@@ -93,40 +92,40 @@ module _ (len : ℕ) (b : Bases) (entries targets : List ℕ) where
     unfolding check_at choose
     check-worked = rw free
 
-    module _ (below : i < entry_count entries) (before : check_to len b entries targets i ≡ Fit) where
+    module _ (below : i < entry_count entries) (before : check_to len b entries targets i ≡ Ok tt) where
       -- a turn that ends the walk
-      pub check-refused : {e : Reloc} {t : Resolved} {c : Check} {r : Refusal} → e ≡ lent_entry entries i → t ≡ lent_target targets i
-          → c ≡ check_of len b e t (eqb (i + 1) (entry_count entries)) → c ≡ Refused r → Refused r ≡ check_to len b entries targets (entry_count entries)
+      pub check-refused : {e : Reloc} {t : Resolved} {c : Result ⊤ Refusal} {r : Refusal} → e ≡ lent_entry entries i → t ≡ lent_target targets i
+          → c ≡ check_of len b e t (eqb (i + 1) (entry_count entries)) → c ≡ Err r → Err r ≡ check_to len b entries targets (entry_count entries)
       check-refused {r = r} pe pt q p =
           let k : entry_count entries - suc i + suc i ≡ entry_count entries = omega arith in
-          let found : check_of len b (lent_entry entries i) (lent_target targets i) (eqb (i + 1) (entry_count entries)) ≡ Refused r = rw (← pe, ← pt) (sym q ∙ p) in
+          let found : check_of len b (lent_entry entries i) (lent_target targets i) (eqb (i + 1) (entry_count entries)) ≡ Err r = rw (← pe, ← pt) (sym q ∙ p) in
           sym
           (ap (λ (m : ℕ). check_to len b entries targets m) (sym k)
           ∙ stays (entry_count entries - suc i) (suc i) r
-          (check-suc i ∙ ap (λ (a : Check). first a (check_at len b entries targets i)) before ∙ check-worked ∙ found))
+          (check-suc i ∙ ap (λ (a : Result ⊤ Refusal). first a (check_at len b entries targets i)) before ∙ check-worked ∙ found))
 
-      module _ (fit : check_of len b (lent_entry entries i) (lent_target targets i) (eqb (i + 1) (entry_count entries)) ≡ Fit) where
-        check-one : check_to len b entries targets (suc i) ≡ Fit
-        check-one = check-suc i ∙ ap (λ (a : Check). first a (check_at len b entries targets i)) before ∙ check-worked ∙ fit
+      module _ (fit : check_of len b (lent_entry entries i) (lent_target targets i) (eqb (i + 1) (entry_count entries)) ≡ Ok tt) where
+        check-one : check_to len b entries targets (suc i) ≡ Ok tt
+        check-one = check-suc i ∙ ap (λ (a : Result ⊤ Refusal). first a (check_at len b entries targets i)) before ∙ check-worked ∙ fit
 
-        check-next : check_to len b entries targets (i + taken_by (lent_entry entries i).ty) ≡ Fit
+        check-next : check_to len b entries targets (i + taken_by (lent_entry entries i).ty) ≡ Ok tt
         check-next =
-            next entries i free (λ (k : ℕ). check_to len b entries targets k ≡ Fit) (λ s. check-one)
+            next entries i free (λ (k : ℕ). check_to len b entries targets k ≡ Ok tt) (λ s. check-one)
             (λ s. check-suc (suc i)
-            ∙ ap (λ (a : Check). first a (check_at len b entries targets (suc i))) check-one
+            ∙ ap (λ (a : Result ⊤ Refusal). first a (check_at len b entries targets (suc i))) check-one
             ∙ check-taken (suc i) (pair entries i free s))
 
-    pub next-within : i < entry_count entries → check_of len b (lent_entry entries i) (lent_target targets i) (eqb (i + 1) (entry_count entries)) ≡ Fit
+    pub next-within : i < entry_count entries → check_of len b (lent_entry entries i) (lent_target targets i) (eqb (i + 1) (entry_count entries)) ≡ Ok tt
         → i + taken_by (lent_entry entries i).ty ≤ entry_count entries
     next-within below fit =
         next entries i free (λ (k : ℕ). k ≤ entry_count entries) (λ s. below) (λ s. omega (arith, followed len b _ _ i (entry_count entries) fit s below))
 
     -- a turn that goes on
-    pub check-again : {e : Reloc} {t : Resolved} {c : Check} {k : ℕ} → i < entry_count entries → check_to len b entries targets i ≡ Fit
-        → e ≡ lent_entry entries i → t ≡ lent_target targets i → c ≡ check_of len b e t (eqb (i + 1) (entry_count entries)) → c ≡ Fit → k ≡ taken_by e.ty
-        → (i + k ≤ entry_count entries) × (consumed entries (i + k) ≡ false) × (check_to len b entries targets (i + k) ≡ Fit)
+    pub check-again : {e : Reloc} {t : Resolved} {c : Result ⊤ Refusal} {k : ℕ} → i < entry_count entries → check_to len b entries targets i ≡ Ok tt
+        → e ≡ lent_entry entries i → t ≡ lent_target targets i → c ≡ check_of len b e t (eqb (i + 1) (entry_count entries)) → c ≡ Ok tt → k ≡ taken_by e.ty
+        → (i + k ≤ entry_count entries) × (consumed entries (i + k) ≡ false) × (check_to len b entries targets (i + k) ≡ Ok tt)
     check-again below before pe pt q p pk =
-        let fit : check_of len b (lent_entry entries i) (lent_target targets i) (eqb (i + 1) (entry_count entries)) ≡ Fit = rw (← pe, ← pt) (sym q ∙ p) in
+        let fit : check_of len b (lent_entry entries i) (lent_target targets i) (eqb (i + 1) (entry_count entries)) ≡ Ok tt = rw (← pe, ← pt) (sym q ∙ p) in
         rw (pk, pe) (next-within below fit, next-worked entries i free, check-next below before fit)
 
 -- what holds at the end

@@ -1,6 +1,7 @@
 -- What the words of entries that no report names mean, alone and in pairs: a branch goes to T; a page and its page offset make S + A, those of
 -- a GOT slot G + A, or S + A where they are relaxed. For entries of any accepted list that no SUBTRACTOR consumes and whose bytes no other
 -- entry writes. An entry that no report names told nothing, so each test that would have told something passed.
+use Rattle.std.specs.Prelude.{Result, Ok, Err, None}
 use mathlib.Core.Path.{◌≡◌, refl, sym, ap, ◌∙◌, subst}
 use mathlib.Core.Bool.{Bool, true, false}
 use mathlib.Core.List.{List}
@@ -22,7 +23,6 @@ use Rattle.arm64_insn.specs.ManualTargets as M
 use Rattle.arm64_insn.specs.Page.{adrp_page}
 use Rattle.arm64_insn.specs.Reach.{page_imm}
 use Rattle.arm64_insn.specs.Branch.{branch_reaches}
-use Rattle.arm64_insn.specs.declared.fix.OffsetWord.{OffsetWord}
 use Rattle.arm64_insn.proofs.Encodes.{load-store-patched}
 use Rattle.arm64_fixup_entry.specs.Target.{address_of, target_of, slot_of, got_target}
 use Rattle.arm64_fixup_entry.specs.Change.{branch_target, thunk_serves, dtrace_site_insn, displacement, fitted, can_relax, relaxed}
@@ -32,8 +32,6 @@ use Rattle.arm64_fixup.specs.Footprint.{Lone, Unreported, word_at}
 use Rattle.arm64_fixup_entry.specs.declared.target.Bases.{Bases}
 use Rattle.arm64_fixup_entry.specs.declared.change.Site.{Site}
 use Rattle.arm64_fixup_entry.specs.declared.change.Change.{Change}
-use Rattle.arm64_fixup_entry.specs.declared.change.Traced.TheVariants.{Untraced}
-use Rattle.arm64_fixup_entry.specs.declared.change.Told.TheVariants.{Silent}
 use Rattle.arm64_fixup_entry.proofs.ByType.{site_of, offset-does-it}
 use Rattle.arm64_fixup.proofs.Means.{relaxed-does, adrp-add, adrp-relaxed, adrp-access}
 use Rattle.arm64_fixup.proofs.Branches.{b-stays, bl-stays, goes, goes-by-thunk}
@@ -42,7 +40,7 @@ use Rattle.arm64_fixup.proofs.Reports.{silent-test, unreported, page-in-reach, b
 -- ---- branches
 
 module _ {section : List ℕ} {b : Bases} {entries targets slots : List ℕ} {f : Fixed} {k : ℕ} (l : Lone section b entries targets slots f k)
-    (ty : (lent_entry entries k).ty ≡ ARM64_RELOC_BRANCH26) (plain : dtrace_site_insn (lent_entry entries k) (lent_target targets k) ≡ Untraced)
+    (ty : (lent_entry entries k).ty ≡ ARM64_RELOC_BRANCH26) (plain : dtrace_site_insn (lent_entry entries k) (lent_target targets k) ≡ None)
     (u : Unreported f k)
     (direct : (branch_reaches (branch_target (lent_entry entries k) (lent_target targets k)) (address_of b (lent_entry entries k)) ≡ true)
     ⊎ (thunk_serves (lent_entry entries k) (lent_target targets k) (branch_target (lent_entry entries k) (lent_target targets k)) ≡ false))
@@ -68,7 +66,7 @@ module _ {section : List ℕ} {b : Bases} {entries targets slots : List ℕ} {f 
 
 -- any that is not reported: it reaches T and goes there; or a thunk serves, and it goes to the thunk where it reaches that, which is not asked
 module _ {section : List ℕ} {b : Bases} {entries targets slots : List ℕ} {f : Fixed} {k : ℕ} (l : Lone section b entries targets slots f k)
-    (ty : (lent_entry entries k).ty ≡ ARM64_RELOC_BRANCH26) (plain : dtrace_site_insn (lent_entry entries k) (lent_target targets k) ≡ Untraced)
+    (ty : (lent_entry entries k).ty ≡ ARM64_RELOC_BRANCH26) (plain : dtrace_site_insn (lent_entry entries k) (lent_target targets k) ≡ None)
     (u : Unreported f k) (p : address_of b (lent_entry entries k) % 4 ≡ 0)
   where
     abbrev P : ℕ
@@ -96,12 +94,12 @@ module _ {section : List ℕ} {b : Bases} {entries targets slots : List ℕ} {f 
 
 -- ---- page offsets
 
-fitted-silent : (s : Site) (q : Bool) (w n : ℕ) → (fitted s (choose q (OffsetWord.Word w) (OffsetWord.Misaligned n))).told ≡ Silent → q ≡ true
+fitted-silent : (s : Site) (q : Bool) (w n : ℕ) → (fitted s (choose q (Ok w) (Err n))).told ≡ None → q ≡ true
 unfolding choose
 fitted-silent s true w n h = refl
 fitted-silent s false w n h = let z : ◌≡◌ {A = ℕ} 0 1 = cc in absurd (omega arith)
 
-relaxed-silent : (s : Site) (ty target word : ℕ) → (relaxed s ty target word).told ≡ Silent → can_relax ty word ≡ true
+relaxed-silent : (s : Site) (ty target word : ℕ) → (relaxed s ty target word).told ≡ None → can_relax ty word ≡ true
 unfolding relaxed
 relaxed-silent s ty target word h = silent-test (can_relax ty word) _ _ _ refl h
 
@@ -115,7 +113,7 @@ module _ {section : List ℕ} {b : Bases} {entries targets slots : List ℕ} {f 
       (sym
       (ap (λ (c : Change). c.told)
       (offset-does-it b k _ _ _ _ _ r
-      ∙ ap (λ (x : OffsetWord). fitted (site_of b k (lent_entry entries k)) x) (load-store-patched _ size v opc rt rn imm12 target d)))
+      ∙ ap (λ (x : Result ℕ ℕ). fitted (site_of b k (lent_entry entries k)) x) (load-store-patched _ size v opc rt rn imm12 target d)))
       ∙ unreported l u))
 
   -- a relaxed page offset had a word that can be relaxed

@@ -1,4 +1,5 @@
 -- The whole call: its outcome by the two checks, and what an outcome says of the answer and of the lent bytes.
+use Rattle.std.specs.Prelude.{Result, Ok, Err, ⊤}
 use mathlib.Core.Path.{◌≡◌, refl, sym, ap, ◌∙◌}
 use mathlib.Core.Bool.{Bool, true, false, ◌||◌, not}
 use mathlib.Core.List.{List}
@@ -15,9 +16,6 @@ use Rattle.arm64_fixup.specs.Walk.{check_all, Fixed, fix_all}
 use Rattle.arm64_fixup.specs.Answer.{disagree, lacks_slots, check_lists, Outcome, refused, fixed, after, outcome_of, answer_of, section_after}
 use Rattle.arm64_fixup.specs.Answer.{filled, slots_after}
 use Rattle.arm64_fixup_entry.specs.declared.target.Bases.{Bases}
-use Rattle.macho.specs.declared.refusal.Check.{Check}
-use Rattle.macho.specs.declared.refusal.Check.TheVariants as C
-use Rattle.macho.specs.declared.refusal.Answer.TheVariants.{Filled, Refused}
 use Rattle.arm64_fixup_entry.proofs.Sound.{passed}
 
 -- lists whose lengths agree
@@ -42,7 +40,7 @@ not_eqb m n h = go (eqb m n) refl h
     go true e _ = eqb-true m n e
     go false e h = let z : ◌≡◌ {A = ℕ} 0 1 = cc in absurd (omega arith)
 
-pub lists : (entries targets slots : ℕ) → check_lists entries targets slots ≡ C.Fit → Lists entries targets slots
+pub lists : (entries targets slots : ℕ) → check_lists entries targets slots ≡ Ok tt → Lists entries targets slots
 unfolding check_lists
 lists entries targets slots h =
     let p = passed (disagree entries targets) _ _ h in
@@ -60,12 +58,12 @@ lists entries targets slots h =
 module _ (section : List ℕ) (b : Bases) (entries targets slots : List ℕ) where
   -- what a refusal of the call says
   pub turned_down : {r : Refusal} → outcome_of section b entries targets slots ≡ refused r
-      → (Refused r ≡ answer_of (outcome_of section b entries targets slots))
+      → (Err r ≡ answer_of (outcome_of section b entries targets slots))
       × ((section ≡ section_after (outcome_of section b entries targets slots) section) × (slots ≡ slots_after (outcome_of section b entries targets slots) slots))
   turned_down o = rw o (refl, (refl, refl))
 
   -- by the lists, and by an entry
-  pub by-lists : {c : Check} {r : Refusal} → c ≡ check_lists (length entries) (length targets) (length slots) → c ≡ C.Refused r
+  pub by-lists : {c : Result ⊤ Refusal} {r : Refusal} → c ≡ check_lists (length entries) (length targets) (length slots) → c ≡ Err r
       → outcome_of section b entries targets slots ≡ refused r
   unfolding outcome_of
   by-lists q p = rw (sym q ∙ p)
@@ -75,34 +73,34 @@ module _ (section : List ℕ) (b : Bases) (entries targets slots : List ℕ) whe
   unfolding outcome_of check_lists choose
   too_many h = rw (lt-ltb most_records (length entries / 24) (omega arith), or-true (not (eqb (length entries % 24) 0) || not (eqb (length targets % 48) 0)))
 
-  module _ (fit : check_lists (length entries) (length targets) (length slots) ≡ C.Fit) where
-    pub by-entry : {c : Check} {r : Refusal} → c ≡ check_all (length section) b entries targets → c ≡ C.Refused r
+  module _ (fit : check_lists (length entries) (length targets) (length slots) ≡ Ok tt) where
+    pub by-entry : {c : Result ⊤ Refusal} {r : Refusal} → c ≡ check_all (length section) b entries targets → c ≡ Err r
         → outcome_of section b entries targets slots ≡ refused r
     unfolding outcome_of
     by-entry q p = rw (fit, sym q ∙ p)
 
-    accepted : check_all (length section) b entries targets ≡ C.Fit → outcome_of section b entries targets slots ≡ fixed (fix_all b entries targets section)
+    accepted : check_all (length section) b entries targets ≡ Ok tt → outcome_of section b entries targets slots ≡ fixed (fix_all b entries targets section)
     unfolding outcome_of
     accepted h = rw (fit, h)
 
-    pub done : {n : ℕ} {section' slots' : List ℕ} → check_all (length section) b entries targets ≡ C.Fit
+    pub done : {n : ℕ} {section' slots' : List ℕ} → check_all (length section) b entries targets ≡ Ok tt
         → n ≡ length (fix_all b entries targets section).reports
         → section' ≡ (fix_all b entries targets section).section
         → slots' ≡ filled (fix_all b entries targets section) slots
-        → (Filled n ≡ answer_of (outcome_of section b entries targets slots))
+        → (Ok n ≡ answer_of (outcome_of section b entries targets slots))
         × ((section' ≡ section_after (outcome_of section b entries targets slots) section)
         × (slots' ≡ slots_after (outcome_of section b entries targets slots) slots))
-    done h pn ps pl = rw (accepted h) (ap Filled pn, (ps, pl))
+    done h pn ps pl = rw (accepted h) (ap Ok pn, (ps, pl))
 
   -- what an accepted call says
   pub record Accepted (f : Fixed) : Type 0 where
     pub agree : Lists (length entries) (length targets) (length slots)
-    pub fit : check_all (length section) b entries targets ≡ C.Fit
+    pub fit : check_all (length section) b entries targets ≡ Ok tt
     pub work : f ≡ fix_all b entries targets section
 
-  after-fixed : (c : Check) (o : Outcome) (f : Fixed) → after c o ≡ fixed f → (c ≡ C.Fit) × (o ≡ fixed f)
-  after-fixed C.Fit o f h = (refl, h)
-  after-fixed (C.Refused r) o f h = let z : ◌≡◌ {A = ℕ} 0 1 = cc in absurd (omega arith)
+  after-fixed : (c : Result ⊤ Refusal) (o : Outcome) (f : Fixed) → after c o ≡ fixed f → (c ≡ Ok tt) × (o ≡ fixed f)
+  after-fixed (Ok tt) o f h = (refl, h)
+  after-fixed (Err r) o f h = let z : ◌≡◌ {A = ℕ} 0 1 = cc in absurd (omega arith)
 
   pub accepts : {f : Fixed} → outcome_of section b entries targets slots ≡ fixed f → Accepted f
   unfolding outcome_of

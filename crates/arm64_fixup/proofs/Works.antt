@@ -1,4 +1,5 @@
 -- One turn of the second walk, in the form in which the loop asks for it, and the reports' bytes one after another.
+use Rattle.std.specs.Prelude.{Ok, Option, Some, None}
 use mathlib.Core.Path.{◌≡◌, refl, sym, ap, ◌∙◌}
 use mathlib.Core.Bool.{Bool, false}
 use mathlib.Core.List.{List, ◌++◌}
@@ -21,8 +22,6 @@ use Rattle.arm64_fixup.specs.Walk.{entry_count, lent_entry, lent_target, taken_b
 use Rattle.arm64_fixup.specs.Walk.{applied, fix_to, fix_all}
 use Rattle.arm64_fixup.specs.Answer.{filled}
 use Rattle.arm64_fixup_entry.specs.declared.target.Bases.{Bases}
-use Rattle.macho.specs.declared.refusal.Check.TheVariants.{Fit}
-use Rattle.arm64_fixup_entry.specs.declared.change.Told.{Told}
 use Rattle.arm64_fixup_entry.specs.declared.change.Change.{Change}
 use Rattle.arm64_fixup_entry.proofs.Sound.{sound}
 use Rattle.arm64_fixup.proofs.Turns.{next-worked, passes, check-worked, next-within, ended, takes, fix-next}
@@ -49,23 +48,23 @@ front : (slots : List ℕ) (f : Fixed) → 24 * length f.reports ≤ length slot
 front slots f h = stored-front report slots f.reports h
 
 -- at most one report an entry
-at_most_one : (t : Told) → length (reports_of t) ≤ 1
-at_most_one Told.Silent = omega arith
-at_most_one (Told.Report r) = omega arith
+at_most_one : (t : Option Report) → length (reports_of t) ≤ 1
+at_most_one None = omega arith
+at_most_one (Some r) = omega arith
 
 -- ---- the turn
 
 -- what a change stores has room
 pub room : (len : ℕ) (b : Bases) (i : ℕ) (e : Reloc) (t : Resolved) (last : Bool) (next : Reloc) (next_target : Resolved) (word : ℕ) {c : Change}
-    → check_of len b e t last ≡ Fit → c ≡ change_of b i e t next next_target word → e.offset + bytes_in c.write ≤ len
+    → check_of len b e t last ≡ Ok tt → c ≡ change_of b i e t next next_target word → e.offset + bytes_in c.write ≤ len
 room len b i e t last next next_target word h q =
     let s = sound len b e t last h in
     rw q (omega (arith, change-fits b i e t next next_target word))
 
 module _ (b : Bases) (entries targets section : List ℕ) (i : ℕ) (free : consumed entries i ≡ false) where
   -- the entry was checked
-  pub fit_at : {e : Reloc} {t : Resolved} {len : ℕ} → check_all (length section) b entries targets ≡ Fit → i < entry_count entries
-      → e ≡ lent_entry entries i → t ≡ lent_target targets i → len ≡ length section → check_of len b e t (eqb (i + 1) (entry_count entries)) ≡ Fit
+  pub fit_at : {e : Reloc} {t : Resolved} {len : ℕ} → check_all (length section) b entries targets ≡ Ok tt → i < entry_count entries
+      → e ≡ lent_entry entries i → t ≡ lent_target targets i → len ≡ length section → check_of len b e t (eqb (i + 1) (entry_count entries)) ≡ Ok tt
   fit_at h below pe pt pl =
       rw (pl, pe, pt) (sym (check-worked (length section) b entries targets i free) ∙ passes (length section) b entries targets (entry_count entries) i h below)
 
@@ -78,7 +77,7 @@ module _ (b : Bases) (entries targets section : List ℕ) (i : ℕ) (free : cons
 
       -- what holds after the turn
       pub work-again : (slots₀ : List ℕ) {count count' : ℕ} {slots slots' buf' : List ℕ} → i < entry_count entries
-          → check_all (length section) b entries targets ≡ Fit
+          → check_all (length section) b entries targets ≡ Ok tt
           → count ≤ i
           → count ≡ length (fix_to b entries targets section i).reports
           → slots ≡ sets slots₀ 0 (list_bytes report_bytes (fix_to b entries targets section i).reports)

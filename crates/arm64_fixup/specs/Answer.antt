@@ -1,5 +1,5 @@
 -- The whole call: a refusal that leaves everything, or the fixed section with its reports (RULES 3.2, 3.5, 3.9, 3.10, 2.25).
-use Rattle.std.specs.Prelude.{ℕ, ◌*◌, ◌/◌, ◌%◌, Bool, ◌||◌, not, List, ◌++◌, eqb, ltb, length, drop}
+use Rattle.std.specs.Prelude.{ℕ, ◌*◌, ◌/◌, ◌%◌, Bool, ◌||◌, not, List, ◌++◌, eqb, ltb, length, drop, Result, Ok, Err, ⊤}
 use Rattle.util.specs.Choice.{choose}
 use Rattle.macho.specs.Record.{list_bytes, most_records}
 use Rattle.macho.specs.Reloc.{reloc_size}
@@ -7,10 +7,6 @@ use Rattle.macho.specs.Resolved.{resolved_size}
 use Rattle.macho.specs.Report.{report_size, report_bytes}
 use Rattle.macho.specs.declared.refusal.Refusal.{Refusal}
 use Rattle.macho.specs.declared.refusal.Refusal.TheVariants.{Lengths, Slots}
-use Rattle.macho.specs.declared.refusal.Check.{Check}
-use Rattle.macho.specs.declared.refusal.Check.TheVariants as C
-use Rattle.macho.specs.declared.refusal.Answer.{Answer}
-use Rattle.macho.specs.declared.refusal.Answer.TheVariants.{Filled, Refused}
 use Rattle.arm64_fixup_entry.specs.declared.target.Bases.{Bases}
 use Rattle.arm64_fixup.specs.Walk.{check_all, Fixed, fix_all}
 
@@ -27,9 +23,9 @@ abbrev pub lacks_slots : ℕ → ℕ → Bool
 lacks_slots entries slots = ltb slots (report_size * (entries / reloc_size))
 
 -- the numbers of the lists' lengths, before those of the entries
-unfoldable pub check_lists : ℕ → ℕ → ℕ → Check
+unfoldable pub check_lists : ℕ → ℕ → ℕ → Result ⊤ Refusal
 check_lists entries targets slots =
-    choose (disagree entries targets) (C.Refused Lengths) (choose (lacks_slots entries slots) (C.Refused Slots) C.Fit)
+    choose (disagree entries targets) (Err Lengths) (choose (lacks_slots entries slots) (Err Slots) (Ok tt))
 
 -- the address of the section's first byte, the start of thread-local storage, and the image base
 abbrev pub bases_of : ℕ → ℕ → ℕ → Bases
@@ -41,9 +37,9 @@ pub data Outcome : Type 0 where
   fixed : Fixed → Outcome
 
 -- a refusal, or what comes after the checks
-abbrev pub after : Check → Outcome → Outcome
-after (C.Refused r) o = refused r
-after C.Fit o = o
+abbrev pub after : Result ⊤ Refusal → Outcome → Outcome
+after (Err r) o = refused r
+after (Ok tt) o = o
 
 -- the lists' lengths first, then the entries, and only then the work
 unfoldable pub outcome_of : List ℕ → Bases → List ℕ → List ℕ → List ℕ → Outcome
@@ -52,9 +48,9 @@ outcome_of section b entries targets slots =
     (after (check_all (length section) b entries targets) (fixed (fix_all b entries targets section)))
 
 -- the answer: how many reports were filled, or the refusal
-abbrev pub answer_of : Outcome → Answer
-answer_of (refused r) = Refused r
-answer_of (fixed f) = Filled (length f.reports)
+abbrev pub answer_of : Outcome → Result ℕ Refusal
+answer_of (refused r) = Err r
+answer_of (fixed f) = Ok (length f.reports)
 
 -- the section at exit
 abbrev pub section_after : Outcome → List ℕ → List ℕ
@@ -71,7 +67,7 @@ slots_after (refused r) slots = slots
 slots_after (fixed f) slots = filled f slots
 
 -- what a call answers to what was lent
-abbrev pub answer_to : List ℕ → ℕ → ℕ → ℕ → List ℕ → List ℕ → List ℕ → Answer
+abbrev pub answer_to : List ℕ → ℕ → ℕ → ℕ → List ℕ → List ℕ → List ℕ → Result ℕ Refusal
 answer_to section base tls image entries targets slots = answer_of (outcome_of section (bases_of base tls image) entries targets slots)
 
 -- the section after it

@@ -1,5 +1,5 @@
 -- The entries one after another: which number turns the list down, and what the list does (RULES 3.5, 5.4, 5.5).
-use Rattle.std.specs.Prelude.{ℕ, zero, suc, ◌+◌, ◌*◌, ◌/◌, Bool, false, ◌&&◌, not, List, [], ◌∷◌, ◌++◌, eqb, length}
+use Rattle.std.specs.Prelude.{ℕ, zero, suc, ◌+◌, ◌*◌, ◌/◌, Bool, false, ◌&&◌, not, List, [], ◌∷◌, ◌++◌, eqb, length, Result, Ok, Option, Some, None, ⊤}
 use Rattle.util.specs.Choice.{choose}
 use Rattle.util.specs.Word.{le, put}
 use Rattle.macho.specs.Refusal.{first}
@@ -7,16 +7,13 @@ use Rattle.macho.specs.Reloc.{reloc_size, reloc_at}
 use Rattle.macho.specs.Resolved.{resolved_size, resolved_at}
 use Rattle.macho.specs.declared.reloc.Reloc.{Reloc}
 use Rattle.macho.specs.declared.resolved.Resolved.{Resolved}
-use Rattle.macho.specs.declared.report.Report as R
 use Rattle.arm64_fixup_entry.specs.Check.{subtracts, check_of}
 use Rattle.arm64_fixup_entry.specs.Change.{change_of}
 use Rattle.arm64_fixup_entry.specs.declared.target.Bases.{Bases}
-use Rattle.macho.specs.declared.refusal.Check.{Check}
-use Rattle.macho.specs.declared.refusal.Check.TheVariants.{Fit}
+use Rattle.macho.specs.declared.refusal.Refusal.{Refusal}
+use Rattle.macho.specs.declared.report.Report.{Report}
 use Rattle.arm64_fixup_entry.specs.declared.change.Write.{Write}
 use Rattle.arm64_fixup_entry.specs.declared.change.Write.TheVariants.{Nothing, Word, Pointer}
-use Rattle.arm64_fixup_entry.specs.declared.change.Told.{Told}
-use Rattle.arm64_fixup_entry.specs.declared.change.Told.TheVariants.{Silent, Report}
 use Rattle.arm64_fixup_entry.specs.declared.change.Change.{Change}
 
 -- entry i of the lent list
@@ -45,17 +42,17 @@ consumed entries zero = false
 consumed entries (suc i) = subtracts (lent_entry entries i).ty && not (consumed entries i)
 
 -- the check of entry i; a consumed one is not looked at
-unfoldable pub check_at : ℕ → Bases → List ℕ → List ℕ → ℕ → Check
+unfoldable pub check_at : ℕ → Bases → List ℕ → List ℕ → ℕ → Result ⊤ Refusal
 check_at len b entries targets i =
-    choose (consumed entries i) Fit (check_of len b (lent_entry entries i) (lent_target targets i) (eqb (i + 1) (entry_count entries)))
+    choose (consumed entries i) (Ok tt) (check_of len b (lent_entry entries i) (lent_target targets i) (eqb (i + 1) (entry_count entries)))
 
 -- the first refusal among the first k entries
-unfoldable pub check_to : ℕ → Bases → List ℕ → List ℕ → ℕ → Check
-check_to len b entries targets zero = Fit
+unfoldable pub check_to : ℕ → Bases → List ℕ → List ℕ → ℕ → Result ⊤ Refusal
+check_to len b entries targets zero = Ok tt
 check_to len b entries targets (suc i) = first (check_to len b entries targets i) (check_at len b entries targets i)
 
 -- the first refusal among all entries
-abbrev pub check_all : ℕ → Bases → List ℕ → List ℕ → Check
+abbrev pub check_all : ℕ → Bases → List ℕ → List ℕ → Result ⊤ Refusal
 check_all len b entries targets = check_to len b entries targets (entry_count entries)
 
 -- the bytes with a write at a place
@@ -65,14 +62,14 @@ stored s at (Word v) = put 4 s at v
 stored s at (Pointer v) = put 8 s at v
 
 -- the reports of what is told
-abbrev pub reports_of : Told → List R.Report
-reports_of Silent = []
-reports_of (Report r) = r ∷ []
+abbrev pub reports_of : Option Report → List Report
+reports_of None = []
+reports_of (Some r) = r ∷ []
 
 -- the section's bytes and the reports so far
 pub record Fixed : Type 0 where
   pub section : List ℕ
-  pub reports : List R.Report
+  pub reports : List Report
 
 -- what an entry i does to the section: the next entry and the word at its place are looked up
 abbrev pub change_by : Bases → List ℕ → List ℕ → List ℕ → ℕ → Reloc → Resolved → Change

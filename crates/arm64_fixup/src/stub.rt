@@ -6,16 +6,8 @@ ghost use Rattle.arm64_fixup.specs.Stub.{stub_size, words_in, stub_answer, thunk
 
 use arm64_insn::page::adrp_reaches;
 use arm64_insn::stub::{Words3, stub_words, thunk_words};
-use macho::refusal::{Check, Refusal};
+use macho::refusal::Refusal;
 use util::write32;
-
-// What became of a stub entry: written, and whether its ADRP reaches the pointer's page.
-#[derive(Clone, Copy)]
-pub enum StubAnswer {
-    Reaches,
-    OutOfReach,
-    Refused(Refusal),
-}
 
 // How many bytes a stub entry has, and a thunk entry.
 const STUB_SIZE: usize = 12;
@@ -31,28 +23,27 @@ fn write_words(buf: &mut [u8], w: Words3)
 }
 
 // The stub entry at `addr` that jumps to what the pointer at `ptr` holds.
-pub fn write_stub(buf: &mut [u8], addr: u64, ptr: u64) -> StubAnswer
+#[tactic(auto, unfolding(crate::specs::Stub::stub_answer, crate::specs::Stub::words_in, util::specs::Choice::choose))]
+pub fn write_stub(buf: &mut [u8], addr: u64, ptr: u64) -> Result<bool, Refusal>
     ensures answer { result ≡ stub_answer buf.old addr ptr }
     ensures bytes { buf.new ≡ words_in buf.old (stub_words addr ptr) }
 {
     if buf.len() < STUB_SIZE {
-        return StubAnswer::Refused(Refusal::Bounds);
+        return Err(Refusal::Bounds);
     }
     write_words(buf, stub_words(addr, ptr));
-    if adrp_reaches(ptr, addr) {
-        return StubAnswer::Reaches;
-    }
-    StubAnswer::OutOfReach
+    Ok(adrp_reaches(ptr, addr))
 }
 
 // The thunk entry at `addr` that jumps to `target`, written where it fits.
-pub fn write_thunk(buf: &mut [u8], addr: u64, target: u64) -> Check
+#[tactic(auto, unfolding(crate::specs::Stub::thunk_check, crate::specs::Stub::words_in, util::specs::Choice::choose))]
+pub fn write_thunk(buf: &mut [u8], addr: u64, target: u64) -> Result<(), Refusal>
     ensures answer { result ≡ thunk_check buf.old }
     ensures bytes { buf.new ≡ words_in buf.old (thunk_words addr target) }
 {
     if buf.len() < STUB_SIZE {
-        return Check::Refused(Refusal::Bounds);
+        return Err(Refusal::Bounds);
     }
     write_words(buf, thunk_words(addr, target));
-    Check::Fit
+    Ok(())
 }

@@ -9,53 +9,49 @@ ghost use Rattle.arm64_fixup.specs.Walk.{entry_count, target_count, taken_by, ch
 ghost use Rattle.arm64_fixup.specs.Answer.{check_lists, filled, answer_to, section_to, slots_to};
 
 use arm64_fixup_entry::change::{
-    Change, Site, Told, Write, authenticated_change, difference, silent, subtractor_value,
+    Change, Site, Write, authenticated_change, difference, silent, subtractor_value,
     unsigned_value, word_change,
 };
 use arm64_fixup_entry::check::{check_entry, subtracts};
 use arm64_fixup_entry::target::{Bases, width_of};
 use macho::consts::{ARM64_RELOC_AUTHENTICATED_POINTER, ARM64_RELOC_UNSIGNED};
 use macho::list::MOST_RECORDS;
-use macho::refusal::{Answer, Check, Refusal};
+use macho::refusal::Refusal;
 use macho::reloc::Reloc;
 use macho::report::Report;
 use macho::resolved::Resolved;
 use util::{read32, write32, write64};
 
 // The numbers of the lists' lengths.
-fn check_lists(entries: usize, targets: usize, slots: usize) -> Check
+#[tactic(auto, unfolding(crate::specs::Answer::check_lists, util::specs::Choice::choose))]
+fn check_lists(entries: usize, targets: usize, slots: usize) -> Result<(), Refusal>
     ensures { result ≡ check_lists entries targets slots }
 {
-    if entries % Reloc::SIZE != 0 {
-        return Check::Refused(Refusal::Lengths);
+    let n = entries / Reloc::SIZE;
+    if entries % Reloc::SIZE != 0
+        || targets % Resolved::SIZE != 0
+        || MOST_RECORDS < n
+        || n != targets / Resolved::SIZE
+    {
+        return Err(Refusal::Lengths);
     }
-    if targets % Resolved::SIZE != 0 {
-        return Check::Refused(Refusal::Lengths);
+    if slots < Report::SIZE * n {
+        return Err(Refusal::Slots);
     }
-    if MOST_RECORDS < entries / Reloc::SIZE {
-        return Check::Refused(Refusal::Lengths);
-    }
-    if entries / Reloc::SIZE != targets / Resolved::SIZE {
-        return Check::Refused(Refusal::Lengths);
-    }
-    if slots < Report::SIZE * (entries / Reloc::SIZE) {
-        return Check::Refused(Refusal::Slots);
-    }
-    Check::Fit
+    Ok(())
 }
 
 // How many entries the work of one takes: a SUBTRACTOR takes the next one too.
+#[tactic(auto, unfolding(util::specs::Choice::choose))]
 fn taken(ty: u8) -> usize
     ensures { result ≡ taken_by ty }
 {
-    if subtracts(ty) {
-        return 2;
-    }
-    1
+    if subtracts(ty) { 2 } else { 1 }
 }
 
 // The first walk: goes through all entries and writes nothing.
-fn check_all(len: usize, bases: Bases, entries: &[u8], targets: &[u8]) -> Check
+// Kept: a SUBTRACTOR takes two entries, so the step of either walk differs by the entry, and a range's does not.
+fn check_all(len: usize, bases: Bases, entries: &[u8], targets: &[u8]) -> Result<(), Refusal>
     requires { entry_count entries.now ≡ target_count targets.now }
     ensures { result ≡ check_all len bases entries.now targets.now }
 {
@@ -64,19 +60,14 @@ fn check_all(len: usize, bases: Bases, entries: &[u8], targets: &[u8]) -> Check
     while i < n {
         let e = Reloc::read(entries, Reloc::SIZE * i);
         let t = Resolved::read(targets, Resolved::SIZE * i);
-        match check_entry(len, bases, e, t, i + 1 == n) {
-            Check::Refused(r) => {
-                return Check::Refused(r);
-            }
-            Check::Fit => {
-                i += taken(e.ty);
-            }
-        }
+        check_entry(len, bases, e, t, i + 1 == n)?;
+        i += taken(e.ty);
     }
-    Check::Fit
+    Ok(())
 }
 
 // What entry i does.
+#[tactic(auto, unfolding(arm64_fixup_entry::specs::Change::change_of, util::specs::Choice::choose))]
 fn change_at(
     buf: &[u8],
     bases: Bases,
@@ -87,7 +78,7 @@ fn change_at(
     t: Resolved,
 ) -> Change
     requires i_bound { (i < entry_count entries.now) × (entry_count entries.now < 2 ^ 32) × (entry_count entries.now ≡ target_count targets.now) }
-    requires entries_value { check_of (length buf.now) bases e t (eqb (i + 1) (entry_count entries.now)) ≡ Check.Fit }
+    requires entries_value { check_of (length buf.now) bases e t (eqb (i + 1) (entry_count entries.now)) ≡ Ok tt }
     ensures { result ≡ change_by bases entries.now targets.now buf.now i e t }
 {
     if e.ty == ARM64_RELOC_AUTHENTICATED_POINTER {
@@ -129,14 +120,15 @@ fn store(buf: &mut [u8], at: usize, w: Write)
 }
 
 // Stores what a change reports in the next slot, and counts it.
-fn tell(slots: &mut [u8], count: usize, told: Told) -> usize
+#[tactic(auto, unfolding(macho::specs::Record::list_bytes))]
+fn tell(slots: &mut [u8], count: usize, told: Option<Report>) -> usize
     requires { report_size * count + report_size ≤ length slots.old }
     ensures count { result ≡ count + length (reports_of told) }
     ensures slots { slots.new ≡ sets slots.old (report_size * count) (list_bytes report_bytes (reports_of told)) }
 {
     match told {
-        Told::Silent => count,
-        Told::Report(r) => {
+        None => count,
+        Some(r) => {
             r.write(slots, Report::SIZE * count);
             count + 1
         }
@@ -145,7 +137,7 @@ fn tell(slots: &mut [u8], count: usize, told: Told) -> usize
 
 // The second walk, after the first has found nothing to turn down: works each entry on what those before it left.
 fn work_all(buf: &mut [u8], bases: Bases, entries: &[u8], targets: &[u8], slots: &mut [u8]) -> usize
-    requires targets_value { check_all (length buf.old) bases entries.now targets.now ≡ Check.Fit }
+    requires targets_value { check_all (length buf.old) bases entries.now targets.now ≡ Ok tt }
     requires entries_value { (entry_count entries.now ≡ target_count targets.now) × (entry_count entries.now < 2 ^ 32)
         × (report_size * entry_count entries.now ≤ length slots.old) }
     ensures count { result ≡ length (fix_all bases entries.now targets.now buf.old).reports }
@@ -159,10 +151,8 @@ fn work_all(buf: &mut [u8], bases: Bases, entries: &[u8], targets: &[u8], slots:
         let e = Reloc::read(entries, Reloc::SIZE * i);
         let t = Resolved::read(targets, Resolved::SIZE * i);
         let c = change_at(buf, bases, entries, targets, i, e, t);
-        let w = c.write;
-        let told = c.told;
-        store(buf, e.offset as usize, w);
-        count = tell(slots, count, told);
+        store(buf, e.offset as usize, c.write);
+        count = tell(slots, count, c.told);
         i += taken(e.ty);
     }
     count
@@ -177,7 +167,7 @@ pub fn apply_reloc_alloc(
     entries: &[u8],
     targets: &[u8],
     slots: &mut [u8],
-) -> Answer
+) -> Result<usize, Refusal>
     ensures answer { result ≡ answer_to buf.old base tls_begin image_base entries.now targets.now slots.old }
     ensures buf { buf.new
         ≡ section_to buf.old base tls_begin image_base entries.now targets.now slots.old }
@@ -189,11 +179,7 @@ pub fn apply_reloc_alloc(
         tls_begin,
         image_base,
     };
-    match check_lists(entries.len(), targets.len(), slots.len()) {
-        Check::Refused(r) => Answer::Refused(r),
-        Check::Fit => match check_all(buf.len(), bases, entries, targets) {
-            Check::Refused(r) => Answer::Refused(r),
-            Check::Fit => Answer::Filled(work_all(buf, bases, entries, targets, slots)),
-        },
-    }
+    check_lists(entries.len(), targets.len(), slots.len())?;
+    check_all(buf.len(), bases, entries, targets)?;
+    Ok(work_all(buf, bases, entries, targets, slots))
 }

@@ -1,4 +1,5 @@
 -- What an entry does, type by type: the tests of its type decide the definition.
+use Rattle.std.specs.Prelude.{Option, None}
 use mathlib.Core.Path.{◌≡◌, refl, ap, ◌∙◌}
 use mathlib.Core.Bool.{Bool, true, false}
 use mathlib.Core.Logic.{⊎_elim}
@@ -19,8 +20,6 @@ use Rattle.arm64_fixup_entry.specs.Roles.{Page, page, got-page, tlv-page, GotOff
 use Rattle.arm64_fixup_entry.specs.declared.target.Bases.{Bases}
 use Rattle.arm64_fixup_entry.specs.declared.change.Site.{Site}
 use Rattle.arm64_fixup_entry.specs.declared.change.Change.{Change}
-use Rattle.arm64_fixup_entry.specs.declared.change.Traced.{Traced}
-use Rattle.arm64_fixup_entry.specs.declared.change.Traced.TheVariants.{Untraced}
 use Rattle.arm64_fixup_entry.specs.declared.change.Write.TheVariants.{Word, Pointer}
 
 -- entry i's number and P
@@ -90,9 +89,9 @@ module _ (b : Bases) (i : ℕ) (e : Reloc) (t : Resolved) (next : Reloc) (next_t
 
 -- BRANCH26 at no tracing site
 pub branch-untraced : (b : Bases) (i : ℕ) (e : Reloc) (t : Resolved) (next : Reloc) (next_target : Resolved) (word : ℕ) → e.ty ≡ ARM64_RELOC_BRANCH26
-    → dtrace_site_insn e t ≡ Untraced → change_of b i e t next next_target word ≡ branch (site_of b i e) e t word
+    → dtrace_site_insn e t ≡ None → change_of b i e t next next_target word ≡ branch (site_of b i e) e t word
 branch-untraced b i e t next next_target word h d =
-    branch-does b i e t next next_target word h ∙ ap (λ (x : Traced). branch_unless x (branch (site_of b i e) e t word)) d
+    branch-does b i e t next next_target word h ∙ ap (λ (x : Option ℕ). branch_unless x (branch (site_of b i e) e t word)) d
 
 -- by role
 helperless : (s : Site) (e : Reloc) (t : Resolved) (word : ℕ) → has_helper t ≡ false → got_page21 s e t word ≡ page21 s (got_target e t) word

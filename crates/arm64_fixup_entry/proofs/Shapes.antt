@@ -1,15 +1,13 @@
 -- What the change of a word can be: a word with no report, a word with a report of reach, no word with a report on it, or nothing.
+use Rattle.std.specs.Prelude.{Result, Ok, Err, Option, Some, None}
 use Prim.Native.Nat.{ℕ}
 use Rattle.util.proofs.Choice.{chosen}
 use Rattle.macho.specs.declared.reloc.Reloc.{Reloc}
 use Rattle.macho.specs.declared.resolved.Resolved.{Resolved}
 use Rattle.arm64_insn.specs.Fix.{offset_with}
-use Rattle.arm64_insn.specs.declared.fix.OffsetWord.{OffsetWord}
 use Rattle.arm64_fixup_entry.specs.Change.{silent, reported, reach_report, word_report, branch_unless, dtrace_site_insn, branch, page21, fitted}
 use Rattle.arm64_fixup_entry.specs.Change.{pageoff12, got_page21, relaxed, got_pageoff12, word_change}
 use Rattle.arm64_fixup_entry.specs.declared.change.Site.{Site}
-use Rattle.arm64_fixup_entry.specs.declared.change.Traced.{Traced}
-use Rattle.arm64_fixup_entry.specs.declared.change.Traced.TheVariants.{Insn, Untraced}
 use Rattle.arm64_fixup_entry.specs.declared.change.Write.TheVariants.{Nothing, Word}
 use Rattle.arm64_fixup_entry.specs.declared.change.Change.{Change}
 
@@ -21,9 +19,9 @@ module _ (P : Change → Type 0) (s : Site) (none : P (silent Nothing)) (plain :
     unfolding page21
     of-page target word = chosen P _ _ _ (plain _) (far _ _ _)
 
-    of-fit : (f : OffsetWord) → P (fitted s f)
-    of-fit (OffsetWord.Word w) = plain w
-    of-fit (OffsetWord.Misaligned n) = unfit _ _
+    of-fit : (f : Result ℕ ℕ) → P (fitted s f)
+    of-fit (Ok w) = plain w
+    of-fit (Err n) = unfit _ _
 
     of-offset : (target word : ℕ) → P (pageoff12 s target word)
     unfolding pageoff12
@@ -33,9 +31,9 @@ module _ (P : Change → Type 0) (s : Site) (none : P (silent Nothing)) (plain :
     unfolding branch
     of-branch e t word = chosen P _ _ _ (plain _) (chosen P _ _ _ (plain _) (far _ _ _))
 
-    of-unless : (d : Traced) (c : Change) → P c → P (branch_unless d c)
-    of-unless (Insn w) c h = plain w
-    of-unless Untraced c h = h
+    of-unless : (d : Option ℕ) (c : Change) → P c → P (branch_unless d c)
+    of-unless (Some w) c h = plain w
+    of-unless None c h = h
 
     of-got-page : (e : Reloc) (t : Resolved) (word : ℕ) → P (got_page21 s e t word)
     unfolding got_page21

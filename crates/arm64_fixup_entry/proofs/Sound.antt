@@ -1,4 +1,5 @@
 -- What a passed check says: each test of the chain failed.
+use Rattle.std.specs.Prelude.{Result, Ok, Err, ⊤}
 use mathlib.Core.Path.{◌≡◌, refl, sym, ◌∙◌}
 use mathlib.Core.Bool.{Bool, true, false, true≢false}
 use Prim.Native.Nat.{ℕ, ◌+◌, ◌-◌, ◌^◌, ◌≤◌, ◌<◌}
@@ -13,8 +14,6 @@ use Rattle.macho.specs.declared.refusal.Refusal.{Refusal}
 use Rattle.arm64_fixup_entry.specs.Target.{imported_symbol, address_of, from_image, width_of}
 use Rattle.arm64_fixup_entry.specs.Check.{outside, misflagged, overflows, unsupported, subtracts, lacks_next, lacks_symbol, too_far, short, check_of}
 use Rattle.arm64_fixup_entry.specs.declared.target.Bases.{Bases}
-use Rattle.macho.specs.declared.refusal.Check.{Check}
-use Rattle.macho.specs.declared.refusal.Check.TheVariants.{Fit, Refused}
 
 -- an entry that is turned down with no number
 pub record Sound (len : ℕ) (b : Bases) (e : Reloc) (t : Resolved) (last : Bool) : Type 0 where
@@ -27,12 +26,12 @@ pub record Sound (len : ℕ) (b : Bases) (e : Reloc) (t : Resolved) (last : Bool
   pub inside : e.offset + width_of e t ≤ len
 
 -- a test that was passed
-pub passed : (t : Bool) (r : Refusal) (c : Check) → choose t (Refused r) c ≡ Fit → (t ≡ false) × (c ≡ Fit)
+pub passed : (t : Bool) (r : Refusal) (c : Result ⊤ Refusal) → choose t (Err r) c ≡ Ok tt → (t ≡ false) × (c ≡ Ok tt)
 unfolding choose
 passed true r c e = let z : ◌≡◌ {A = ℕ} 0 1 = cc in absurd (omega arith)
 passed false r c e = (refl, e)
 
-pub sound : (len : ℕ) (b : Bases) (e : Reloc) (t : Resolved) (last : Bool) → check_of len b e t last ≡ Fit → Sound len b e t last
+pub sound : (len : ℕ) (b : Bases) (e : Reloc) (t : Resolved) (last : Bool) → check_of len b e t last ≡ Ok tt → Sound len b e t last
 unfolding check_of
 sound len b e t last h =
     let p₁ = passed (outside len e) _ _ h in
@@ -55,7 +54,7 @@ sound len b e t last h =
 
 -- a SUBTRACTOR that passes is not the last entry
 pub followed : (len : ℕ) (b : Bases) (e : Reloc) (t : Resolved) (i n : ℕ)
-    → check_of len b e t (eqb (i + 1) n) ≡ Fit → subtracts e.ty ≡ true → i < n → i + 1 < n
+    → check_of len b e t (eqb (i + 1) n) ≡ Ok tt → subtracts e.ty ≡ true → i < n → i + 1 < n
 followed len b e t i n h s l =
     let e : eqb (i + 1) n ≡ false = go (eqb (i + 1) n) (sound len b e t _ h).paired in
     omega (arith, eqb-false (i + 1) n e)

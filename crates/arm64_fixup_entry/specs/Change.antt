@@ -1,5 +1,5 @@
 -- What one entry does to the section and reports (RULES 5.9 to 5.23; arch/arm64.rs, `apply_reloc_alloc`).
-use Rattle.std.specs.Prelude.{ℕ, ◌%◌, ◌^◌, Bool, ◌&&◌, ◌||◌, eqb}
+use Rattle.std.specs.Prelude.{ℕ, ◌%◌, ◌^◌, Bool, ◌&&◌, ◌||◌, eqb, Result, Ok, Err, Option, Some, None}
 use Rattle.util.specs.Choice.{choose}
 use Rattle.util.specs.Wrap.{sum, diff}
 use Rattle.util.specs.Diagram.{matches}
@@ -16,16 +16,12 @@ use Rattle.arm64_insn.specs.Encoding.{add, ldr_immediate}
 use Rattle.arm64_insn.specs.Reach.{adrp_reaches}
 use Rattle.arm64_insn.specs.Branch.{branch_reaches, branch_word, helper_word}
 use Rattle.arm64_insn.specs.Fix.{nop_word, is_enabled_word, adrp_with, offset_with, relaxed_word}
-use Rattle.arm64_insn.specs.declared.fix.OffsetWord.{OffsetWord}
 use Rattle.arm64_fixup_entry.specs.Target.{is_symbol, imported_symbol, address_of, target_of, slot_of, got_target, from_image, width_of}
 use Rattle.arm64_fixup_entry.specs.Check.{subtracts}
 use Rattle.arm64_fixup_entry.specs.declared.target.Bases.{Bases}
 use Rattle.arm64_fixup_entry.specs.declared.change.Site.{Site}
-use Rattle.arm64_fixup_entry.specs.declared.change.Traced.{Traced}
-use Rattle.arm64_fixup_entry.specs.declared.change.Traced.TheVariants.{Insn, Untraced}
 use Rattle.arm64_fixup_entry.specs.declared.change.Write.{Write}
 use Rattle.arm64_fixup_entry.specs.declared.change.Write.TheVariants.{Nothing, Word, Pointer}
-use Rattle.arm64_fixup_entry.specs.declared.change.Told.TheVariants.{Silent, Report}
 use Rattle.arm64_fixup_entry.specs.declared.change.Change.{Change}
 
 -- how many bytes a write stores
@@ -36,11 +32,11 @@ bytes_in (Pointer v) = 8
 
 -- a write with no report
 abbrev pub silent : Write → Change
-silent w = record { write = w; told = Silent }
+silent w = record { write = w; told = None }
 
 -- a write with a report
 abbrev pub reported : Write → R.Report → Change
-reported w r = record { write = w; told = Report r }
+reported w r = record { write = w; told = Some r }
 
 -- a report of kind 1 or 2, with P and the target
 abbrev pub reach_report : Site → ℕ → ℕ → R.Report
@@ -71,8 +67,8 @@ unfoldable pub difference : Reloc → ℕ → Change
 difference e value = choose (eqb e.size 4) (silent (Word (value % 2 ^ 32))) (silent (Pointer value))
 
 -- what the branch of a tracing site becomes: NOP for a symbol's probe, "movz x0, #0" for is-enabled
-unfoldable pub dtrace_site_insn : Reloc → Resolved → Traced
-dtrace_site_insn e t = choose (is_symbol e) (choose (is_probe t) (Insn nop_word) (choose (is_enabled t) (Insn is_enabled_word) Untraced)) Untraced
+unfoldable pub dtrace_site_insn : Reloc → Resolved → Option ℕ
+dtrace_site_insn e t = choose (is_symbol e) (choose (is_probe t) (Some nop_word) (choose (is_enabled t) (Some is_enabled_word) None)) None
 
 -- T: the branch target of a symbol, S of a section, plus A
 unfoldable pub branch_target : Reloc → Resolved → ℕ
@@ -96,9 +92,9 @@ displacement e t p =
     (choose (thunk_serves e t (branch_target e t)) (diff t.thunk p) (diff (branch_target e t) p))
 
 -- BRANCH26, a tracing site first
-abbrev pub branch_unless : Traced → Change → Change
-branch_unless (Insn w) c = silent (Word w)
-branch_unless Untraced c = c
+abbrev pub branch_unless : Option ℕ → Change → Change
+branch_unless (Some w) c = silent (Word w)
+branch_unless None c = c
 
 -- ADRP to the target's page; out of reach report 1, with the word all the same
 unfoldable pub page21 : Site → ℕ → ℕ → Change
@@ -107,9 +103,9 @@ page21 s target word =
     (reported (Word (adrp_with word target s.addr)) (reach_report s adrp_reach target))
 
 -- a word with its page offset; report 3 where the access size does not divide the target
-abbrev pub fitted : Site → OffsetWord → Change
-fitted s (OffsetWord.Word w) = silent (Word w)
-fitted s (OffsetWord.Misaligned n) = reported Nothing (word_report s alignment n)
+abbrev pub fitted : Site → Result ℕ ℕ → Change
+fitted s (Ok w) = silent (Word w)
+fitted s (Err n) = reported Nothing (word_report s alignment n)
 
 -- PAGEOFF12: the target's page offset
 unfoldable pub pageoff12 : Site → ℕ → ℕ → Change

@@ -1,5 +1,5 @@
 -- Which number an entry of a fix-up is turned down with (RULES 5.5 to 5.8).
-use Rattle.std.specs.Prelude.{ℕ, ◌-◌, ◌^◌, Bool, ◌&&◌, ◌||◌, not, eqb, ltb, leb}
+use Rattle.std.specs.Prelude.{ℕ, ◌-◌, ◌^◌, Bool, ◌&&◌, ◌||◌, not, eqb, ltb, leb, Result, Ok, Err, ⊤}
 use Rattle.util.specs.Choice.{choose}
 use Rattle.macho.specs.Types.{ARM64_RELOC_SUBTRACTOR, ARM64_RELOC_GOT_LOAD_PAGE21, ARM64_RELOC_GOT_LOAD_PAGEOFF12, ARM64_RELOC_POINTER_TO_GOT}
 use Rattle.macho.specs.Types.{ARM64_RELOC_TLVP_LOAD_PAGE21, ARM64_RELOC_TLVP_LOAD_PAGEOFF12, ARM64_RELOC_ADDEND, ARM64_RELOC_AUTHENTICATED_POINTER}
@@ -10,8 +10,7 @@ use Rattle.macho.specs.declared.resolved.Resolved.{Resolved}
 use Rattle.macho.specs.declared.refusal.Refusal.TheVariants.{Bounds, Flags, Overflow, Unsupported, LoneSubtractor, NeedsSymbol, FarFromImage}
 use Rattle.arm64_fixup_entry.specs.Target.{imported_symbol, address_of, from_image, width_of}
 use Rattle.arm64_fixup_entry.specs.declared.target.Bases.{Bases}
-use Rattle.macho.specs.declared.refusal.Check.{Check}
-use Rattle.macho.specs.declared.refusal.Check.TheVariants.{Fit, Refused}
+use Rattle.macho.specs.declared.refusal.Refusal.{Refusal}
 
 -- number 3: the offset is past the section
 abbrev pub outside : ℕ → Reloc → Bool
@@ -59,21 +58,21 @@ abbrev pub short : ℕ → Reloc → Resolved → Bool
 short len e t = ltb (len - e.offset) (width_of e t)
 
 -- the first number of an entry of a type from 10 up, with so many bytes at its offset: 5, 10, 16, 3
-unfoldable pub late_of : ℕ → Bases → Reloc → Resolved → Check
+unfoldable pub late_of : ℕ → Bases → Reloc → Resolved → Result ⊤ Refusal
 late_of room b e t =
-    choose (unsupported e.ty) (Refused Unsupported)
-    (choose (lacks_symbol e t) (Refused NeedsSymbol)
-    (choose (too_far b e t) (Refused FarFromImage)
-    (choose (ltb room (width_of e t)) (Refused Bounds) Fit)))
+    choose (unsupported e.ty) (Err Unsupported)
+    (choose (lacks_symbol e t) (Err NeedsSymbol)
+    (choose (too_far b e t) (Err FarFromImage)
+    (choose (ltb room (width_of e t)) (Err Bounds) (Ok tt))))
 
 -- the first number of one entry, in the order of RULES 5.6: 3 (offset), 11, 9, 5, 8, 10, 16, 3
-unfoldable pub check_of : ℕ → Bases → Reloc → Resolved → Bool → Check
+unfoldable pub check_of : ℕ → Bases → Reloc → Resolved → Bool → Result ⊤ Refusal
 check_of len b e t last =
-    choose (outside len e) (Refused Bounds)
-    (choose (misflagged t) (Refused Flags)
-    (choose (overflows b e) (Refused Overflow)
-    (choose (unsupported e.ty) (Refused Unsupported)
-    (choose (lacks_next e.ty last) (Refused LoneSubtractor)
-    (choose (lacks_symbol e t) (Refused NeedsSymbol)
-    (choose (too_far b e t) (Refused FarFromImage)
-    (choose (short len e t) (Refused Bounds) Fit)))))))
+    choose (outside len e) (Err Bounds)
+    (choose (misflagged t) (Err Flags)
+    (choose (overflows b e) (Err Overflow)
+    (choose (unsupported e.ty) (Err Unsupported)
+    (choose (lacks_next e.ty last) (Err LoneSubtractor)
+    (choose (lacks_symbol e t) (Err NeedsSymbol)
+    (choose (too_far b e t) (Err FarFromImage)
+    (choose (short len e t) (Err Bounds) (Ok tt))))))))

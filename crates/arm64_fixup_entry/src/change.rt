@@ -1,13 +1,14 @@
 // What one entry does to the section and reports: one function for each group of types (apply_reloc_alloc).
 ghost use Rattle.std.specs.Prelude.{◌≡◌, ◌<◌};
+ghost use Rattle.macho.specs.Report.{kind_number};
 ghost use Rattle.arm64_fixup_entry.specs.Change.{silent, reported, reach_report, word_report, unsigned_value, authenticated_value, authenticated_change};
 ghost use Rattle.arm64_fixup_entry.specs.Change.{subtractor_value, difference, dtrace_site_insn, branch_target, thunk_serves, branch, branch_unless, page21, pageoff12};
-ghost use Rattle.arm64_fixup_entry.specs.Change.{got_page21, can_relax, relaxed, got_pageoff12, pointer_to_got, is_got_offset, word_change};
+ghost use Rattle.arm64_fixup_entry.specs.Change.{got_page21, can_relax, relaxed, got_pageoff12, pointer_to_got, word_change};
 
 use crate::target::{Bases, from_image, got_target, is_imported_symbol, slot_of, target_of};
 use arm64_insn::add::is_add;
 use arm64_insn::branch::{branch_reaches, branch_word, helper_word};
-use arm64_insn::fix::{OffsetWord, relaxed_word, write_add_ldst_word, write_adrp_word};
+use arm64_insn::fix::{relaxed_word, write_add_ldst_word, write_adrp_word};
 use arm64_insn::ldst::is_ldr_imm;
 use arm64_insn::page::adrp_reaches;
 use macho::authenticated::authenticated_word;
@@ -17,7 +18,7 @@ use macho::consts::{
     ARM64_RELOC_TLVP_LOAD_PAGE21, ARM64_RELOC_TLVP_LOAD_PAGEOFF12,
 };
 use macho::reloc::Reloc;
-use macho::report::Report;
+use macho::report::{Kind, Report};
 use macho::resolved::Resolved;
 
 // An entry's number, and P: base plus offset.
@@ -35,25 +36,11 @@ pub enum Write {
     Pointer(u64),
 }
 
-// What an entry reports.
-#[derive(Clone, Copy)]
-pub enum Told {
-    Silent,
-    Report(Report),
-}
-
 // What an entry does.
 #[derive(Clone, Copy)]
 pub struct Change {
     pub write: Write,
-    pub told: Told,
-}
-
-// What the branch of a tracing site becomes.
-#[derive(Clone, Copy)]
-pub enum Traced {
-    Insn(u32),
-    Untraced,
+    pub told: Option<Report>,
 }
 
 // A write with no report.
@@ -62,19 +49,19 @@ pub fn silent(w: Write) -> Change
 {
     Change {
         write: w,
-        told: Told::Silent,
+        told: None,
     }
 }
 
 // A write with a report of ADRP or branch reach.
-fn out_of_reach(s: Site, kind: u8, target: u64, word: u32) -> Change
-    ensures { result ≡ reported (Write.Word word) (reach_report s kind target) }
+fn out_of_reach(s: Site, kind: Kind, target: u64, word: u32) -> Change
+    ensures { result ≡ reported (Write.Word word) (reach_report s (kind_number kind) target) }
 {
     Change {
         write: Write::Word(word),
-        told: Told::Report(Report {
+        told: Some(Report {
             entry: s.entry,
-            kind,
+            kind: kind.number(),
             size: 0,
             place: s.addr,
             target,
@@ -83,14 +70,14 @@ fn out_of_reach(s: Site, kind: u8, target: u64, word: u32) -> Change
 }
 
 // A report of alignment or of a non-LDR word, which is left as it is.
-fn unfit(s: Site, kind: u8, size: u8) -> Change
-    ensures { result ≡ reported Write.Nothing (word_report s kind size) }
+fn unfit(s: Site, kind: Kind, size: u8) -> Change
+    ensures { result ≡ reported Write.Nothing (word_report s (kind_number kind) size) }
 {
     Change {
         write: Write::Nothing,
-        told: Told::Report(Report {
+        told: Some(Report {
             entry: s.entry,
-            kind,
+            kind: kind.number(),
             size,
             place: 0,
             target: 0,
@@ -99,6 +86,7 @@ fn unfit(s: Site, kind: u8, size: u8) -> Change
 }
 
 // UNSIGNED's value: S + A, a thread-local's from the start of thread-local storage.
+#[tactic(auto, unfolding(crate::specs::Change::unsigned_value, util::specs::Choice::choose))]
 pub fn unsigned_value(bases: Bases, e: Reloc, t: Resolved) -> u64
     ensures { result ≡ unsigned_value bases e t }
 {
@@ -110,6 +98,7 @@ pub fn unsigned_value(bases: Bases, e: Reloc, t: Resolved) -> u64
 }
 
 // AUTHENTICATED_POINTER's value: S + A less the image base in its low half, and how it is signed.
+#[tactic(auto, unfolding(crate::specs::Change::authenticated_value, util::specs::Choice::choose))]
 fn authenticated_value(bases: Bases, e: Reloc, t: Resolved) -> u64
     ensures { result ≡ authenticated_value bases e t }
 {
@@ -117,6 +106,7 @@ fn authenticated_value(bases: Bases, e: Reloc, t: Resolved) -> u64
 }
 
 // An AUTHENTICATED_POINTER: nothing for an imported symbol, else its value.
+#[tactic(auto, unfolding(crate::specs::Change::authenticated_change, util::specs::Choice::choose))]
 pub fn authenticated_change(bases: Bases, e: Reloc, t: Resolved) -> Change
     ensures { result ≡ authenticated_change bases e t }
 {
@@ -127,6 +117,7 @@ pub fn authenticated_change(bases: Bases, e: Reloc, t: Resolved) -> Change
 }
 
 // SUBTRACTOR's value: the next entry's S + A, minus the own S.
+#[tactic(auto, unfolding(crate::specs::Change::subtractor_value, util::specs::Choice::choose))]
 pub fn subtractor_value(t: Resolved, next: Reloc, next_target: Resolved) -> u64
     ensures { result ≡ subtractor_value t next next_target }
 {
@@ -134,6 +125,7 @@ pub fn subtractor_value(t: Resolved, next: Reloc, next_target: Resolved) -> u64
 }
 
 // A SUBTRACTOR's value in the bytes of its own size field.
+#[tactic(auto, unfolding(crate::specs::Change::difference, util::specs::Choice::choose))]
 pub fn difference(e: Reloc, value: u64) -> Change
     ensures { result ≡ difference e value }
 {
@@ -144,22 +136,24 @@ pub fn difference(e: Reloc, value: u64) -> Change
 }
 
 // What a tracing site's branch becomes: NOP for a probe, "movz x0, #0" for an is-enabled test.
-fn dtrace_site_insn(e: Reloc, t: Resolved) -> Traced
+#[tactic(auto, unfolding(crate::specs::Change::dtrace_site_insn, util::specs::Choice::choose))]
+fn dtrace_site_insn(e: Reloc, t: Resolved) -> Option<u32>
     ensures { result ≡ dtrace_site_insn e t }
 {
     if e.is_section() {
-        return Traced::Untraced;
+        return None;
     }
     if t.is_probe() {
-        return Traced::Insn(arm64_insn::fix::NOP);
+        return Some(arm64_insn::fix::NOP);
     }
     if t.is_enabled() {
-        return Traced::Insn(arm64_insn::fix::IS_ENABLED);
+        return Some(arm64_insn::fix::IS_ENABLED);
     }
-    Traced::Untraced
+    None
 }
 
 // Where a branch goes: the symbol's branch target, or the section's address, plus A.
+#[tactic(auto, unfolding(crate::specs::Change::branch_target, util::specs::Choice::choose))]
 fn branch_target(e: Reloc, t: Resolved) -> u64
     ensures { result ≡ branch_target e t }
 {
@@ -170,22 +164,15 @@ fn branch_target(e: Reloc, t: Resolved) -> u64
 }
 
 // Whether a branch may go through the symbol's thunk: an entry of it jumps to the symbol, so a branch with an addend can't take it.
+#[tactic(auto, unfolding(crate::specs::Change::thunk_serves, util::specs::Choice::choose))]
 fn thunk_serves(e: Reloc, t: Resolved, target: u64) -> bool
     ensures { result ≡ thunk_serves e t target }
 {
-    if e.is_section() {
-        return false;
-    }
-    if !t.has_thunk() {
-        return false;
-    }
-    if e.addend != 0 {
-        return false;
-    }
-    adrp_reaches(target, t.thunk)
+    !e.is_section() && t.has_thunk() && e.addend == 0 && adrp_reaches(target, t.thunk)
 }
 
 // A branch to T: straight where it reaches, else through a thunk that serves, else as if it reached, with a report.
+#[tactic(auto, unfolding(crate::specs::Change::branch, util::specs::Choice::choose))]
 fn branch(s: Site, e: Reloc, t: Resolved, word: u32) -> Change
     ensures { result ≡ branch s e t word }
 {
@@ -197,7 +184,7 @@ fn branch(s: Site, e: Reloc, t: Resolved, word: u32) -> Change
     if thunk_serves(e, t, target) {
         return silent(Write::Word(branch_word(word, util::wrapping_sub(t.thunk, s.addr))));
     }
-    out_of_reach(s, Report::BRANCH_REACH, target, direct)
+    out_of_reach(s, Kind::BranchReach, target, direct)
 }
 
 // BRANCH26.
@@ -205,12 +192,13 @@ pub fn branch26(s: Site, e: Reloc, t: Resolved, word: u32) -> Change
     ensures { result ≡ branch_unless (dtrace_site_insn e t) (branch s e t word) }
 {
     match dtrace_site_insn(e, t) {
-        Traced::Insn(insn) => silent(Write::Word(insn)),
-        Traced::Untraced => branch(s, e, t, word),
+        Some(insn) => silent(Write::Word(insn)),
+        None => branch(s, e, t, word),
     }
 }
 
 // An ADRP to the target's page.
+#[tactic(auto, unfolding(crate::specs::Change::page21, util::specs::Choice::choose))]
 pub fn page21(s: Site, target: u64, word: u32) -> Change
     ensures { result ≡ page21 s target word }
 {
@@ -218,20 +206,22 @@ pub fn page21(s: Site, target: u64, word: u32) -> Change
     if adrp_reaches(target, s.addr) {
         return silent(Write::Word(insn));
     }
-    out_of_reach(s, Report::ADRP_REACH, target, insn)
+    out_of_reach(s, Kind::AdrpReach, target, insn)
 }
 
 // An ADD, LDR or STR with the target's page offset.
+#[tactic(auto, unfolding(crate::specs::Change::pageoff12, util::specs::Choice::choose))]
 pub fn pageoff12(s: Site, target: u64, word: u32) -> Change
     ensures { result ≡ pageoff12 s target word }
 {
     match write_add_ldst_word(word, target) {
-        OffsetWord::Word(insn) => silent(Write::Word(insn)),
-        OffsetWord::Misaligned(size) => unfit(s, Report::ALIGNMENT, size as u8),
+        Ok(insn) => silent(Write::Word(insn)),
+        Err(size) => unfit(s, Kind::Alignment, size as u8),
     }
 }
 
 // GOT_LOAD_PAGE21: a branch to the helper in place of the ADRP, where there is one.
+#[tactic(auto, unfolding(crate::specs::Change::got_page21, util::specs::Choice::choose))]
 pub fn got_page21(s: Site, e: Reloc, t: Resolved, word: u32) -> Change
     ensures { result ≡ got_page21 s e t word }
 {
@@ -246,26 +236,22 @@ pub fn got_page21(s: Site, e: Reloc, t: Resolved, word: u32) -> Change
 fn can_relax(ty: u8, word: u32) -> bool
     ensures { result ≡ can_relax ty word }
 {
-    if is_ldr_imm(word) {
-        return true;
-    }
-    if ty == ARM64_RELOC_GOT_LOAD_PAGEOFF12 {
-        return is_add(word);
-    }
-    false
+    is_ldr_imm(word) || (ty == ARM64_RELOC_GOT_LOAD_PAGEOFF12 && is_add(word))
 }
 
 // A relaxed page offset: the LDR becomes an ADD.
+#[tactic(auto, unfolding(crate::specs::Change::relaxed, util::specs::Choice::choose))]
 fn relaxed(s: Site, ty: u8, target: u64, word: u32) -> Change
     ensures { result ≡ relaxed s ty target word }
 {
     if can_relax(ty, word) {
         return silent(Write::Word(relaxed_word(word, target)));
     }
-    unfit(s, Report::NON_LDR, 0)
+    unfit(s, Kind::NonLdr, 0)
 }
 
 // GOT_LOAD_PAGEOFF12 and TLVP_LOAD_PAGEOFF12.
+#[tactic(auto, unfolding(crate::specs::Change::got_pageoff12, util::specs::Choice::choose))]
 pub fn got_pageoff12(s: Site, e: Reloc, t: Resolved, word: u32) -> Change
     ensures { result ≡ got_pageoff12 s e t word }
 {
@@ -276,46 +262,28 @@ pub fn got_pageoff12(s: Site, e: Reloc, t: Resolved, word: u32) -> Change
 }
 
 // POINTER_TO_GOT's value.
+#[tactic(auto, unfolding(crate::specs::Change::pointer_to_got, util::specs::Choice::choose))]
 pub fn pointer_to_got(s: Site, e: Reloc, t: Resolved) -> u32
     ensures { result ≡ pointer_to_got s e t }
 {
     (util::wrapping_sub(slot_of(e, t), s.addr) % 0x1_0000_0000) as u32
 }
 
-// Whether a type puts the page offset of a GOT or TLVP slot into a word.
-fn is_got_offset(ty: u8) -> bool
-    ensures { result ≡ is_got_offset ty }
-{
-    if ty == ARM64_RELOC_GOT_LOAD_PAGEOFF12 {
-        return true;
-    }
-    ty == ARM64_RELOC_TLVP_LOAD_PAGEOFF12
-}
-
 // The types that work on the word at the place; any other number does nothing, and the check turns down 10 and those above 11.
+#[tactic(auto, unfolding(crate::specs::Change::word_change, util::specs::Choice::choose))]
 pub fn word_change(s: Site, e: Reloc, t: Resolved, word: u32) -> Change
     ensures { result ≡ word_change s e t word }
 {
-    if e.ty == ARM64_RELOC_BRANCH26 {
-        return branch26(s, e, t, word);
+    match e.ty {
+        ARM64_RELOC_BRANCH26 => branch26(s, e, t, word),
+        ARM64_RELOC_PAGE21 => page21(s, target_of(e, t), word),
+        ARM64_RELOC_PAGEOFF12 => pageoff12(s, target_of(e, t), word),
+        ARM64_RELOC_GOT_LOAD_PAGE21 => got_page21(s, e, t, word),
+        ARM64_RELOC_TLVP_LOAD_PAGE21 => page21(s, got_target(e, t), word),
+        ARM64_RELOC_POINTER_TO_GOT => silent(Write::Word(pointer_to_got(s, e, t))),
+        ARM64_RELOC_GOT_LOAD_PAGEOFF12 | ARM64_RELOC_TLVP_LOAD_PAGEOFF12 => got_pageoff12(
+            s, e, t, word,
+        ),
+        _ => silent(Write::Nothing),
     }
-    if e.ty == ARM64_RELOC_PAGE21 {
-        return page21(s, target_of(e, t), word);
-    }
-    if e.ty == ARM64_RELOC_PAGEOFF12 {
-        return pageoff12(s, target_of(e, t), word);
-    }
-    if e.ty == ARM64_RELOC_GOT_LOAD_PAGE21 {
-        return got_page21(s, e, t, word);
-    }
-    if e.ty == ARM64_RELOC_TLVP_LOAD_PAGE21 {
-        return page21(s, got_target(e, t), word);
-    }
-    if e.ty == ARM64_RELOC_POINTER_TO_GOT {
-        return silent(Write::Word(pointer_to_got(s, e, t)));
-    }
-    if is_got_offset(e.ty) {
-        return got_pageoff12(s, e, t, word);
-    }
-    silent(Write::Nothing)
 }

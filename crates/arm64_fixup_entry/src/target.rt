@@ -1,6 +1,6 @@
 // What an entry and its resolved target say together.
 ghost use Rattle.std.specs.Prelude.{◌≡◌};
-ghost use Rattle.arm64_fixup_entry.specs.Target.{target_of, slot_of, got_target, from_image, imported_symbol, is_pointer, acts_on_address, width_of};
+ghost use Rattle.arm64_fixup_entry.specs.Target.{target_of, slot_of, got_target, from_image, imported_symbol, width_of};
 
 use macho::consts::{
     ARM64_RELOC_AUTHENTICATED_POINTER, ARM64_RELOC_PAGE21, ARM64_RELOC_PAGEOFF12,
@@ -18,6 +18,7 @@ pub struct Bases {
 }
 
 // S + A.
+#[tactic(auto, unfolding(crate::specs::Target::target_of))]
 pub fn target_of(e: Reloc, t: Resolved) -> u64
     ensures { result ≡ target_of e t }
 {
@@ -25,6 +26,7 @@ pub fn target_of(e: Reloc, t: Resolved) -> u64
 }
 
 // G + A.
+#[tactic(auto, unfolding(crate::specs::Target::slot_of))]
 pub fn slot_of(e: Reloc, t: Resolved) -> u64
     ensures { result ≡ slot_of e t }
 {
@@ -32,6 +34,7 @@ pub fn slot_of(e: Reloc, t: Resolved) -> u64
 }
 
 // What a GOT or thread-local load refers to: S + A where it is relaxed, else G + A.
+#[tactic(auto, unfolding(crate::specs::Target::got_target, util::specs::Choice::choose))]
 pub fn got_target(e: Reloc, t: Resolved) -> u64
     ensures { result ≡ got_target e t }
 {
@@ -42,6 +45,7 @@ pub fn got_target(e: Reloc, t: Resolved) -> u64
 }
 
 // S + A less the image base.
+#[tactic(auto, unfolding(crate::specs::Target::from_image))]
 pub fn from_image(bases: Bases, e: Reloc, t: Resolved) -> u64
     ensures { result ≡ from_image bases e t }
 {
@@ -52,53 +56,20 @@ pub fn from_image(bases: Bases, e: Reloc, t: Resolved) -> u64
 pub fn is_imported_symbol(e: Reloc, t: Resolved) -> bool
     ensures { result ≡ imported_symbol e t }
 {
-    if e.is_section() {
-        return false;
-    }
-    t.is_imported()
-}
-
-// Whether a type writes a pointer, but for an imported symbol.
-fn is_pointer(ty: u8) -> bool
-    ensures { result ≡ is_pointer ty }
-{
-    if ty == ARM64_RELOC_UNSIGNED {
-        return true;
-    }
-    ty == ARM64_RELOC_AUTHENTICATED_POINTER
-}
-
-// Whether a type does nothing to a target without an address.
-fn acts_on_address(ty: u8) -> bool
-    ensures { result ≡ acts_on_address ty }
-{
-    if ty == ARM64_RELOC_PAGE21 {
-        return true;
-    }
-    ty == ARM64_RELOC_PAGEOFF12
+    !e.is_section() && t.is_imported()
 }
 
 // How many bytes at its offset an entry reads or writes.
+#[tactic(auto, unfolding(crate::specs::Target::width_of, util::specs::Choice::choose))]
 pub fn width_of(e: Reloc, t: Resolved) -> usize
     ensures { result ≡ width_of e t }
 {
-    if is_pointer(e.ty) {
-        if is_imported_symbol(e, t) {
-            return 0;
+    match e.ty {
+        ARM64_RELOC_UNSIGNED | ARM64_RELOC_AUTHENTICATED_POINTER => {
+            if is_imported_symbol(e, t) { 0 } else { 8 }
         }
-        return 8;
+        ARM64_RELOC_SUBTRACTOR => { if e.size == 4 { 4 } else { 8 } }
+        ARM64_RELOC_PAGE21 | ARM64_RELOC_PAGEOFF12 => { if t.has_address() { 4 } else { 0 } }
+        _ => 4,
     }
-    if e.ty == ARM64_RELOC_SUBTRACTOR {
-        if e.size == 4 {
-            return 4;
-        }
-        return 8;
-    }
-    if acts_on_address(e.ty) {
-        if t.has_address() {
-            return 4;
-        }
-        return 0;
-    }
-    4
 }

@@ -1,4 +1,5 @@
 -- What is ignored of a hint changes no check: lists of hints that agree in the rest are turned down alike. Carried by equal tests, hint by hint.
+use Rattle.std.specs.Prelude.{Ok}
 use mathlib.Core.Path.{◌≡◌, refl, ap, ap₂, ◌∙◌}
 use mathlib.Core.Bool.{true}
 use mathlib.Core.List.{List}
@@ -10,7 +11,6 @@ use Rattle.macho.specs.Refusal.{first}
 use Rattle.macho.specs.Reloc.{reloc_size}
 use Rattle.macho.specs.declared.hint.HintRecord.{HintRecord}
 use Rattle.macho.specs.Hint.{hint_size, hint_count, hint_of}
-use Rattle.macho.specs.declared.refusal.Check.TheVariants.{Fit}
 use Rattle.arm64_hint_places.specs.Hint.{is_skipped}
 use Rattle.arm64_hint_places.proofs.Alike.{Alike, same-skip}
 use Rattle.arm64_hint_check.specs.Check.{check_hint, check_lists, check_to, check_all}
@@ -20,9 +20,9 @@ unfolding check_hint
 same-hint-check h g alike len count = rw (alike.places, same-skip h g alike, alike.start, alike.len)
 
 -- a skipped hint is not looked at
-pub skipped-check : (h : HintRecord) → is_skipped h ≡ true → (len count : ℕ) → check_hint len count h ≡ Fit
+pub skipped-check : (h : HintRecord) → is_skipped h ≡ true → (len count : ℕ) → check_hint len count h ≡ Ok tt
 unfolding check_hint
-skipped-check h e len count = choose-true (is_skipped h) Fit _ e
+skipped-check h e len count = choose-true (is_skipped h) (Ok tt) _ e
 
 module _ (hints hints' : List ℕ) (sized : length hints ≡ length hints')
     (same : (len count k : ℕ) → k < hint_count hints → check_hint len count (hint_of hints k) ≡ check_hint len count (hint_of hints' k)) where

@@ -1,5 +1,6 @@
 -- Calls for parts of the image that have every hint of the run between them (RULES 9.32): bytes of no part stay, and the tallies add up. Carried by the
 -- laws of one call, along the run's order of work: at each position one call goes on, and the others' parts stay.
+use Rattle.std.specs.Prelude.{Result, Ok, Err, Option, Some, None}
 use mathlib.Core.Path.{◌≡◌, refl, sym, ap, ap₂, ◌∙◌}
 use mathlib.Core.Logic.{◌≢◌, ⊎_elim}
 use mathlib.Core.Bool.{Bool, true, false, true≢false}
@@ -15,13 +16,13 @@ use Rattle.image.specs.Steps.{Work, foot_of, answered, written, step_of}
 use Rattle.image.proofs.Steps.{local-step}
 use Rattle.arm64_hint_order.specs.Lists.{run_list}
 use Rattle.arm64_hint_order.specs.Cursor.{order_of}
-use Rattle.arm64_hint_rules.specs.declared.outcome.HintOutcome.{HintOutcome}
-use Rattle.arm64_hint_rules.specs.declared.outcome.HintOutcome.TheVariants.{Skipped, Worked}
-use Rattle.arm64_hint_terms.specs.declared.answer.Decision.TheVariants.{Declined, Nine, Rewritten}
+use Rattle.arm64_hint_terms.specs.declared.answer.Plan.{Plan}
+use Rattle.arm64_hint_terms.specs.declared.answer.NoRewrite.{NoRewrite}
+use Rattle.arm64_hint_terms.specs.declared.answer.Insns.{Insns}
+use Rattle.arm64_hint_terms.specs.declared.answer.NoRewrite.TheVariants.{Declined, Nine}
 use Rattle.arm64_hint_work.specs.Step.{places_of, add_outcome, steps_of}
 use Rattle.arm64_hint_work.specs.declared.tally.Tally.{Tally}
 use Rattle.arm64_hint_run.specs.Run.{zeros, start, worked, run_of, image_of}
-use Rattle.arm64_hint_run.specs.declared.run.RunAnswer.TheVariants as A
 use Rattle.arm64_hint_run.proofs.Answers.{run_is}
 use Rattle.arm64_hint_kept.specs.PartCalls.{Call, part_of, PartCalls, plus, added}
 use Rattle.arm64_hint_kept.proofs.Picked.{Picked, pick, picked_none, picked-one}
@@ -42,11 +43,11 @@ plus-swap : (t u v : Tally) → plus t (plus u v) ≡ plus u (plus t v)
 plus-swap t u v = tally-same (omega arith) (omega arith) (omega arith) (omega arith)
 
 -- one answer more is the tally of that answer more
-add-plus : (o : HintOutcome) (t : Tally) → add_outcome o t ≡ plus t (add_outcome o zeros)
-add-plus Skipped t = tally-same (omega arith) (omega arith) (omega arith) (omega arith)
-add-plus (Worked Declined s) t = tally-same (omega arith) (omega arith) (omega arith) (omega arith)
-add-plus (Worked Nine s) t = tally-same (omega arith) (omega arith) (omega arith) (omega arith)
-add-plus (Worked (Rewritten p) s) t = tally-same (omega arith) (omega arith) (omega arith) (omega arith)
+add-plus : (o : Option (Result Plan NoRewrite × Insns)) (t : Tally) → add_outcome o t ≡ plus t (add_outcome o zeros)
+add-plus None t = tally-same (omega arith) (omega arith) (omega arith) (omega arith)
+add-plus (Some (Err Declined, s)) t = tally-same (omega arith) (omega arith) (omega arith) (omega arith)
+add-plus (Some (Err Nine, s)) t = tally-same (omega arith) (omega arith) (omega arith) (omega arith)
+add-plus (Some (Ok p, s)) t = tally-same (omega arith) (omega arith) (omega arith) (omega arith)
 
 -- ---- the tally of a list
 
@@ -74,7 +75,7 @@ module _ (hints entries : List ℕ) where
   unfolding tally_of
   nothing x = refl
 
-  tally-done : (image : List ℕ) (t : Tally) → run_of image hints entries ≡ A.Done t → t ≡ tally_of (order_of hints) image
+  tally-done : (image : List ℕ) (t : Tally) → run_of image hints entries ≡ Ok t → t ≡ tally_of (order_of hints) image
   unfolding worked tally_of
   tally-done image t e = sym (ap (λ (w : Work Tally). w.tally) (run_is image hints entries t e))
 
@@ -119,7 +120,7 @@ module _ (image hints entries : List ℕ) (m : ℕ) (call : ℕ → Call) (u : �
       let c = call d in
       let it = all.each d hd in
       first-tally c.hints c.entries i r (part_of c x)
-      ∙ ap₂ (λ (o : HintOutcome) (y : List ℕ). plus (add_outcome o zeros) (tally_of c.hints c.entries r y))
+      ∙ ap₂ (λ (o : Option (Result Plan NoRewrite × Insns)) (y : List ℕ). plus (add_outcome o zeros) (tally_of c.hints c.entries r y))
       (sym (answers hints entries c it (fits d hd) i hi x) ∙ ap (λ (k : ℕ). answered (steps_of hints entries) k x) e)
       (sym (own-part hints entries c it (fits d hd) i hi x (omega (arith, all.within d hd)))
       ∙ ap (λ (k : ℕ). part_of c (written (steps_of hints entries) k x)) e)
@@ -171,7 +172,7 @@ module _ (image hints entries : List ℕ) (m : ℕ) (call : ℕ → Call) (u : �
       stays b out rest (written (steps_of hints entries) k x) ∙ (local-step (steps_of hints entries) k).writes.stays x b (no_word b out k h)
 
 -- RULES 9.32: the bytes of each part are its call's, those of no part stay, and the tallies add up
-pub part-calls : (image hints entries : List ℕ) (t : Tally) → run_of image hints entries ≡ A.Done t
+pub part-calls : (image hints entries : List ℕ) (t : Tally) → run_of image hints entries ≡ Ok t
     → (m : ℕ) (call : ℕ → Call) (u : ℕ → Tally) → PartCalls image hints entries m call u
     → ((c : ℕ) → c < m → image_of (part_of (call c) image) (call c).hints (call c).entries ≡ part_of (call c) (image_of image hints entries))
     × ((b : ℕ) → ((c : ℕ) → c < m → span (call c).start (call c).len b ≡ false) → get_or (image_of image hints entries) b 0 ≡ get_or image b 0)

@@ -1,5 +1,6 @@
 -- Every decision of a hint keeps what a program does: each rewrite under the tests that its rule passed and where number 31 does not bar the hint, by one law
 -- of the machine's words. Declined and nine leave the words.
+use Rattle.std.specs.Prelude.{Result}
 use mathlib.Core.Path.{◌≡◌, sym, ap, ◌∙◌}
 use mathlib.Core.Bool.{false}
 use mathlib.Core.List.{[], ◌∷◌}
@@ -15,7 +16,8 @@ use Rattle.arm64_hint_laws.specs.Decide.{bars31, decide}
 use Rattle.arm64_hint_terms.specs.declared.answer.Insns.{Insns}
 use Rattle.arm64_hint_terms.specs.declared.answer.Rewrite.{Rewrite}
 use Rattle.arm64_hint_terms.specs.declared.answer.Rewrite.TheVariants as R
-use Rattle.arm64_hint_terms.specs.declared.answer.Decision.{Decision}
+use Rattle.arm64_hint_terms.specs.declared.answer.Plan.{Plan}
+use Rattle.arm64_hint_terms.specs.declared.answer.NoRewrite.{NoRewrite}
 use Rattle.arm64_hint_terms.specs.declared.rels.Rels.{Rels}
 use Rattle.arm64_hint_adrp.proofs.Adds.{Adds}
 use Rattle.arm64_hint_laws.proofs.Cases as Cases
@@ -33,7 +35,7 @@ pub record Addressed (s : Insns) : Type 0 where
   pub third : s.p2 < 2 ^ 64
 
 -- the words that a decision leaves, of a hint of n words, run as those that it was asked of
-abbrev pub Keeps : ℕ → Insns → Decision → Type 0
+abbrev pub Keeps : ℕ → Insns → Result Plan NoRewrite → Type 0
 Keeps n s d = CloseRun (placed_of n s) (placed_of n (after d s))
 
 -- what an access through ADRP and ADD moves at
@@ -78,7 +80,7 @@ module _ (s : Insns) (at : Addressed s) (apart : meets31 (s.w0 ∷ s.w1 ∷ s.w2
       Words.folded apart fair t.first t.second t.third t.source t.base offset e lt (ap (λ (n : ℕ). n % ls.size) (sym t.made) ∙ h)
 
 -- of a hint of a kind that number 31 does not bar
-abbrev Law : Insns → ℕ → Decision → Type 0
+abbrev Law : Insns → ℕ → Result Plan NoRewrite → Type 0
 Law s kind d = bars31 kind s ≡ false → FairWords (placed_of (word_count kind) s) → Keeps (word_count kind) s d
 
 each-rule : (s : Insns) (r : Rels) → Addressed s → EachRule s r (Law s)

@@ -1,4 +1,5 @@
 -- Calls for parts of an image (RULES 9.31, 9.32): three hints in two calls. Each fact is computed, by position.
+use Rattle.std.specs.Prelude.{Ok}
 use mathlib.Core.Path.{◌≡◌, refl, sym, ap, subst, ◌∙◌}
 use mathlib.Core.Logic.{inl, inr}
 use mathlib.Core.Bool.{true}
@@ -14,7 +15,6 @@ use Rattle.image.specs.Words.{span, in_words}
 use Rattle.image.specs.Local.{Apart}
 use Rattle.image.proofs.Words.{spans_apart, words_inside}
 use Rattle.arm64_hint_run.specs.Run.{run_of}
-use Rattle.arm64_hint_run.specs.declared.run.RunAnswer.TheVariants.{Done}
 use Rattle.arm64_hint_kept.specs.HintsKept.{word_bytes}
 use Rattle.arm64_hint_kept.specs.PartCalls.{SameHint, part_of, PartCall, PartCalls}
 use Rattle.arm64_hint_kept.specs.Examples.{lent, pair}
@@ -101,7 +101,7 @@ called = record { each = each; within = within; done = done; some = some; one = 
     within zero h = lit≤ tt
     within (suc c) h = lit≤ tt
 
-    done : (c : ℕ) → c < 2 → run_of (part_of (beside_calls c) beside_words) (beside_calls c).hints (beside_calls c).entries ≡ Done (beside_counts c)
+    done : (c : ℕ) → c < 2 → run_of (part_of (beside_calls c) beside_words) (beside_calls c).hints (beside_calls c).entries ≡ Ok (beside_counts c)
     done zero h = refl
     done (suc c) h = refl
 

@@ -1,5 +1,6 @@
 -- Runs of several hints: one with one of each count, three that each meet every premise, and one whose order within an object shows; and a hint whose
 -- places fall. Each fact is computed, or follows from the claims (RULES 9.27 to 9.29).
+use Rattle.std.specs.Prelude.{Ok}
 use mathlib.Core.Path.{◌≡◌, refl, ap, ◌∙◌, subst}
 use mathlib.Core.Bool.{Bool, true, false, not}
 use mathlib.Core.List.{List, [], ◌∷◌}
@@ -21,7 +22,6 @@ use Rattle.arm64_machine.proofs.FairTest.{misses, misses-by}
 use Rattle.arm64_hint_places.specs.Hint.{is_skipped, addrs_of}
 use Rattle.arm64_hint_work.specs.declared.tally.Tally.{Tally}
 use Rattle.arm64_hint_run.specs.Run.{worked, run_of, image_of}
-use Rattle.arm64_hint_run.specs.declared.run.RunAnswer.TheVariants.{Done}
 use Rattle.arm64_hint_kept.specs.HintsKept.{codes, KeepsOrder, PartsApart, Alone, Fair, Close, HintsKept, Premises, NoneData}
 use Rattle.arm64_hint_kept.specs.Examples.{words, lent, pair, counts}
 use Rattle.arm64_hint_kept.specs.ExampleRuns.{four, four_words, four_after, beside, beside_words, beside_after, falling, late, AllEnd}
@@ -35,7 +35,7 @@ pub own-order : order_of (lent four) ≡ 1 ∷ 2 ∷ 3 ∷ 0 ∷ []
 unfolding records
 own-order = refl
 
-pub one-of-each : run_of four_words (lent four) pair ≡ Done (counts 1 1 1 1)
+pub one-of-each : run_of four_words (lent four) pair ≡ Ok (counts 1 1 1 1)
 unfolding runs
 one-of-each = refl
 
@@ -82,13 +82,13 @@ other-ends =
 
 -- ---- three hints, each of which meets every premise
 
-pub all_done : (order_of (lent beside) ≡ 2 ∷ 0 ∷ 1 ∷ []) × (run_of beside_words (lent beside) pair ≡ Done (counts 3 0 0 0))
+pub all_done : (order_of (lent beside) ≡ 2 ∷ 0 ∷ 1 ∷ []) × (run_of beside_words (lent beside) pair ≡ Ok (counts 3 0 0 0))
 unfolding runs
 all_done = (refl, refl)
 
 -- what every hint of a list meets, computed at each position
 module _ (image hints entries l last : List ℕ) (t : Tally) (o : Other) (s : State) where
-  pub all-end-by : run_of image hints entries ≡ Done t → Once (hint_count hints) l → (worked image hints entries l).image ≡ last → s.log ≡ []
+  pub all-end-by : run_of image hints entries ≡ Ok t → Once (hint_count hints) l → (worked image hints entries l).image ≡ last → s.log ≡ []
       → every (λ k. not (is_skipped (hint_of hints k))) (hint_count hints) ≡ true
       → every (λ k. every (far_from hints k) (hint_count hints)) (hint_count hints) ≡ true
       → every (λ k. every (λ j. each (misses (λ p. p) (addrs_of (hint_of hints j))) (run o (codes (hint_of hints k) image) s).log) (hint_count hints))
@@ -141,7 +141,7 @@ all_end = (
 
 -- ---- a hint whose places fall: its first word stands after its second
 
-pub fall-done : run_of (words (0xf9400401 ∷ 0x90000000 ∷ [])) (lent falling) pair ≡ Done (counts 1 0 0 0)
+pub fall-done : run_of (words (0xf9400401 ∷ 0x90000000 ∷ [])) (lent falling) pair ≡ Ok (counts 1 0 0 0)
 unfolding runs
 fall-done = refl
 
@@ -168,7 +168,7 @@ unfolding records
 late-order = refl
 
 -- the literal load is made, and ADRP_ADRP then declines
-pub late-run : (run_of (words (0x90000000 ∷ 0x90000000 ∷ 0xf9400401 ∷ [])) (lent late) pair ≡ Done (counts 1 0 1 0))
+pub late-run : (run_of (words (0x90000000 ∷ 0x90000000 ∷ 0xf9400401 ∷ [])) (lent late) pair ≡ Ok (counts 1 0 1 0))
     × (image_of (words (0x90000000 ∷ 0x90000000 ∷ 0xf9400401 ∷ [])) (lent late) pair ≡ words (0x90000000 ∷ 0xd503201f ∷ 0x58000001 ∷ []))
 unfolding runs
 late-run = (refl, refl)

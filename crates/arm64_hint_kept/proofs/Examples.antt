@@ -1,8 +1,9 @@
 -- Hints that meet every premise and are rewritten, each by a run of its own: each fact is computed, but for the last, which is RULES 9.29.
+use Rattle.std.specs.Prelude.{Result, Ok, Option, None}
 use mathlib.Core.Path.{◌≡◌, refl, ap, ◌∙◌, subst}
 use mathlib.Core.Bool.{true, false}
 use mathlib.Core.List.{List}
-use mathlib.Core.Option.{some}
+use Rattle.std.specs.Prelude.{Some}
 use Prim.Native.Nat.{ℕ}
 use native.Mathlib.Omega.{arith}
 use lib.Dec.{lit<}
@@ -13,7 +14,8 @@ use Rattle.macho.specs.declared.hint.HintRecord.{HintRecord}
 use Rattle.image.specs.Steps.{Work}
 use Rattle.arm64_hint_terms.specs.declared.answer.Insns.{Insns}
 use Rattle.arm64_hint_terms.specs.declared.answer.Rewrite.{Rewrite}
-use Rattle.arm64_hint_terms.specs.declared.answer.Decision.{Decision}
+use Rattle.arm64_hint_terms.specs.declared.answer.Plan.{Plan}
+use Rattle.arm64_hint_terms.specs.declared.answer.NoRewrite.{NoRewrite}
 use Rattle.arm64_hint_terms.specs.declared.rels.Rels.{Rels}
 use Rattle.arm64_hint_laws.specs.Decide.{decide}
 use Rattle.arm64_hint_laws.specs.Written as W
@@ -24,11 +26,8 @@ use Rattle.arm64_machine.specs.Examples.{start, idle}
 use Rattle.arm64_machine.specs.Premises.{links_vector}
 use Rattle.arm64_hint_places.specs.Hint.{is_skipped}
 use Rattle.arm64_hint_rules.specs.Rule.{hint_outcome}
-use Rattle.arm64_hint_rules.specs.declared.outcome.HintOutcome.{HintOutcome}
-use Rattle.arm64_hint_rules.specs.declared.outcome.HintOutcome.TheVariants.{Skipped}
 use Rattle.arm64_hint_work.specs.declared.tally.Tally.{Tally}
 use Rattle.arm64_hint_run.specs.Run.{worked, run_of, image_of}
-use Rattle.arm64_hint_run.specs.declared.run.RunAnswer.TheVariants.{Done}
 use Rattle.arm64_hint_run.proofs.Answers.{run_is}
 use Rattle.arm64_hint_kept.specs.HintsKept.{Close}
 use Rattle.arm64_hint_kept.specs.Examples.{words, lent, single, counts, rewrite_in, Shows, Shown, EachRewrite}
@@ -37,17 +36,17 @@ use Rattle.arm64_hint_kept.proofs.Computing.{records, runs, machine}
 use Rattle.arm64_hint_kept.proofs.Tests.{meets_all, premises-when}
 
 -- a hint that is rewritten is not skipped
-not-skipped : (entries : List ℕ) (h : HintRecord) (ws : List ℕ) (r : Rewrite) → rewrite_in (hint_outcome entries h ws) ≡ some r → is_skipped h ≡ false
+not-skipped : (entries : List ℕ) (h : HintRecord) (ws : List ℕ) (r : Rewrite) → rewrite_in (hint_outcome entries h ws) ≡ Some r → is_skipped h ≡ false
 unfolding hint_outcome
 not-skipped entries h ws r =
-    split (λ (o : HintOutcome). rewrite_in o ≡ some r → is_skipped h ≡ false) (is_skipped h) Skipped _
+    split (λ (o : Option (Result Plan NoRewrite × Insns)). rewrite_in o ≡ Some r → is_skipped h ≡ false) (is_skipped h) None _
     (λ t e. let z : ◌≡◌ {A = ℕ} 0 1 = cc in absurd (omega arith))
     (λ t e. t)
 
 module _ {entries : List ℕ} {kind p : ℕ} {ws : List ℕ} {r : Rewrite} {new : List ℕ} where
   pub shown : meets_all (hint_of (lent (single kind p (length ws))) 0) (words ws) idle start ≡ true
-      → rewrite_in (hint_outcome entries (hint_of (lent (single kind p (length ws))) 0) ws) ≡ some r
-      → run_of (words ws) (lent (single kind p (length ws))) entries ≡ Done (counts 1 0 0 0)
+      → rewrite_in (hint_outcome entries (hint_of (lent (single kind p (length ws))) 0) ws) ≡ Some r
+      → run_of (words ws) (lent (single kind p (length ws))) entries ≡ Ok (counts 1 0 0 0)
       → image_of (words ws) (lent (single kind p (length ws))) entries ≡ words new → Shows entries kind p ws r new
   unfolding records
   shown m b d l =
@@ -101,7 +100,7 @@ each-rewrite = record {
 }
 
 -- the rows of what a kind may write
-by_row : (s : Insns) (kind : ℕ) (d : Decision) → Written s kind d → Shown kind d
+by_row : (s : Insns) (kind : ℕ) (d : Result Plan NoRewrite) → Written s kind d → Shown kind d
 by_row s kind d W.declines = tt
 by_row s kind d W.nine-2 = tt
 by_row s kind d W.nine-3 = tt

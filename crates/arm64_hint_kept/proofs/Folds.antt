@@ -1,4 +1,5 @@
 -- What a fold leaves (RULES 9.33). Carried by the rules' cases, of which a fold is one, and by the machine's laws of folded words.
+use Rattle.std.specs.Prelude.{Result, Ok, Err}
 use mathlib.Core.Path.{◌≡◌, refl, sym, ap, ◌∙◌, subst}
 use mathlib.Core.Logic.{◌⊎◌, ⊎_elim}
 use mathlib.Core.Bool.{false}
@@ -15,8 +16,8 @@ use Rattle.arm64_insn.proofs.Offsets.{page-sum}
 use Rattle.arm64_hint_terms.specs.declared.answer.Insns.{Insns}
 use Rattle.arm64_hint_terms.specs.declared.answer.Plan.{Plan}
 use Rattle.arm64_hint_terms.specs.declared.answer.Rewrite.TheVariants as R
-use Rattle.arm64_hint_terms.specs.declared.answer.Decision.{Decision}
-use Rattle.arm64_hint_terms.specs.declared.answer.Decision.TheVariants.{Declined, Nine, Rewritten}
+use Rattle.arm64_hint_terms.specs.declared.answer.NoRewrite.{NoRewrite}
+use Rattle.arm64_hint_terms.specs.declared.answer.NoRewrite.TheVariants.{Declined, Nine}
 use Rattle.arm64_hint_terms.specs.declared.rels.Rels.{Rels}
 use Rattle.arm64_hint_terms.proofs.Ways.{never}
 use Rattle.arm64_hint_laws.specs.Decide.{bars31, decide}
@@ -35,10 +36,10 @@ use Rattle.arm64_hint_kept.specs.Decided.{placed_of, after}
 use Rattle.arm64_hint_kept.specs.Folded.{FoldKeeps}
 
 -- what is claimed of a decision
-abbrev OfFold : Insns → Decision → Type 0
-OfFold s Declined = Unit {0}
-OfFold s Nine = Unit {0}
-OfFold s (Rewritten p) = p.rewrite ≡ R.Fold → FoldKeeps s (after (Rewritten p) s)
+abbrev OfFold : Insns → Result Plan NoRewrite → Type 0
+OfFold s (Err Declined) = Unit {0}
+OfFold s (Err Nine) = Unit {0}
+OfFold s (Ok p) = p.rewrite ≡ R.Fold → FoldKeeps s (after (Ok p) s)
 
 module _ (s : Insns) (apart : meets31 (s.w0 ∷ s.w1 ∷ s.w2 ∷ []) ≡ false) (fair : FairWords (placed_of 3 s)) where
   fold : Cases.Folds s (OfFold s)
@@ -76,8 +77,8 @@ of-fold s r fair =
     }
 
 -- every fold
-pub fold-keeps : (kind : ℕ) (s : Insns) (r : Rels) (p : Plan) → FairWords (placed_of 3 s) → decide kind s r ≡ Rewritten p → p.rewrite ≡ R.Fold
-    → FoldKeeps s (after (Rewritten p) s)
+pub fold-keeps : (kind : ℕ) (s : Insns) (r : Rels) (p : Plan) → FairWords (placed_of 3 s) → decide kind s r ≡ Ok p → p.rewrite ≡ R.Fold
+    → FoldKeeps s (after (Ok p) s)
 fold-keeps kind s r p fair e =
     let n = rewritten-unbarred kind s r p e in
     subst (OfFold s) (sym (else_same kind s r n) ∙ e) (Cases.by-rule s r (λ kind d. bars31 kind s ≡ false → OfFold s d) (of-fold s r fair) kind n)

@@ -1,4 +1,5 @@
 -- What a run of hints keeps (RULES 9.27 to 9.30): the theorems. Carried by the law of a hint's step and by the order's laws of lists of steps.
+use Rattle.std.specs.Prelude.{Result, Ok, Err}
 use mathlib.Core.Path.{◌≡◌, refl, sym, ap, ◌∙◌, subst}
 use mathlib.Core.Bool.{true, false}
 use mathlib.Core.List.{List, [], ◌∷◌, ◌++◌}
@@ -27,8 +28,7 @@ use Rattle.arm64_hint_work.specs.Step.{places_of, steps_of}
 use Rattle.arm64_hint_work.specs.declared.tally.Tally.{Tally}
 use Rattle.arm64_hint_work.proofs.Steps.{add-swap}
 use Rattle.arm64_hint_run.specs.Run.{start, worked, run_of, image_of, run_number, tally_after}
-use Rattle.arm64_hint_run.specs.declared.run.RunAnswer.{RunAnswer}
-use Rattle.arm64_hint_run.specs.declared.run.RunAnswer.TheVariants as A
+use Rattle.macho.specs.declared.refusal.Refusal.{Refusal}
 use Rattle.arm64_hint_run.proofs.Parts.{places-inside, in-part}
 use Rattle.arm64_hint_run.proofs.Answers.{done-fit, run_is}
 use Rattle.arm64_hint_kept.specs.HintsKept.{codes, part_bytes, word_bytes, KeepsOrder, PartsApart, Alone, Fair, Close, HintsKept, Premises, Literally}
@@ -38,7 +38,7 @@ use Rattle.arm64_hint_kept.proofs.Step.{codes_same, addresses, step_same}
 pub own-list : (hints : List ℕ) → Once (hint_count hints) (order_of hints) × KeepsOrder hints (order_of hints)
 own-list hints = (own-once (object_at hints) (late_at hints) (hint_count hints), λ o. refl)
 
-module _ (image hints entries : List ℕ) (t : Tally) (e : run_of image hints entries ≡ A.Done t) where
+module _ (image hints entries : List ℕ) (t : Tally) (e : run_of image hints entries ≡ Ok t) where
   -- every hint that is not skipped has its part inside the image, and its words inside its part
   checked : (k : ℕ) → k < hint_count hints → is_skipped (hint_of hints k) ≡ false → Ready (length image) (length entries) (hint_of hints k)
   checked k l s =
@@ -101,7 +101,7 @@ module _ (image hints entries : List ℕ) (t : Tally) (e : run_of image hints en
             ∙ Runs.ends (steps_of hints entries) (hint_count hints) k h alone l once image
 
 -- RULES 9.27 to 9.29, of every list of a run's hint steps with each hint once
-pub hints-kept : (image hints entries : List ℕ) (t : Tally) → run_of image hints entries ≡ A.Done t
+pub hints-kept : (image hints entries : List ℕ) (t : Tally) → run_of image hints entries ≡ Ok t
     → (l : List ℕ) → Once (hint_count hints) l → HintsKept image hints entries l t
 hints-kept image hints entries t e l once =
     record {
@@ -125,8 +125,8 @@ literally image hints entries l t d =
 
 -- The claim of the compiled run (RULES 9.30): `answer` is what arm64_hint_run's `run` returns and `left` the image that it leaves, each with its promise.
 -- Where it is done, its own list ends with what it left, is one of those spoken of, and of each of them the claim holds, and with every premise
-pub of-the-run : (image hints entries left : List ℕ) (answer : RunAnswer) → answer ≡ run_of image hints entries → left ≡ image_of image hints entries
-    → (t : Tally) → answer ≡ A.Done t
+pub of-the-run : (image hints entries left : List ℕ) (answer : Result Tally Refusal) → answer ≡ run_of image hints entries → left ≡ image_of image hints entries
+    → (t : Tally) → answer ≡ Ok t
     → (worked image hints entries (order_of hints) ≡ record { image = left; tally = t })
     × (Once (hint_count hints) (order_of hints))
     × (KeepsOrder hints (order_of hints))
@@ -143,9 +143,9 @@ of-the-run image hints entries left answer says leaves t done =
 -- ---- the exported call
 
 -- an answer of the number 0 is done, and its counts are what the lent tally gets
-zero-done : (old : Tally) (a : RunAnswer) → run_number a ≡ 0 → a ≡ A.Done (tally_after old a)
-zero-done old (A.Done t) e = refl
-zero-done old (A.Refused x) e = absurd (omega (arith, (numbered x).0))
+zero-done : (old : Tally) (a : Result Tally Refusal) → run_number a ≡ 0 → a ≡ Ok (tally_after old a)
+zero-done old (Ok t) e = refl
+zero-done old (Err x) e = absurd (omega (arith, (numbered x).0))
 
 -- The claim of the exported call: `number` is what `hauklivo_apply_hints` returns, `tally` and `left` what it leaves, each with its promise
 pub of-the-call : (image hints entries left : List ℕ) (old tally : Tally) (number : ℕ) → number ≡ run_number (run_of image hints entries)
@@ -156,4 +156,4 @@ pub of-the-call : (image hints entries left : List ℕ) (old tally : Tally) (num
     × ((l : List ℕ) → Once (hint_count hints) l → HintsKept image hints entries l tally × Literally image hints entries l tally)
 of-the-call image hints entries left old tally number says counts leaves zero =
     of-the-run image hints entries left (run_of image hints entries) refl leaves tally
-    (zero-done old (run_of image hints entries) (sym says ∙ zero) ∙ ap (λ (t : Tally). A.Done t) (sym counts))
+    (zero-done old (run_of image hints entries) (sym says ∙ zero) ∙ ap (λ (t : Tally). Ok t) (sym counts))

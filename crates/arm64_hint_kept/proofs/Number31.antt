@@ -1,5 +1,6 @@
 -- Number 31 in hints: the words of a hint that is rewritten are without it, by the law of its outcome and by what it is in the machine's words; closed hints
 -- by the run itself.
+use Rattle.std.specs.Prelude.{Ok, Some}
 use mathlib.Core.Path.{◌≡◌, refl, sym, ap, ◌∙◌}
 use mathlib.Core.Bool.{Bool, true, false, ◌||◌, false≢true}
 use mathlib.Core.List.{List, [], ◌∷◌, map}
@@ -14,16 +15,13 @@ use Rattle.image.specs.Words.{words_at}
 use Rattle.arm64_insn.specs.Links.{links31, adds31, meets31}
 use Rattle.arm64_hint_terms.specs.declared.answer.Insns.{Insns}
 use Rattle.arm64_hint_terms.specs.declared.answer.Plan.{Plan}
-use Rattle.arm64_hint_terms.specs.declared.answer.Decision.TheVariants.{Rewritten}
-use Rattle.arm64_hint_terms.proofs.Ways.{never}
 use Rattle.arm64_machine.specs.Machine.{Placed, placed, action, add}
 use Rattle.arm64_machine.specs.Examples.{start, idle}
 use Rattle.arm64_machine.proofs.Links.{links-is, adds-is}
 use Rattle.arm64_hint_places.specs.Hint.{insns_in}
 use Rattle.arm64_hint_rules.specs.Rule.{hint_outcome}
-use Rattle.arm64_hint_rules.specs.declared.outcome.HintOutcome.TheVariants.{Worked}
 use Rattle.arm64_hint_work.specs.Step.{places_of}
-use Rattle.arm64_hint_run.proofs.Declines.{declined-31}
+use Rattle.arm64_hint_run.proofs.Declines.{not-both, declined-31}
 use Rattle.arm64_hint_kept.specs.HintsKept.{codes}
 use Rattle.arm64_hint_kept.specs.Number31.{Without31, Number31Declines, Number31Stays}
 use Rattle.arm64_hint_kept.proofs.Computing.{runs, machine}
@@ -52,13 +50,13 @@ module _ (h : HintRecord) (x : List ℕ) where
   words_of (i ∷ l) = ap (λ (ws : List ℕ). le 4 x (h.start + i.off) ∷ ws) (words_of l)
 
   pub rewritten-without-31 : (entries : List ℕ) (p : Plan) (s : Insns)
-      → hint_outcome entries h (words_at (places_of h) x) ≡ Worked (Rewritten p) s → Without31 (codes h x)
+      → hint_outcome entries h (words_at (places_of h) x) ≡ Some (Ok p, s) → Without31 (codes h x)
   rewritten-without-31 entries p s e =
       without (codes h x) (ap meets31 (words_of (insns_in h)) ∙ go (meets31 (words_at (places_of h) x)) refl)
     where
       go : (t : Bool) → meets31 (words_at (places_of h) x) ≡ t → t ≡ false
       go false f = refl
-      go true f = let d = declined-31 h x entries f in never (cc)
+      go true f = let d = declined-31 h x entries f in absurd (not-both e d)
 
 pub number-31-declines : Number31Declines
 unfolding runs machine

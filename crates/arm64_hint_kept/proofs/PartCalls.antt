@@ -1,5 +1,6 @@
 -- A call for a part of the image leaves there what one run over the image leaves there (RULES 9.31): step by step along the run's order of work, each
 -- hint of the call does in the part what it does in the image, and each other hint leaves the part.
+use Rattle.std.specs.Prelude.{Result, Ok, Option, Some, None}
 use mathlib.Core.Path.{◌≡◌, refl, sym, ap, ap₂, ◌∙◌, subst}
 use mathlib.Core.Logic.{◌≢◌}
 use mathlib.Core.Bool.{Bool, true, false, ◌||◌, not}
@@ -36,13 +37,12 @@ use Rattle.arm64_hint_places.specs.Hint.{is_skipped, insns_of, offs_of, rels_of}
 use Rattle.arm64_hint_places.proofs.Places.{insns-none}
 use Rattle.arm64_hint_check.proofs.Checks.{ready, each-fit}
 use Rattle.arm64_hint_rules.specs.Rule.{hint_outcome, news_of}
-use Rattle.arm64_hint_rules.specs.declared.outcome.HintOutcome.{HintOutcome}
-use Rattle.arm64_hint_rules.specs.declared.outcome.HintOutcome.TheVariants.{Skipped, Worked}
+use Rattle.arm64_hint_terms.specs.declared.answer.Plan.{Plan}
+use Rattle.arm64_hint_terms.specs.declared.answer.NoRewrite.{NoRewrite}
 use Rattle.arm64_hint_work.specs.Step.{places_of, steps_of}
 use Rattle.arm64_hint_work.specs.declared.tally.Tally.{Tally}
 use Rattle.arm64_hint_work.proofs.Sections.{words-part, puts-part}
 use Rattle.arm64_hint_run.specs.Run.{start, worked, run_of, image_of}
-use Rattle.arm64_hint_run.specs.declared.run.RunAnswer.TheVariants as A
 use Rattle.arm64_hint_run.proofs.Parts.{places-inside}
 use Rattle.arm64_hint_run.proofs.Answers.{done-fit, run_is}
 use Rattle.arm64_hint_kept.specs.PartCalls.{SameHint, Call, part_of, PartCall}
@@ -91,9 +91,9 @@ module _ {a : ℕ} {entries : List ℕ} {h : HintRecord} {entries' : List ℕ} {
   outcomes : (ws : List ℕ) → hint_outcome entries h ws ≡ hint_outcome entries' g ws
   unfolding hint_outcome
   outcomes ws =
-      ap₂ (λ (b : Bool) (o : HintOutcome). choose b Skipped o) skipped
-      (ap₂ (λ (k : ℕ) (i : Insns). Worked (decide k i (rels_of entries h)) i) same.kind (insns ws)
-      ∙ ap (λ (r : Rels). Worked (decide g.kind (insns_of g ws) r) (insns_of g ws)) same.names)
+      ap₂ (λ (b : Bool) (o : Option (Result Plan NoRewrite × Insns)). choose b None o) skipped
+      (ap₂ (λ (k : ℕ) (i : Insns). Some (decide k i (rels_of entries h), i)) same.kind (insns ws)
+      ∙ ap (λ (r : Rels). Some (decide g.kind (insns_of g ws) r, insns_of g ws)) same.names)
 
 -- ---- the run along its order, and the call along its own
 
@@ -110,7 +110,7 @@ module _ (hints entries : List ℕ) (c : Call) (call : PartCall hints entries c)
   pub own-part : (j : ℕ) → j < hint_count c.hints → (x : List ℕ) → c.start + c.len ≤ length x
       → part_of c (written (steps_of hints entries) (c.at j) x) ≡ written (steps_of c.hints c.entries) j (part_of c x)
   own-part j h x l =
-      ap₂ (λ (ps : List ℕ) (o : HintOutcome). part_of c (put_words ps (news_of o) x)) (places (call.same j h)) (answers j h x)
+      ap₂ (λ (ps : List ℕ) (o : Option (Result Plan NoRewrite × Insns)). part_of c (put_words ps (news_of o) x)) (places (call.same j h)) (answers j h x)
       ∙ ap (part_of c) (sym (puts-part x c.start c.len l (fits j h) (news_of (answered (steps_of c.hints c.entries) j (part_of c x)))))
       ∙ part-splice x c.start c.len (written (steps_of c.hints c.entries) j (part_of c x)) (omega arith)
       ((local-step (steps_of c.hints c.entries) j).writes.size (part_of c x) ∙ length_part x c.start c.len l)
@@ -153,7 +153,7 @@ module _ (hints entries : List ℕ) (c : Call) (call : PartCall hints entries c)
 
 -- ---- the image of a run that is done
 
-pub image-done : (image hints entries : List ℕ) (t : Tally) → run_of image hints entries ≡ A.Done t
+pub image-done : (image hints entries : List ℕ) (t : Tally) → run_of image hints entries ≡ Ok t
     → image_of image hints entries ≡ run_list (written (steps_of hints entries)) (order_of hints) image
 unfolding worked
 image-done image hints entries t e =
@@ -161,7 +161,7 @@ image-done image hints entries t e =
     ∙ Runs.image-of (steps_of hints entries) (hint_count hints) (order_of hints) (start image)
 
 -- the words of each hint lie in it
-words-fit : (image hints entries : List ℕ) (t : Tally) → run_of image hints entries ≡ A.Done t → (j : ℕ) → j < hint_count hints
+words-fit : (image hints entries : List ℕ) (t : Tally) → run_of image hints entries ≡ Ok t → (j : ℕ) → j < hint_count hints
     → All (λ p. p + 4 ≤ length image) (places_of (hint_of hints j))
 words-fit image hints entries t e j l = go (is_skipped g) refl
   where
@@ -176,7 +176,7 @@ words-fit image hints entries t e j l = go (is_skipped g) refl
         all_map (λ at w. omega (arith, r.part)) (places-inside g r.words)
 
 -- the words of each hint of a call that is not refused lie in its bytes
-pub fits-of : (image : List ℕ) (c : Call) (u : Tally) → c.start + c.len ≤ length image → run_of (part_of c image) c.hints c.entries ≡ A.Done u
+pub fits-of : (image : List ℕ) (c : Call) (u : Tally) → c.start + c.len ≤ length image → run_of (part_of c image) c.hints c.entries ≡ Ok u
     → (j : ℕ) → j < hint_count c.hints → All (λ p. p + 4 ≤ c.len) (places_of (hint_of c.hints j))
 fits-of image c u h e j l =
     all_map (λ p w. omega (arith, length_part image c.start c.len h)) (words-fit (part_of c image) c.hints c.entries u e j l)
@@ -186,8 +186,8 @@ pub order-inside : (hints : List ℕ) → All (λ k. k < hint_count hints) (orde
 order-inside hints = once-inside (hint_count hints) (order_of hints) (own-once (object_at hints) (late_at hints) (hint_count hints))
 
 -- RULES 9.31
-pub part-call : (image hints entries : List ℕ) (t : Tally) → run_of image hints entries ≡ A.Done t
-    → (c : Call) (u : Tally) → c.start + c.len ≤ length image → run_of (part_of c image) c.hints c.entries ≡ A.Done u → PartCall hints entries c
+pub part-call : (image hints entries : List ℕ) (t : Tally) → run_of image hints entries ≡ Ok t
+    → (c : Call) (u : Tally) → c.start + c.len ≤ length image → run_of (part_of c image) c.hints c.entries ≡ Ok u → PartCall hints entries c
     → image_of (part_of c image) c.hints c.entries ≡ part_of c (image_of image hints entries)
 part-call image hints entries t e c u h e' call =
     let fits = fits-of image c u h e' in

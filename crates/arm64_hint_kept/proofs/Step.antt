@@ -1,4 +1,5 @@
 -- One hint's step keeps what its words do. Carried by the law of the decisions, and by words read back at places that share no byte.
+use Rattle.std.specs.Prelude.{Result, Ok, Err}
 use mathlib.Core.Path.{◌≡◌, refl, sym, ap, ◌∙◌, subst, subst₂}
 use mathlib.Core.Bool.{false}
 use mathlib.Core.List.{List, [], ◌∷◌, map}
@@ -17,8 +18,8 @@ use Rattle.image.specs.Words.{words_at, put_words}
 use Rattle.image.proofs.Words.{puts_none}
 use Rattle.arm64_hint_laws.specs.Decide.{decide}
 use Rattle.arm64_hint_terms.specs.declared.answer.Plan.{Plan}
-use Rattle.arm64_hint_terms.specs.declared.answer.Decision.{Decision}
-use Rattle.arm64_hint_terms.specs.declared.answer.Decision.TheVariants.{Declined, Nine, Rewritten}
+use Rattle.arm64_hint_terms.specs.declared.answer.NoRewrite.{NoRewrite}
+use Rattle.arm64_hint_terms.specs.declared.answer.NoRewrite.TheVariants.{Declined, Nine}
 use Rattle.arm64_hint_laws.proofs.Written.{AllFit, all_fit}
 use Rattle.arm64_machine.specs.Machine.{Placed, placed}
 use Rattle.arm64_machine.specs.SameRun.{CloseRun}
@@ -63,7 +64,7 @@ module _ (h : HintRecord) (e : is_skipped h ≡ false) where
       (λ n. rw (count-two h e n, insns-two h e n))
 
   rewritten-codes : (p : Plan) (x : List ℕ)
-      → placed_of (word_count h.kind) (after (Rewritten p) (insns_of h (words_at (places_of h) x)))
+      → placed_of (word_count h.kind) (after (Ok p) (insns_of h (words_at (places_of h) x)))
       ≡ paired (words_after (p.w0 ∷ p.w1 ∷ p.w2 ∷ []) (words_at (places_of h) x)) (addrs_of h)
   unfolding insns_of
   rewritten-codes p x =
@@ -71,15 +72,15 @@ module _ (h : HintRecord) (e : is_skipped h ≡ false) where
       (λ n. rw (count-is h e ∙ n, insns-three h e n))
       (λ n. rw (count-two h e n, insns-two h e n))
 
-  new-codes : (d : Decision) (x : List ℕ) → Disjoint (places_of h) → All (λ at. at + 4 ≤ length x) (places_of h) → AllFit d
+  new-codes : (d : Result Plan NoRewrite) (x : List ℕ) → Disjoint (places_of h) → All (λ at. at + 4 ≤ length x) (places_of h) → AllFit d
       → placed_of (word_count h.kind) (after d (insns_of h (words_at (places_of h) x))) ≡ codes h (put_words (places_of h) (news_in d) x)
-  new-codes Declined x apart inside f = old-codes x ∙ ap (codes h) (puts_none (places_of h) x)
-  new-codes Nine x apart inside f = old-codes x ∙ ap (codes h) (puts_none (places_of h) x)
-  new-codes (Rewritten p) x apart inside f =
+  new-codes (Err Declined) x apart inside f = old-codes x ∙ ap (codes h) (puts_none (places_of h) x)
+  new-codes (Err Nine) x apart inside f = old-codes x ∙ ap (codes h) (puts_none (places_of h) x)
+  new-codes (Ok p) x apart inside f =
       rewritten-codes p x
       ∙ ap (λ (ws : List ℕ). paired ws (addrs_of h))
       (sym (reads-back (places_of h) (p.w0 ∷ p.w1 ∷ p.w2 ∷ []) x apart inside (f.0, (f.1, (f.2, tt)))))
-      ∙ sym (codes-paired h (put_words (places_of h) (news_in (Rewritten p)) x))
+      ∙ sym (codes-paired h (put_words (places_of h) (news_in (Ok p)) x))
 
   outcome-is : (entries words : List ℕ) → hint_outcome entries h words ≡ ruled h.kind h (rels_of entries h) words
   unfolding hint_outcome

@@ -1,4 +1,5 @@
 -- Unallocated words: the words of a hint that is rewritten are allocated, by the law of its outcome; closed hints by the run itself.
+use Rattle.std.specs.Prelude.{Ok, Some}
 use mathlib.Core.Path.{◌≡◌, refl}
 use mathlib.Core.Bool.{Bool, true, false, not}
 use mathlib.Core.List.{List, [], ◌∷◌, map}
@@ -13,15 +14,12 @@ use Rattle.arm64_insn.specs.Manual as Manual
 use Rattle.arm64_insn.specs.Manual.{any_unallocated}
 use Rattle.arm64_hint_terms.specs.declared.answer.Insns.{Insns}
 use Rattle.arm64_hint_terms.specs.declared.answer.Plan.{Plan}
-use Rattle.arm64_hint_terms.specs.declared.answer.Decision.TheVariants.{Rewritten}
-use Rattle.arm64_hint_terms.proofs.Ways.{never}
 use Rattle.arm64_machine.specs.Machine.{placed}
 use Rattle.arm64_machine.specs.Premises.{Each}
 use Rattle.arm64_hint_places.specs.Hint.{insns_in}
 use Rattle.arm64_hint_rules.specs.Rule.{hint_outcome}
-use Rattle.arm64_hint_rules.specs.declared.outcome.HintOutcome.TheVariants.{Worked}
 use Rattle.arm64_hint_work.specs.Step.{places_of}
-use Rattle.arm64_hint_run.proofs.Declines.{unallocated-declined}
+use Rattle.arm64_hint_run.proofs.Declines.{not-both, unallocated-declined}
 use Rattle.arm64_hint_kept.specs.HintsKept.{codes}
 use Rattle.arm64_hint_kept.specs.Unallocated.{UnallocatedDecline}
 use Rattle.arm64_hint_kept.proofs.Computing.{runs}
@@ -36,13 +34,13 @@ module _ (h : HintRecord) (x : List ℕ) where
       let n = neither (not (Manual.allocated w)) _ e in
       (not-false (Manual.allocated w) n.0, each-allocated l n.1)
 
-  pub rewritten-words-allocated : (entries : List ℕ) (p : Plan) (s : Insns) → hint_outcome entries h (words_at (places_of h) x) ≡ Worked (Rewritten p) s
+  pub rewritten-words-allocated : (entries : List ℕ) (p : Plan) (s : Insns) → hint_outcome entries h (words_at (places_of h) x) ≡ Some (Ok p, s)
       → Each (λ w. Manual.allocated w.word ≡ true) (codes h x)
   rewritten-words-allocated entries p s e = each-allocated (insns_in h) (go (any_unallocated (words_at (places_of h) x)) refl)
     where
       go : (t : Bool) → any_unallocated (words_at (places_of h) x) ≡ t → t ≡ false
       go false f = refl
-      go true f = let d = unallocated-declined h x entries f in never (cc)
+      go true f = let d = unallocated-declined h x entries f in absurd (not-both e d)
 
 pub unallocated-decline : UnallocatedDecline
 unfolding runs

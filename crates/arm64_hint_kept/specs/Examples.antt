@@ -1,6 +1,5 @@
 -- Hints of the examples, and what an example of one hint shows (RULES 9.21): it meets every premise, and a rewrite makes new words of it.
-use Rattle.std.specs.Prelude.{◌≡◌, List, [], ◌∷◌, ◌++◌, ℕ, ◌+◌, ◌*◌, length}
-use Rattle.std.proofs.Math.Option.{Option, none, some}
+use Rattle.std.specs.Prelude.{◌≡◌, List, [], ◌∷◌, ◌++◌, ℕ, ◌+◌, ◌*◌, length, Result, Ok, Err, Some, None, Option}
 use Rattle.util.specs.Word.{bytes}
 use Rattle.macho.specs.Record.{list_bytes}
 use Rattle.macho.specs.Reloc.{reloc_bytes}
@@ -10,15 +9,14 @@ use Rattle.macho.specs.declared.hint.HintInsn.{HintInsn}
 use Rattle.macho.specs.declared.hint.HintRecord.{HintRecord}
 use Rattle.arm64_hint_terms.specs.declared.answer.Rewrite.{Rewrite}
 use Rattle.arm64_hint_terms.specs.declared.answer.Rewrite.TheVariants.{Drop, Literal, Adr, Fold, Slot}
-use Rattle.arm64_hint_terms.specs.declared.answer.Decision.{Decision}
-use Rattle.arm64_hint_terms.specs.declared.answer.Decision.TheVariants.{Declined, Nine, Rewritten}
+use Rattle.arm64_hint_terms.specs.declared.answer.Plan.{Plan}
+use Rattle.arm64_hint_terms.specs.declared.answer.NoRewrite.{NoRewrite}
+use Rattle.arm64_hint_terms.specs.declared.answer.Insns.{Insns}
+use Rattle.arm64_hint_terms.specs.declared.answer.NoRewrite.TheVariants.{Declined, Nine}
 use Rattle.arm64_machine.specs.Examples.{start, idle}
 use Rattle.arm64_hint_rules.specs.Rule.{hint_outcome}
-use Rattle.arm64_hint_rules.specs.declared.outcome.HintOutcome.{HintOutcome}
-use Rattle.arm64_hint_rules.specs.declared.outcome.HintOutcome.TheVariants.{Skipped, Worked}
 use Rattle.arm64_hint_work.specs.declared.tally.Tally.{Tally}
 use Rattle.arm64_hint_run.specs.Run.{run_of, image_of}
-use Rattle.arm64_hint_run.specs.declared.run.RunAnswer.TheVariants.{Done}
 use Rattle.arm64_hint_kept.specs.HintsKept.{Close, Premises}
 
 -- an image of words
@@ -69,7 +67,7 @@ counts rewritten skipped declined down = record { rewritten = rewritten; skipped
 
 -- a run of one hint of a kind with the words ws, the first at address p, is counted as t and leaves the words new
 pub record Ends (entries : List ℕ) (kind p : ℕ) (ws : List ℕ) (t : Tally) (new : List ℕ) : Type 0 where
-  pub done : run_of (words ws) (lent (single kind p (length ws))) entries ≡ Done t
+  pub done : run_of (words ws) (lent (single kind p (length ws))) entries ≡ Ok t
   pub leaves : image_of (words ws) (lent (single kind p (length ws))) entries ≡ words new
 
 -- it declines
@@ -77,26 +75,26 @@ abbrev pub Declines : List ℕ → ℕ → ℕ → List ℕ → Type 0
 Declines entries kind p ws = Ends entries kind p ws (counts 0 0 1 0) ws
 
 -- which rewrite an outcome is
-abbrev pub rewrite_in : HintOutcome → Option Rewrite
-rewrite_in Skipped = none
-rewrite_in (Worked Declined s) = none
-rewrite_in (Worked Nine s) = none
-rewrite_in (Worked (Rewritten p) s) = some p.rewrite
+abbrev pub rewrite_in : Option (Result Plan NoRewrite × Insns) → Option Rewrite
+rewrite_in None = None
+rewrite_in (Some (Err Declined, s)) = None
+rewrite_in (Some (Err Nine, s)) = None
+rewrite_in (Some (Ok p, s)) = Some p.rewrite
 
 -- a run of one hint of a kind with the words ws, the first at address p: they meet every premise (RULES 9.12 to 9.20), from one state; the rewrite r
 -- makes new words of them, which run closely as the old ones from every state
 pub record Shows (entries : List ℕ) (kind p : ℕ) (ws : List ℕ) (r : Rewrite) (new : List ℕ) : Type 0 where
   pub meets : Premises (hint_of (lent (single kind p (length ws))) 0) (words ws) idle start
-  pub by : rewrite_in (hint_outcome entries (hint_of (lent (single kind p (length ws))) 0) ws) ≡ some r
-  pub done : run_of (words ws) (lent (single kind p (length ws))) entries ≡ Done (counts 1 0 0 0)
+  pub by : rewrite_in (hint_outcome entries (hint_of (lent (single kind p (length ws))) 0) ws) ≡ Some r
+  pub done : run_of (words ws) (lent (single kind p (length ws))) entries ≡ Ok (counts 1 0 0 0)
   pub leaves : image_of (words ws) (lent (single kind p (length ws))) entries ≡ words new
   pub close : Close (hint_of (lent (single kind p (length ws))) 0) (words ws) (words new)
 
 -- where a decision of a kind is a rewrite, a hint of the kind shows it
-abbrev pub Shown : ℕ → Decision → Type 0
-Shown kind Declined = Unit {0}
-Shown kind Nine = Unit {0}
-Shown kind (Rewritten plan) = (entries : List ℕ) × (p : ℕ) × (ws : List ℕ) × (new : List ℕ) × Shows entries kind p ws plan.rewrite new
+abbrev pub Shown : ℕ → Result Plan NoRewrite → Type 0
+Shown kind (Err Declined) = Unit {0}
+Shown kind (Err Nine) = Unit {0}
+Shown kind (Ok plan) = (entries : List ℕ) × (p : ℕ) × (ws : List ℕ) × (new : List ℕ) × Shows entries kind p ws plan.rewrite new
 
 -- for each kind and rewrite a hint that shows it
 pub record EachRewrite : Type 0 where

@@ -1,13 +1,11 @@
 -- What a fold leaves of the words that it was asked of (RULES 9.33): ADRP stays for other code that shares it, and the access is the old one.
-use Rattle.std.specs.Prelude.{◌≡◌, false, not, ◌&&◌, eqb}
+use Rattle.std.specs.Prelude.{◌≡◌, false, not, ◌&&◌, eqb, Some}
 use Rattle.arm64_insn.specs.Page.{adrp_page}
 use Rattle.arm64_insn.specs.Adrp.{adrp_of}
 use Rattle.arm64_insn.specs.Add.{add_of}
 use Rattle.arm64_insn.specs.Fix.{nop_word}
 use Rattle.arm64_insn.specs.declared.adrp.Adrp.{Adrp}
-use Rattle.arm64_insn.specs.declared.adrp.AdrpWord.TheVariants as A
 use Rattle.arm64_insn.specs.declared.add.Add.{Add}
-use Rattle.arm64_insn.specs.declared.add.AddWord.TheVariants as D
 use Rattle.arm64_hint_terms.specs.declared.answer.Insns.{Insns}
 use Rattle.arm64_machine.specs.Machine.{State, Other, run}
 use Rattle.arm64_machine.specs.SameRun.{last_writes, Agree}
@@ -17,8 +15,8 @@ use Rattle.arm64_hint_kept.specs.Decided.{placed_of}
 pub record FoldKeeps (s t : Insns) : Type 0 where
   pub adrp : Adrp
   pub add : Add
-  pub first : adrp_of s.w0 ≡ A.Adrp adrp
-  pub second : add_of s.w1 ≡ D.Add add
+  pub first : adrp_of s.w0 ≡ Some adrp
+  pub second : add_of s.w1 ≡ Some add
   -- ADRP stands where it stood, and the ADD is dropped
   pub stays : t.w0 ≡ s.w0
   pub dropped : t.w1 ≡ nop_word

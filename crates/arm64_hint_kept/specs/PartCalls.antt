@@ -1,5 +1,5 @@
 -- Calls for parts of an image, as a linker makes one for each subsection, beside one run over the whole image (RULES 9.31, 9.32).
-use Rattle.std.specs.Prelude.{◌≡◌, ◌≢◌, List, ℕ, zero, suc, ◌+◌, ◌≤◌, ◌<◌, length}
+use Rattle.std.specs.Prelude.{◌≡◌, ◌≢◌, List, ℕ, zero, suc, ◌+◌, ◌≤◌, ◌<◌, length, Ok}
 use Rattle.util.specs.Part.{part}
 use Rattle.macho.specs.Hint.{hint_count, hint_of}
 use Rattle.macho.specs.declared.hint.HintRecord.{HintRecord}
@@ -9,7 +9,6 @@ use Rattle.arm64_hint_order.specs.Cursor.{object_at}
 use Rattle.arm64_hint_places.specs.Hint.{offs_of, addrs_of, rels_of}
 use Rattle.arm64_hint_work.specs.declared.tally.Tally.{Tally}
 use Rattle.arm64_hint_run.specs.Run.{zeros, run_of}
-use Rattle.arm64_hint_run.specs.declared.run.RunAnswer.TheVariants.{Done}
 use Rattle.arm64_hint_kept.specs.HintsKept.{word_bytes}
 
 -- hint g with its entries is hint h with its own, but that its part begins a bytes earlier; object number and length of the part may be others
@@ -50,7 +49,7 @@ pub record PartCall (hints entries : List ℕ) (c : Call) : Type 0 where
 pub record PartCalls (image hints entries : List ℕ) (m : ℕ) (call : ℕ → Call) (u : ℕ → Tally) : Type 0 where
   pub each : (c : ℕ) → c < m → PartCall hints entries (call c)
   pub within : (c : ℕ) → c < m → (call c).start + (call c).len ≤ length image
-  pub done : (c : ℕ) → c < m → run_of (part_of (call c) image) (call c).hints (call c).entries ≡ Done (u c)
+  pub done : (c : ℕ) → c < m → run_of (part_of (call c) image) (call c).hints (call c).entries ≡ Ok (u c)
   pub some : (k : ℕ) → k < hint_count hints → (c : ℕ) × (j : ℕ) × (c < m) × (j < hint_count (call c).hints) × ((call c).at j ≡ k)
   pub one : (c d i j : ℕ) → c < m → d < m → i < hint_count (call c).hints → j < hint_count (call d).hints → (call c).at i ≡ (call d).at j → c ≡ d
 

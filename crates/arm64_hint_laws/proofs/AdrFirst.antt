@@ -1,5 +1,6 @@
 -- The kinds of a GOT load have the ADR before the fold (RULES 8.19, 8.21): where an ADR fits it is taken, but for what becomes a literal load. By a walk
 -- through the two definitions.
+use Rattle.std.specs.Prelude.{Ok, Option, Some, None}
 use mathlib.Core.Path.{◌≡◌, refl, sym}
 use mathlib.Core.Bool.{Bool, true, false, ◌&&◌}
 use Prim.Native.Nat.{ℕ, ◌+◌, ◌%◌, ◌^◌, ◌<◌}
@@ -13,10 +14,7 @@ use Rattle.arm64_insn.specs.Add.{add_of}
 use Rattle.arm64_insn.specs.LoadStore.{load_store_of}
 use Rattle.arm64_insn.specs.Literal.{has_literal_form}
 use Rattle.arm64_insn.specs.declared.add.Add.{Add}
-use Rattle.arm64_insn.specs.declared.add.AddWord.TheVariants as D
 use Rattle.arm64_insn.specs.declared.ldst.LoadStore.{LoadStore}
-use Rattle.arm64_insn.specs.declared.ldst.LoadStoreWord.{LoadStoreWord}
-use Rattle.arm64_insn.specs.declared.ldst.LoadStoreWord.TheVariants as L
 use Rattle.arm64_insn.proofs.Decoded.{decoded-add}
 use Rattle.arm64_insn.proofs.Decodes.{add-decodes, load-store-decodes}
 use Rattle.arm64_insn.proofs.Offsets.{page-sum}
@@ -26,21 +24,21 @@ use Rattle.arm64_hint_terms.specs.declared.answer.Insns.{Insns}
 use Rattle.arm64_hint_terms.specs.declared.rels.Rels.{Rels}
 use Rattle.arm64_hint_terms.proofs.Ways.{never}
 use Rattle.arm64_hint_got.specs.Got.{relaxed_load, got_load, adr_or_fold_load, relaxed_to, relaxed_ldr, adrp_ldr_got_ldr, relaxed_str, adrp_ldr_got_str}
-use Rattle.arm64_hint_got.specs.declared.GotLoad.TheVariants as G
+use Rattle.arm64_hint_got.specs.declared.GotLoad.TheVariants.{Relaxed}
 use Rattle.arm64_hint_laws.specs.Decide.{by_rule, bars31, decide}
 use Rattle.arm64_hint_laws.specs.RustOrder.{AdrFits}
 
 -- an ADD is no load or store
-not-access : (w : ℕ) (d : Add) → add_of w ≡ D.Add d → load_store_of w ≡ L.Other
+not-access : (w : ℕ) (d : Add) → add_of w ≡ Some d → load_store_of w ≡ None
 not-access w d e = go (load_store_of w) refl
   where
-    go : (x : LoadStoreWord) → load_store_of w ≡ x → x ≡ L.Other
-    go L.Other f = refl
-    go (L.LoadStore l) f = let a = add-decodes w d e in let b = load-store-decodes w l f in never (cc)
+    go : (x : Option LoadStore) → load_store_of w ≡ x → x ≡ None
+    go None f = refl
+    go (Some l) f = let a = add-decodes w d e in let b = load-store-decodes w l f in never (cc)
 
 module _ (s : Insns) (r : Rels) (d : Add) (addr : ℕ) (ls : LoadStore) (f : AdrFits s r d addr ls) where
   -- the GOT load is the ADD
-  relaxed : got_load s true ≡ G.Relaxed addr d
+  relaxed : got_load s true ≡ Ok (Relaxed addr d)
   unfolding got_load relaxed_load sum_of choose
   relaxed =
       let t = f.words.through in

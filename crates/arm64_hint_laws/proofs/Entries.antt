@@ -1,12 +1,11 @@
 -- Of an entry a decision takes type, target and addend: entries that agree in these decide the same. Carried by equal tests of the entries.
+use Rattle.std.specs.Prelude.{Option, Some, None}
 use mathlib.Core.Path.{◌≡◌, refl}
 use mathlib.Core.Bool.{Bool, true, false}
 use Prim.Native.Nat.{ℕ}
 use Rattle.macho.specs.declared.reloc.Reloc.{Reloc}
 use Rattle.arm64_hint_terms.specs.Rels.{is_page_rel, is_pageoff_rel, same_reference, is_absent, has_page_pair, both_pages}
 use Rattle.arm64_hint_terms.specs.declared.answer.Insns.{Insns}
-use Rattle.arm64_hint_terms.specs.declared.rels.Rel.{Rel}
-use Rattle.arm64_hint_terms.specs.declared.rels.Rel.TheVariants.{Entry, Absent}
 use Rattle.arm64_hint_terms.specs.declared.rels.Rels.{Rels}
 use Rattle.arm64_hint_laws.specs.Decide.{by_rule, decide}
 
@@ -17,28 +16,28 @@ pub record AlikeEntry (a b : Reloc) : Type 0 where
   pub addend : a.addend ≡ b.addend
 
 -- neither place has an entry, or both have alike ones
-pub data SameRel : Rel → Rel → Type 0 where
-  neither : SameRel Absent Absent
-  both : {a b : Reloc} → AlikeEntry a b → SameRel (Entry a) (Entry b)
+pub data SameRel : Option Reloc → Option Reloc → Type 0 where
+  neither : SameRel None None
+  both : {a b : Reloc} → AlikeEntry a b → SameRel (Some a) (Some b)
 
 -- ---- what the entries say
 
-same-page : {a b : Rel} → SameRel a b → (got : Bool) → is_page_rel a got ≡ is_page_rel b got
+same-page : {a b : Option Reloc} → SameRel a b → (got : Bool) → is_page_rel a got ≡ is_page_rel b got
 unfolding is_page_rel
 same-page neither got = refl
 same-page (both e) got = rw e.type
 
-same-pageoff : {a b : Rel} → SameRel a b → (got : Bool) → is_pageoff_rel a got ≡ is_pageoff_rel b got
+same-pageoff : {a b : Option Reloc} → SameRel a b → (got : Bool) → is_pageoff_rel a got ≡ is_pageoff_rel b got
 unfolding is_pageoff_rel
 same-pageoff neither got = refl
 same-pageoff (both e) got = rw e.type
 
-same-absent : {a b : Rel} → SameRel a b → is_absent a ≡ is_absent b
+same-absent : {a b : Option Reloc} → SameRel a b → is_absent a ≡ is_absent b
 unfolding is_absent
 same-absent neither = refl
 same-absent (both e) = refl
 
-same-reference : {a b c d : Rel} → SameRel a b → SameRel c d → same_reference a c ≡ same_reference b d
+same-reference : {a b c d : Option Reloc} → SameRel a b → SameRel c d → same_reference a c ≡ same_reference b d
 unfolding same_reference
 same-reference neither neither = refl
 same-reference neither (both f) = refl

@@ -1,6 +1,7 @@
 -- LLVM's kinds define each hint (RULES 1.5, 8.2 to 8.4): macho's word counts are LLVM's, a number that is no kind declines, and a hint is
 -- only rewritten where its words and its entries are what its kind says, or one of the named exceptions stands there. By cases on the kind, on what
 -- the words decode to, and on the entries' test; the decoders' answers are the manual's forms by arm64_insn's `Decodes`.
+use Rattle.std.specs.Prelude.{Result, Ok, Err, Option, Some, None}
 use mathlib.Core.Path.{◌≡◌, refl, sym, ap, subst, ◌∙◌}
 use mathlib.Core.Logic.{◌⊎◌, inl, inr}
 use mathlib.Core.Bool.{Bool, true, false, not}
@@ -23,31 +24,22 @@ use Rattle.arm64_insn.specs.LoadStore.{load_store_of}
 use Rattle.arm64_insn.specs.Literal.{has_literal_form}
 use Rattle.arm64_insn.proofs.Decodes.{adrp-decodes, add-decodes, decodes-load-store, load-store-decodes}
 use Rattle.arm64_insn.specs.declared.adrp.Adrp.{Adrp}
-use Rattle.arm64_insn.specs.declared.adrp.AdrpWord.TheVariants as A
+use Rattle.arm64_hint_terms.specs.declared.answer.NoRewrite.{NoRewrite}
+use Rattle.arm64_hint_got.specs.declared.GotLoad.{GotLoad}
+use Rattle.arm64_hint_terms.specs.declared.answer.NoRewrite.TheVariants.{Declined, Nine}
 use Rattle.arm64_insn.specs.declared.add.Add.{Add}
-use Rattle.arm64_insn.specs.declared.add.AddWord.TheVariants as D
 use Rattle.arm64_insn.specs.declared.ldst.LoadStore.{LoadStore}
-use Rattle.arm64_insn.specs.declared.ldst.LoadStoreWord.{LoadStoreWord}
-use Rattle.arm64_insn.specs.declared.ldst.LoadStoreWord.TheVariants as L
 use Rattle.arm64_hint_terms.specs.Answer.{sum_of, summed}
 use Rattle.arm64_hint_adrp.specs.Two.{adrp_adrp, adrp_ldr, adrp_add}
 use Rattle.arm64_hint_adrp.specs.Three.{through, fold_or_adr, adrp_add_ldr_with, adrp_add_ldr, adrp_add_str_with, adrp_add_str}
 use Rattle.arm64_hint_got.specs.Got.{got_load, adrp_ldr_got_with, adrp_ldr_got, got_ldr_by, got_ldr_with, adrp_ldr_got_ldr, got_str_by, got_str_with, adrp_ldr_got_str}
+use Rattle.arm64_hint_got.specs.declared.GotLoad.TheVariants.{Slot, Relaxed}
 use Rattle.arm64_hint_laws.specs.Decide.{decide}
 use Rattle.arm64_hint_terms.specs.Kinds.{Word, Adrp-Page, Adrp-GotPage, Add-PageOff, Ldr-PageOff, Ldr-GotPageOff, Ldr, Str}
 use Rattle.arm64_hint_terms.specs.Kinds.{HintKind, kinds, words_among, words_of, IsAdrp, IsAdd, IsAccess, IsWord, IsInstead, AreWords, OneV, Refers}
 use Rattle.arm64_hint_terms.specs.declared.answer.Insns.{Insns}
 use Rattle.arm64_hint_terms.specs.declared.answer.Plan.{Plan}
-use Rattle.arm64_hint_terms.specs.declared.answer.NewWord.TheVariants.{Keep}
-use Rattle.arm64_hint_terms.specs.declared.answer.Decision.{Decision}
-use Rattle.arm64_hint_terms.specs.declared.answer.Decision.TheVariants.{Declined, Nine, Rewritten}
-use Rattle.arm64_hint_terms.specs.declared.rels.Rel.{Rel}
-use Rattle.arm64_hint_terms.specs.declared.rels.Rel.TheVariants.{Entry}
 use Rattle.arm64_hint_terms.specs.declared.rels.Rels.{Rels}
-use Rattle.arm64_hint_adrp.specs.declared.three.Through.{Through}
-use Rattle.arm64_hint_adrp.specs.declared.three.Through.TheVariants as T
-use Rattle.arm64_hint_got.specs.declared.GotLoad.{GotLoad}
-use Rattle.arm64_hint_got.specs.declared.GotLoad.TheVariants as G
 use Rattle.arm64_hint_terms.proofs.References.{refers-adrp-adrp, refers-adrp-ldr, refers-adrp-add-ldr, refers-adrp-ldr-got-ldr, refers-adrp-add-str}
 use Rattle.arm64_hint_terms.proofs.References.{refers-adrp-ldr-got-str, refers-adrp-add, refers-adrp-ldr-got}
 use Rattle.arm64_hint_adrp.proofs.Adds.{Adds, adds}
@@ -73,10 +65,10 @@ unfolding word_count words_of
 counts n = count-in kinds n
 
 -- a number that is no kind declines
-pub no_kind : (n : ℕ) (s : Insns) (r : Rels) → words_of n ≡ [] → decide n s r ≡ Declined
+pub no_kind : (n : ℕ) (s : Insns) (r : Rels) → words_of n ≡ [] → decide n s r ≡ Err Declined
 unfolding words_of choose
 no_kind n s r =
-    by_kind s r (λ (k : ℕ) (d : Decision). words_of k ≡ [] → d ≡ Declined)
+    by_kind s r (λ (k : ℕ) (d : Result Plan NoRewrite). words_of k ≡ [] → d ≡ Err Declined)
     (record {
       declined = λ k e. refl;
       adrp-adrp = λ p _ e. never (cc);
@@ -91,16 +83,16 @@ no_kind n s r =
     n
 
 -- a decision that does not write the third place
-abbrev pub KeepsThird : Decision → Type 0
-KeepsThird Declined = Unit {0}
-KeepsThird Nine = Unit {0}
-KeepsThird (Rewritten p) = p.w2 ≡ Keep
+abbrev pub KeepsThird : Result Plan NoRewrite → Type 0
+KeepsThird (Err Declined) = Unit {0}
+KeepsThird (Err Nine) = Unit {0}
+KeepsThird (Ok p) = p.w2 ≡ None
 
 -- a kind of two words never writes the third place
 pub two-words : (n : ℕ) (s : Insns) (r : Rels) → length (words_of n) ≡ 2 → KeepsThird (decide n s r)
 unfolding words_of choose
 two-words n s r =
-    by_kind s r (λ (k : ℕ) (d : Decision). length (words_of k) ≡ 2 → KeepsThird d)
+    by_kind s r (λ (k : ℕ) (d : Result Plan NoRewrite). length (words_of k) ≡ 2 → KeepsThird d)
     (record {
       declined = λ k e. tt;
       adrp-adrp = λ p _ e. Cases.adrp-adrp s KeepsThird tt (λ z. refl) p;
@@ -119,31 +111,31 @@ abbrev pub word_list : Insns → List ℕ
 word_list s = s.w0 ∷ s.w1 ∷ s.w2 ∷ []
 
 -- what is not declined has entries that refer to what the kind says
-abbrev Referred : Rels → ℕ → Decision → Type 0
-Referred r k Declined = Unit {0}
-Referred r k Nine = Refers k r
-Referred r k (Rewritten p) = Refers k r
+abbrev Referred : Rels → ℕ → Result Plan NoRewrite → Type 0
+Referred r k (Err Declined) = Unit {0}
+Referred r k (Err Nine) = Refers k r
+Referred r k (Ok p) = Refers k r
 
 -- a rule that declines where the entries' test is false
-paired : (r : Rels) (k : ℕ) (f : Bool → Decision) → f false ≡ Declined → (pair : Bool) → (pair ≡ true → Refers k r) → Referred r k (f pair)
+paired : (r : Rels) (k : ℕ) (f : Bool → Result Plan NoRewrite) → f false ≡ Err Declined → (pair : Bool) → (pair ≡ true → Refers k r) → Referred r k (f pair)
 paired r k f e true h = any (f true)
   where
-    any : (d : Decision) → Referred r k d
-    any Declined = tt
-    any Nine = h refl
-    any (Rewritten p) = h refl
+    any : (d : Result Plan NoRewrite) → Referred r k d
+    any (Err Declined) = tt
+    any (Err Nine) = h refl
+    any (Ok p) = h refl
 paired r k f e false h = rw e tt
 
-got-ldr-unpaired : (s : Insns) (z : LoadStoreWord) → got_ldr_with s false z ≡ Declined
+got-ldr-unpaired : (s : Insns) (z : Option LoadStore) → got_ldr_with s false z ≡ Err Declined
 unfolding got_load choose
-got-ldr-unpaired s L.Other = refl
-got-ldr-unpaired s (L.LoadStore ld) = refl
+got-ldr-unpaired s None = refl
+got-ldr-unpaired s (Some ld) = refl
 
-got-str-unpaired : (s : Insns) (z : LoadStoreWord) → got_str_with s false z ≡ Declined
+got-str-unpaired : (s : Insns) (z : Option LoadStore) → got_str_with s false z ≡ Err Declined
 unfolding got_load
-got-str-unpaired s L.Other = refl
-got-str-unpaired s (L.LoadStore st) =
-    chosen (λ (d : Decision). d ≡ Declined) st.is_store (got_str_by s st (got_load s false)) Declined (unfold choose in refl) refl
+got-str-unpaired s None = refl
+got-str-unpaired s (Some st) =
+    chosen (λ (d : Result Plan NoRewrite). d ≡ Err Declined) st.is_store (got_str_by s st (got_load s false)) (Err Declined) (unfold choose in refl) refl
 
 referred : (n : ℕ) (s : Insns) (r : Rels) → Referred r n (decide n s r)
 unfolding choose adrp_adrp adrp_ldr adrp_add_ldr adrp_add_str through adrp_ldr_got_ldr adrp_ldr_got_str adrp_add adrp_ldr_got got_load
@@ -165,53 +157,53 @@ referred n s r =
     n
 
 -- entries that do not refer to what the kind says: the hint declines
-pub entries : (n : ℕ) (s : Insns) (r : Rels) → (Refers n r → ⊥) → decide n s r ≡ Declined
+pub entries : (n : ℕ) (s : Insns) (r : Rels) → (Refers n r → ⊥) → decide n s r ≡ Err Declined
 entries n s r f = go (decide n s r) (referred n s r)
   where
-    go : (d : Decision) → Referred r n d → d ≡ Declined
-    go Declined h = refl
-    go Nine h = absurd (f h)
-    go (Rewritten p) h = absurd (f h)
+    go : (d : Result Plan NoRewrite) → Referred r n d → d ≡ Err Declined
+    go (Err Declined) h = refl
+    go (Err Nine) h = absurd (f h)
+    go (Ok p) h = absurd (f h)
 
 -- a hint that is rewritten has entries that do
-pub references : (n : ℕ) (s : Insns) (r : Rels) (p : Plan) → decide n s r ≡ Rewritten p → Refers n r
+pub references : (n : ℕ) (s : Insns) (r : Rels) (p : Plan) → decide n s r ≡ Ok p → Refers n r
 references n s r p e = subst (Referred r n) e (referred n s r)
 
 -- two targets, or two addends: the hint declines, but for ADRP_ADRP
-module _ (n : ℕ) (s : Insns) (r : Rels) (a b : Reloc) (ne : n ≡ MCLOH_AdrpAdrp → ⊥) (first : r.r0 ≡ Entry a) (second : r.r1 ≡ Entry b) where
+module _ (n : ℕ) (s : Insns) (r : Rels) (a b : Reloc) (ne : n ≡ MCLOH_AdrpAdrp → ⊥) (first : r.r0 ≡ Some a) (second : r.r1 ≡ Some b) where
   one : Refers n r → (a.target ≡ b.target) × (a.addend ≡ b.addend)
-  one f = subst (λ (x : Rel). OneV (Entry a) x) second (subst (λ (x : Rel). OneV x r.r1) first (f.one ne))
+  one f = subst (λ (x : Option Reloc). OneV (Some a) x) second (subst (λ (x : Option Reloc). OneV x r.r1) first (f.one ne))
 
-  pub two-targets : (a.target ≡ b.target → ⊥) → decide n s r ≡ Declined
+  pub two-targets : (a.target ≡ b.target → ⊥) → decide n s r ≡ Err Declined
   two-targets h = entries n s r (λ f. h (one f).0)
 
-  pub two-addends : (a.addend ≡ b.addend → ⊥) → decide n s r ≡ Declined
+  pub two-addends : (a.addend ≡ b.addend → ⊥) → decide n s r ≡ Err Declined
   two-addends h = entries n s r (λ f. h (one f).1)
 
 -- where it is rewritten, a hint's words are what the kind says, or what may stand there instead
-abbrev pub Worded : Insns → ℕ → Decision → Type 0
-Worded s k Declined = Unit {0}
-Worded s k Nine = Unit {0}
-Worded s k (Rewritten p) = AreWords (words_of k) (word_list s)
+abbrev pub Worded : Insns → ℕ → Result Plan NoRewrite → Type 0
+Worded s k (Err Declined) = Unit {0}
+Worded s k (Err Nine) = Unit {0}
+Worded s k (Ok p) = AreWords (words_of k) (word_list s)
 
-anyway : (s : Insns) (k : ℕ) (d : Decision) → AreWords (words_of k) (word_list s) → Worded s k d
-anyway s k Declined h = tt
-anyway s k Nine h = tt
-anyway s k (Rewritten p) h = h
+anyway : (s : Insns) (k : ℕ) (d : Result Plan NoRewrite) → AreWords (words_of k) (word_list s) → Worded s k d
+anyway s k (Err Declined) h = tt
+anyway s k (Err Nine) h = tt
+anyway s k (Ok p) h = h
 
 -- what the decoders answer, in the manual's forms
 
-adrp-word : (w : ℕ) (a : Adrp) → adrp_of w ≡ A.Adrp a → IsAdrp w
+adrp-word : (w : ℕ) (a : Adrp) → adrp_of w ≡ Some a → IsAdrp w
 adrp-word w a e = record { rd = a.rd; imm21 = a.imm; is = adrp-decodes w a e }
 
-add-word : (w : ℕ) (d : Add) → add_of w ≡ D.Add d → IsAdd w
+add-word : (w : ℕ) (d : Add) → add_of w ≡ Some d → IsAdd w
 add-word w d e = record { rd = d.rd; rn = d.rn; imm12 = d.imm; is = add-decodes w d e }
 
-inside : (a b : LoadStore) → L.LoadStore a ≡ L.LoadStore b → a ≡ b
+inside : (a b : LoadStore) → Some a ≡ Some b → a ≡ b
 inside a b e = cc
 
 -- a load or store of the manual
-module _ (w : ℕ) (l : LoadStore) (e : load_store_of w ≡ L.LoadStore l) where
+module _ (w : ℕ) (l : LoadStore) (e : load_store_of w ≡ Some l) where
   access-word : (stores : Bool) → l.is_store ≡ stores → IsAccess w stores
   access-word stores b =
       let d = load-store-decodes w l e in
@@ -249,51 +241,51 @@ module _ (s : Insns) where
   relaxed-words d target m ws h = (inl (adrp-word s.w0 m.adrp m.first), (inr (add-word s.w1 d m.second), h))
 
   -- whatever is decided after a GOT load
-  got-words : (k : ℕ) (f : GotLoad → Decision) (ws : List Word) → words_of k ≡ Adrp-GotPage ∷ Ldr-GotPageOff ∷ ws → AreWords ws (s.w2 ∷ [])
-      → f G.Neither ≡ Declined → f G.Over ≡ Nine → (g : GotLoad) → Got s g → Worded s k (f g)
-  got-words k f ws e h n o G.Neither z = rw n tt
-  got-words k f ws e h n o G.Over z = rw o tt
-  got-words k f ws e h n o (G.Slot slot ld) l = anyway s k (f (G.Slot slot ld)) (rw e (slot-words ld slot l ws h))
-  got-words k f ws e h n o (G.Relaxed target d) m = anyway s k (f (G.Relaxed target d)) (rw e (relaxed-words d target m ws h))
+  got-words : (k : ℕ) (f : Result GotLoad NoRewrite → Result Plan NoRewrite) (ws : List Word) → words_of k ≡ Adrp-GotPage ∷ Ldr-GotPageOff ∷ ws → AreWords ws (s.w2 ∷ [])
+      → f (Err Declined) ≡ Err Declined → f (Err Nine) ≡ Err Nine → (g : Result GotLoad NoRewrite) → Got s g → Worded s k (f g)
+  got-words k f ws e h n o (Err Declined) z = rw n tt
+  got-words k f ws e h n o (Err Nine) z = rw o tt
+  got-words k f ws e h n o (Ok (Slot slot ld)) l = anyway s k (f (Ok (Slot slot ld))) (rw e (slot-words ld slot l ws h))
+  got-words k f ws e h n o (Ok (Relaxed target d)) m = anyway s k (f (Ok (Relaxed target d))) (rw e (relaxed-words d target m ws h))
 
   -- whatever is decided of ADRP, ADD and an access
   adds-words : (k : ℕ) (w : Word) → words_of k ≡ Adrp-Page ∷ Add-PageOff ∷ w ∷ [] → (addr : ℕ) (d : Add) (ls : LoadStore) → Adds s addr d ls
-      → IsWord w s.w2 ⊎ IsInstead w s.w2 → (x : Decision) → Worded s k x
+      → IsWord w s.w2 ⊎ IsInstead w s.w2 → (x : Result Plan NoRewrite) → Worded s k x
   adds-words k w e addr d ls t h x =
       anyway s k x (rw e (inl (adrp-word s.w0 t.adrp t.first), (inl (add-word s.w1 d t.second), (h, tt))))
 
-  add-ldr-words : (x : Through) → ((addr : ℕ) (d : Add) (ls : LoadStore) → x ≡ T.At addr d ls → Adds s addr d ls)
+  add-ldr-words : (x : Result (ℕ × Add × LoadStore) NoRewrite) → ((addr : ℕ) (d : Add) (ls : LoadStore) → x ≡ Ok (addr, d, ls) → Adds s addr d ls)
       → Worded s MCLOH_AdrpAddLdr (adrp_add_ldr_with s x)
   unfolding words_of choose
-  add-ldr-words T.Neither f = tt
-  add-ldr-words T.Over f = tt
-  add-ldr-words (T.At addr d ld) f =
+  add-ldr-words (Err Declined) f = tt
+  add-ldr-words (Err Nine) f = tt
+  add-ldr-words (Ok (addr, d, ld)) f =
       let t = f addr d ld refl in
-      adds-words MCLOH_AdrpAddLdr Ldr refl addr d ld t (last_word s.w2 ld t.third) (adrp_add_ldr_with s (T.At addr d ld))
+      adds-words MCLOH_AdrpAddLdr Ldr refl addr d ld t (last_word s.w2 ld t.third) (adrp_add_ldr_with s (Ok (addr, d, ld)))
 
-  add-str-words : (x : Through) → ((addr : ℕ) (d : Add) (ls : LoadStore) → x ≡ T.At addr d ls → Adds s addr d ls)
+  add-str-words : (x : Result (ℕ × Add × LoadStore) NoRewrite) → ((addr : ℕ) (d : Add) (ls : LoadStore) → x ≡ Ok (addr, d, ls) → Adds s addr d ls)
       → Worded s MCLOH_AdrpAddStr (adrp_add_str_with s x)
   unfolding words_of
-  add-str-words T.Neither f = tt
-  add-str-words T.Over f = tt
-  add-str-words (T.At addr d st) f =
+  add-str-words (Err Declined) f = tt
+  add-str-words (Err Nine) f = tt
+  add-str-words (Ok (addr, d, st)) f =
       let t = f addr d st refl in
-      split (Worded s MCLOH_AdrpAddStr) st.is_store _ Declined
+      split (Worded s MCLOH_AdrpAddStr) st.is_store _ (Err Declined)
       (λ b. adds-words MCLOH_AdrpAddStr Str (unfold choose in refl) addr d st t (inl (access-word s.w2 st t.third true b))
       (summed (sum_of addr st.offset) (fold_or_adr s addr d st)))
       (λ b. tt)
 
-  got-ldr-words : (pair : Bool) (z : LoadStoreWord) → load_store_of s.w2 ≡ z → Worded s MCLOH_AdrpLdrGotLdr (got_ldr_with s pair z)
+  got-ldr-words : (pair : Bool) (z : Option LoadStore) → load_store_of s.w2 ≡ z → Worded s MCLOH_AdrpLdrGotLdr (got_ldr_with s pair z)
   unfolding words_of choose
-  got-ldr-words pair L.Other e = tt
-  got-ldr-words pair (L.LoadStore ld) e =
+  got-ldr-words pair None e = tt
+  got-ldr-words pair (Some ld) e =
       got-words MCLOH_AdrpLdrGotLdr (got_ldr_by s ld) (Ldr ∷ []) refl (last_word s.w2 ld e, tt) refl refl (got_load s pair) (got s pair)
 
-  got-str-words : (pair : Bool) (z : LoadStoreWord) → load_store_of s.w2 ≡ z → Worded s MCLOH_AdrpLdrGotStr (got_str_with s pair z)
+  got-str-words : (pair : Bool) (z : Option LoadStore) → load_store_of s.w2 ≡ z → Worded s MCLOH_AdrpLdrGotStr (got_str_with s pair z)
   unfolding words_of
-  got-str-words pair L.Other e = tt
-  got-str-words pair (L.LoadStore st) e =
-      split (Worded s MCLOH_AdrpLdrGotStr) st.is_store _ Declined
+  got-str-words pair None e = tt
+  got-str-words pair (Some st) e =
+      split (Worded s MCLOH_AdrpLdrGotStr) st.is_store _ (Err Declined)
       (λ b. got-words MCLOH_AdrpLdrGotStr (got_str_by s st) (Str ∷ []) (unfold choose in refl) (inl (access-word s.w2 st e true b), tt) refl refl
       (got_load s pair) (got s pair))
       (λ b. tt)

@@ -1,5 +1,6 @@
 -- Nothing that a kind's entries may be is there in vain: for every choice of entries that refer to what a kind says, exceptions and mixed halves included,
 -- there are words with which the hint is rewritten (RULES 8.4, 8.9). One hint's words for each kind, computed.
+use Rattle.std.specs.Prelude.{Option, Some, None}
 use mathlib.Core.Path.{◌≡◌, sym, subst}
 use mathlib.Core.List.{[]}
 use Prim.Native.Nat.{ℕ}
@@ -25,8 +26,6 @@ use Rattle.arm64_hint_terms.specs.declared.answer.Insns.{Insns}
 use Rattle.arm64_hint_terms.specs.declared.answer.Plan.{Plan}
 use Rattle.arm64_hint_terms.specs.declared.answer.Rewrite.{Rewrite}
 use Rattle.arm64_hint_terms.specs.declared.answer.Rewrite.TheVariants.{Drop, Literal, Adr, Fold, Slot}
-use Rattle.arm64_hint_terms.specs.declared.answer.NewWord.{NewWord}
-use Rattle.arm64_hint_terms.specs.declared.answer.NewWord.TheVariants.{Keep, Set}
 use Rattle.arm64_hint_terms.specs.declared.rels.Rels.{Rels}
 use Rattle.arm64_hint_terms.proofs.References.{passes-adrp-adrp, passes-adrp-ldr, passes-adrp-add-ldr, passes-adrp-ldr-got-ldr, passes-adrp-add-str}
 use Rattle.arm64_hint_terms.proofs.References.{passes-adrp-ldr-got-str, passes-adrp-add, passes-adrp-ldr-got}
@@ -44,7 +43,7 @@ barring = tt
 abbrev at : ℕ → ℕ → ℕ → Insns
 at a b c = record { w0 = a; w1 = b; w2 = c; p0 = 0x1000; p1 = 0x1004; p2 = 0x1008 }
 
-abbrev writes : Rewrite → NewWord → NewWord → NewWord → Plan
+abbrev writes : Rewrite → Option ℕ → Option ℕ → Option ℕ → Plan
 writes r a b c = record { rewrite = r; w0 = a; w1 = b; w2 = c }
 
 module _ (r : Rels) where
@@ -52,7 +51,7 @@ module _ (r : Rels) where
   unfolding barring choose adrp_adrp adrp_of same_page adrp_page page_of
   adrp-adrp f = record {
     words = at 0x90000000 0x90000000 0;
-    plan = writes Drop Keep (Set nop_word) Keep;
+    plan = writes Drop None (Some nop_word) None;
     rewritten = rw (passes-adrp-adrp r f);
   }
 
@@ -61,7 +60,7 @@ module _ (r : Rels) where
       literal_word literal_opc literal_v
   adrp-ldr f = record {
     words = at 0x90000000 0xf9400401 0;
-    plan = writes Literal (Set nop_word) (Set 0x58000021) Keep;
+    plan = writes Literal (Some nop_word) (Some 0x58000021) None;
     rewritten = rw (passes-adrp-ldr r f);
   }
 
@@ -70,7 +69,7 @@ module _ (r : Rels) where
       within1mb in_range folds fold_or_adr base_word
   adrp-add-ldr f = record {
     words = at 0x905bed00 0x912f2001 0x3d000025;
-    plan = writes Fold Keep (Set nop_word) (Set 0x3d2f2005);
+    plan = writes Fold None (Some nop_word) (Some 0x3d2f2005);
     rewritten = rw (passes-adrp-add-ldr r f);
   }
 
@@ -79,7 +78,7 @@ module _ (r : Rels) where
       in_range literal_word literal_opc literal_v
   adrp-ldr-got-ldr f = record {
     words = at 0xb0000000 0xf9400402 0x39c00042;
-    plan = writes Slot (Set nop_word) (Set 0x58008022) Keep;
+    plan = writes Slot (Some nop_word) (Some 0x58008022) None;
     rewritten = rw (passes-adrp-ldr-got-ldr r f);
   }
 
@@ -88,7 +87,7 @@ module _ (r : Rels) where
       base_word
   adrp-add-str f = record {
     words = at 0x90001000 0x91004000 0xf9000001;
-    plan = writes Fold Keep (Set nop_word) (Set 0xf9000801);
+    plan = writes Fold None (Some nop_word) (Some 0xf9000801);
     rewritten = rw (passes-adrp-add-str r f);
   }
 
@@ -97,7 +96,7 @@ module _ (r : Rels) where
       in_range literal_word literal_opc literal_v
   adrp-ldr-got-str f = record {
     words = at 0xb0000000 0xf9400402 0x39000042;
-    plan = writes Slot (Set nop_word) (Set 0x58008022) Keep;
+    plan = writes Slot (Some nop_word) (Some 0x58008022) None;
     rewritten = rw (passes-adrp-ldr-got-str r f);
   }
 
@@ -105,7 +104,7 @@ module _ (r : Rels) where
   unfolding barring choose adrp_add adrp_of add_of add_at_page adrp_page page_of sum_of adr_to within1mb in_range adr_word
   adrp-add f = record {
     words = at 0x90000000 0x91000c00 0;
-    plan = writes Adr (Set 0x70000000) (Set nop_word) Keep;
+    plan = writes Adr (Some 0x70000000) (Some nop_word) None;
     rewritten = rw (passes-adrp-add r f);
   }
 
@@ -114,7 +113,7 @@ module _ (r : Rels) where
       literal_word literal_opc literal_v
   adrp-ldr-got f = record {
     words = at 0xb0000000 0xf9400402 0;
-    plan = writes Slot (Set nop_word) (Set 0x58008022) Keep;
+    plan = writes Slot (Some nop_word) (Some 0x58008022) None;
     rewritten = rw (passes-adrp-ldr-got r f);
   }
 

@@ -1,6 +1,7 @@
 -- What the order of fold and ADR changes (RULES 8.18, 8.20): a hint that both fit is folded where the Rust's order has the ADR, which is another word
 -- at place 0, and every other hint of the two kinds is decided as in the Rust's order, where number 31 does not bar it. By a walk through both
 -- definitions: each test by cases.
+use Rattle.std.specs.Prelude.{Result, Ok, Err, Option, Some, None}
 use mathlib.Core.Path.{◌≡◌, refl, sym, ap, subst, ◌∙◌}
 use mathlib.Core.Logic.{◌⊎◌, inl, inr, ⊎_elim}
 use mathlib.Core.Bool.{Bool, true, false}
@@ -31,18 +32,14 @@ use Rattle.arm64_hint_terms.specs.Answer.{sum_of, summed, fits_literal}
 use Rattle.arm64_hint_terms.specs.Plans.{literal_third, adr_third, folded}
 use Rattle.arm64_hint_terms.specs.Rels.{is_page_rel, is_pageoff_rel, same_reference, is_absent, has_page_pair}
 use Rattle.arm64_hint_terms.specs.declared.answer.Insns.{Insns}
-use Rattle.arm64_hint_terms.specs.declared.answer.Sum.{Sum}
-use Rattle.arm64_hint_terms.specs.declared.answer.Sum.TheVariants.{Of, Over}
+use Rattle.arm64_hint_terms.specs.declared.answer.NoRewrite.{NoRewrite}
+use Rattle.arm64_hint_terms.specs.declared.answer.NoRewrite.TheVariants.{Declined, Nine}
 use Rattle.arm64_hint_terms.specs.declared.answer.Plan.{Plan}
 use Rattle.arm64_hint_terms.specs.declared.answer.Rewrite.TheVariants.{Adr, Fold}
-use Rattle.arm64_hint_terms.specs.declared.answer.Decision.{Decision}
-use Rattle.arm64_hint_terms.specs.declared.answer.Decision.TheVariants.{Declined, Rewritten}
 use Rattle.arm64_hint_terms.specs.declared.rels.Rels.{Rels}
 use Rattle.arm64_hint_terms.proofs.Ways.{never, sum_is}
 use Rattle.arm64_hint_adrp.specs.Three.{add_access, through, folds, fold_third, fold_or_adr, load_through}
 use Rattle.arm64_hint_adrp.specs.Three.{adrp_add_ldr_with, adrp_add_ldr, adrp_add_str_with, adrp_add_str}
-use Rattle.arm64_hint_adrp.specs.declared.three.Through.{Through}
-use Rattle.arm64_hint_adrp.specs.declared.three.Through.TheVariants as T
 use Rattle.arm64_hint_adrp.proofs.Adds.{Adds, adds}
 use Rattle.arm64_hint_laws.specs.Decide.{by_rule, bars31, decide}
 use Rattle.arm64_hint_laws.specs.RustOrder.{adr_or_fold, ldr_in_rust_order, str_in_rust_order, in_rust_order, BothFit}
@@ -70,7 +67,7 @@ module _ (s : Insns) (r : Rels) (d : Add) (addr : ℕ) (ls : LoadStore) (w : Thi
       omega (arith, t.made, page-sum t.adrp.imm s.p0 d.imm (decoded-add s.w1 d t.second).immediate)
 
   -- what the words make
-  makes-at : through s true ≡ T.At addr d ls
+  makes-at : through s true ≡ Ok (addr, d, ls)
   unfolding through add_access sum_of choose
   makes-at =
       let t = w.through in
@@ -85,7 +82,7 @@ module _ (s : Insns) (r : Rels) (d : Add) (addr : ℕ) (ls : LoadStore) (w : Thi
       )
 
   -- what the access reaches
-  reaches : sum_of addr ls.offset ≡ Of addr
+  reaches : sum_of addr ls.offset ≡ Some addr
   unfolding sum_of choose
   reaches = rw (← w.reached, lt-ltb addr (2 ^ 64) below)
 
@@ -143,7 +140,7 @@ moved_word kind s r f e =
 -- ---- every other hint
 
 -- two tests in either order decide alike, but where both hold
-either_order : (b c : Bool) (x y z : Decision) → (choose b x (choose c y z) ≡ choose c y (choose b x z)) ⊎ ((b ≡ true) × (c ≡ true))
+either_order : (b c : Bool) (x y z : Result Plan NoRewrite) → (choose b x (choose c y z) ≡ choose c y (choose b x z)) ⊎ ((b ≡ true) × (c ≡ true))
 unfolding choose
 either_order true true x y z = inr (refl, refl)
 either_order true false x y z = inl refl
@@ -151,13 +148,13 @@ either_order false true x y z = inl refl
 either_order false false x y z = inl refl
 
 -- as do two choices by one test, but where they come to their second ways
-one-test : {Q : Type 0} (t : Bool) (x y z : Decision) → (t ≡ false → (y ≡ z) ⊎ Q) → (choose t x y ≡ choose t x z) ⊎ Q
+one-test : {Q : Type 0} (t : Bool) (x y z : Result Plan NoRewrite) → (t ≡ false → (y ≡ z) ⊎ Q) → (choose t x y ≡ choose t x z) ⊎ Q
 unfolding choose
 one-test true x y z f = inl refl
 one-test false x y z f = f refl
 
 -- or their first
-one-test-first : {Q : Type 0} (t : Bool) (x y z : Decision) → (t ≡ true → (x ≡ y) ⊎ Q) → (choose t x z ≡ choose t y z) ⊎ Q
+one-test-first : {Q : Type 0} (t : Bool) (x y z : Result Plan NoRewrite) → (t ≡ true → (x ≡ y) ⊎ Q) → (choose t x z ≡ choose t y z) ⊎ Q
 unfolding choose
 one-test-first true x y z f = f refl
 one-test-first false x y z f = inl refl
@@ -173,7 +170,7 @@ module _ (s : Insns) (r : Rels) (pair : has_page_pair r 3 false ≡ true) (d : A
   unfolding fold_or_adr adr_or_fold fold_third folds
   last kind target e c =
       ⊎_elim inl (λ b. inr (fit b.0 b.1))
-      (either_order (folds addr ls) (within1mb s.p0 target) (folded ls d.rn d.imm) (adr_third s ls target) Declined)
+      (either_order (folds addr ls) (within1mb s.p0 target) (folded ls d.rn d.imm) (adr_third s ls target) (Err Declined))
     where
       fit : folds addr ls ≡ true → within1mb s.p0 target ≡ true → BothFit kind s r
       fit f near =
@@ -197,34 +194,34 @@ module _ (s : Insns) (r : Rels) (pair : has_page_pair r 3 false ≡ true) (d : A
             comes = subst (Comes kind) q c;
           }
 
-  ldr-sum : (m : Sum) → sum_of addr ls.offset ≡ m
+  ldr-sum : (m : Option ℕ) → sum_of addr ls.offset ≡ m
       → (summed m (load_through s addr d ls)
       ≡ summed m (λ target. choose (fits_literal ls target s.p2) (literal_third s ls target) (adr_or_fold s addr d ls target)))
       ⊎ BothFit MCLOH_AdrpAddLdr s r
   unfolding load_through
-  ldr-sum Over e = inl refl
-  ldr-sum (Of target) e =
+  ldr-sum None e = inl refl
+  ldr-sum (Some target) e =
       one-test (fits_literal ls target s.p2) _ _ _
       (λ l. last MCLOH_AdrpAddLdr target (sum_is addr ls.offset target e).0 (inl (refl, l)))
 
-  str-sum : ls.is_store ≡ true → (m : Sum) → sum_of addr ls.offset ≡ m
+  str-sum : ls.is_store ≡ true → (m : Option ℕ) → sum_of addr ls.offset ≡ m
       → (summed m (fold_or_adr s addr d ls) ≡ summed m (adr_or_fold s addr d ls)) ⊎ BothFit MCLOH_AdrpAddStr s r
-  str-sum l Over e = inl refl
-  str-sum l (Of target) e = last MCLOH_AdrpAddStr target (sum_is addr ls.offset target e).0 (inr (refl, l))
+  str-sum l None e = inl refl
+  str-sum l (Some target) e = last MCLOH_AdrpAddStr target (sum_is addr ls.offset target e).0 (inr (refl, l))
 
 module _ (s : Insns) (r : Rels) where
-  ldr-with : has_page_pair r 3 false ≡ true → (x : Through) → ((addr : ℕ) (d : Add) (ls : LoadStore) → x ≡ T.At addr d ls → Adds s addr d ls)
+  ldr-with : has_page_pair r 3 false ≡ true → (x : Result (ℕ × Add × LoadStore) NoRewrite) → ((addr : ℕ) (d : Add) (ls : LoadStore) → x ≡ Ok (addr, d, ls) → Adds s addr d ls)
       → (adrp_add_ldr_with s x ≡ ldr_in_rust_order s x) ⊎ BothFit MCLOH_AdrpAddLdr s r
-  ldr-with pair T.Neither f = inl refl
-  ldr-with pair T.Over f = inl refl
-  ldr-with pair (T.At addr d ls) f = ldr-sum s r pair d addr ls (f addr d ls refl) (sum_of addr ls.offset) refl
+  ldr-with pair (Err Declined) f = inl refl
+  ldr-with pair (Err Nine) f = inl refl
+  ldr-with pair (Ok (addr, d, ls)) f = ldr-sum s r pair d addr ls (f addr d ls refl) (sum_of addr ls.offset) refl
 
-  str-with : has_page_pair r 3 false ≡ true → (x : Through) → ((addr : ℕ) (d : Add) (ls : LoadStore) → x ≡ T.At addr d ls → Adds s addr d ls)
+  str-with : has_page_pair r 3 false ≡ true → (x : Result (ℕ × Add × LoadStore) NoRewrite) → ((addr : ℕ) (d : Add) (ls : LoadStore) → x ≡ Ok (addr, d, ls) → Adds s addr d ls)
       → (adrp_add_str_with s x ≡ str_in_rust_order s x) ⊎ BothFit MCLOH_AdrpAddStr s r
-  str-with pair T.Neither f = inl refl
-  str-with pair T.Over f = inl refl
-  str-with pair (T.At addr d ls) f =
-      one-test-first ls.is_store _ _ Declined (λ l. str-sum s r pair d addr ls (f addr d ls refl) l (sum_of addr ls.offset) refl)
+  str-with pair (Err Declined) f = inl refl
+  str-with pair (Err Nine) f = inl refl
+  str-with pair (Ok (addr, d, ls)) f =
+      one-test-first ls.is_store _ _ (Err Declined) (λ l. str-sum s r pair d addr ls (f addr d ls refl) l (sum_of addr ls.offset) refl)
 
   -- by the entries' test: without a pair of entries there is nothing that the words make
   ldr-by : (p : Bool) → has_page_pair r 3 false ≡ p → (adrp_add_ldr_with s (through s p) ≡ ldr_in_rust_order s (through s p)) ⊎ BothFit MCLOH_AdrpAddLdr s r
@@ -245,10 +242,10 @@ by_order kind s r =
     split Alike (eqb kind MCLOH_AdrpAddStr) _ _ (λ e. at MCLOH_AdrpAddStr e (str-rules s r) (str-by s r _ refl)) (λ _.
     inl refl))
   where
-    Alike : Decision → Type 0
+    Alike : Result Plan NoRewrite → Type 0
     Alike x = (by_rule kind s r ≡ x) ⊎ BothFit kind s r
 
-    at : (k : ℕ) {x y : Decision} → eqb kind k ≡ true → (by_rule k s r ≡ x) × (in_rust_order k s r ≡ y) → (x ≡ y) ⊎ BothFit k s r → Alike y
+    at : (k : ℕ) {x y : Result Plan NoRewrite} → eqb kind k ≡ true → (by_rule k s r ≡ x) × (in_rust_order k s r ≡ y) → (x ≡ y) ⊎ BothFit k s r → Alike y
     at k {x} {y} e q a =
         subst (λ (n : ℕ). (by_rule n s r ≡ y) ⊎ BothFit n s r) (sym (eqb-true kind k e)) (⊎_elim (λ p. inl (q.0 ∙ p)) inr a)
 
@@ -259,7 +256,7 @@ moved-only kind s r n = ⊎_elim (λ e. inl (else_same kind s r n ∙ e)) inr (b
 -- ---- examples
 
 -- a hint that is folded, and has the ADR in the Rust's order, is one that both fit
-differs : (kind : ℕ) (s : Insns) (r : Rels) (p q : Plan) → bars31 kind s ≡ false → decide kind s r ≡ Rewritten p → in_rust_order kind s r ≡ Rewritten q
+differs : (kind : ℕ) (s : Insns) (r : Rels) (p q : Plan) → bars31 kind s ≡ false → decide kind s r ≡ Ok p → in_rust_order kind s r ≡ Ok q
     → p.rewrite ≡ Fold → q.rewrite ≡ Adr → BothFit kind s r
 differs kind s r p q n ep eq f a =
     ⊎_elim

@@ -1,4 +1,5 @@
 -- What a decision writes is in the table of each kind's rewrites, and each new word has 32 bits. By cases on the rules.
+use Rattle.std.specs.Prelude.{Result, Ok, Err, Option, Some, None}
 use mathlib.Core.Path.{◌≡◌, refl, sym, subst}
 use Prim.Native.Nat.{ℕ, ◌+◌, ◌^◌, ◌<◌}
 use native.Mathlib.Nat.{div-le_self}
@@ -26,10 +27,9 @@ use Rattle.arm64_hint_laws.specs.Written.{slot-6, adr-6, fold-6, adr-7, slot-8, 
 use Rattle.arm64_hint_terms.specs.declared.answer.Insns.{Insns}
 use Rattle.arm64_hint_terms.specs.declared.answer.Rewrite.{Rewrite}
 use Rattle.arm64_hint_terms.specs.declared.answer.Rewrite.TheVariants.{Literal, Slot}
-use Rattle.arm64_hint_terms.specs.declared.answer.NewWord.{NewWord}
-use Rattle.arm64_hint_terms.specs.declared.answer.NewWord.TheVariants.{Keep, Set}
-use Rattle.arm64_hint_terms.specs.declared.answer.Decision.{Decision}
-use Rattle.arm64_hint_terms.specs.declared.answer.Decision.TheVariants.{Declined, Nine, Rewritten}
+use Rattle.arm64_hint_terms.specs.declared.answer.Plan.{Plan}
+use Rattle.arm64_hint_terms.specs.declared.answer.NoRewrite.{NoRewrite}
+use Rattle.arm64_hint_terms.specs.declared.answer.NoRewrite.TheVariants.{Declined, Nine}
 use Rattle.arm64_hint_terms.specs.declared.rels.Rels.{Rels}
 use Rattle.arm64_hint_adrp.proofs.Adds.{Adds}
 use Rattle.arm64_hint_got.proofs.Loads.{Makes}
@@ -98,20 +98,20 @@ written kind s r = by_kind s r (Written s) (each-writes s r) kind
 pub add-never-nine : (s : Insns) (r : Rels) → decision_number (decide MCLOH_AdrpAdd s r) ≡ 0
 add-never-nine s r = other (decide MCLOH_AdrpAdd s r) (written MCLOH_AdrpAdd s r)
   where
-    other : (d : Decision) → Written s MCLOH_AdrpAdd d → decision_number d ≡ 0
+    other : (d : Result Plan NoRewrite) → Written s MCLOH_AdrpAdd d → decision_number d ≡ 0
     other d declines = refl
     other d (adr-7 _ _ _) = refl
 
 -- a new word has 32 bits
-abbrev pub Fits : NewWord → Type 0
-Fits Keep = Unit {0}
-Fits (Set w) = w < 2 ^ 32
+abbrev pub Fits : Option ℕ → Type 0
+Fits None = Unit {0}
+Fits (Some w) = w < 2 ^ 32
 
 -- each new word of a decision has
-abbrev pub AllFit : Decision → Type 0
-AllFit Declined = Unit {0}
-AllFit Nine = Unit {0}
-AllFit (Rewritten p) = Fits p.w0 × Fits p.w1 × Fits p.w2
+abbrev pub AllFit : Result Plan NoRewrite → Type 0
+AllFit (Err Declined) = Unit {0}
+AllFit (Err Nine) = Unit {0}
+AllFit (Ok p) = Fits p.w0 × Fits p.w1 × Fits p.w2
 
 pub nop-fits : nop_word < 2 ^ 32
 nop-fits = lit< tt
@@ -129,7 +129,7 @@ pub base-fits : (ls : LoadStore) (rn offset : ℕ) → rn < 32 → offset < 4096
 unfolding base_word
 base-fits ls rn offset h g = omega (arith, div-le_self offset ls.size)
 
-each_fits : (s : Insns) (r : Rels) → EachRule s r (λ (kind : ℕ) (d : Decision). AllFit d)
+each_fits : (s : Insns) (r : Rels) → EachRule s r (λ (kind : ℕ) (d : Result Plan NoRewrite). AllFit d)
 each_fits s r =
     record {
       declined = λ kind. tt;
@@ -165,4 +165,4 @@ each_fits s r =
 
 -- every new word of a decision has 32 bits, whatever the words and the entries
 pub all_fit : (kind : ℕ) (s : Insns) (r : Rels) → AllFit (decide kind s r)
-all_fit kind s r = by_kind s r (λ (kind : ℕ) (d : Decision). AllFit d) (each_fits s r) kind
+all_fit kind s r = by_kind s r (λ (kind : ℕ) (d : Result Plan NoRewrite). AllFit d) (each_fits s r) kind

@@ -1,5 +1,6 @@
 -- What a listed run answers beside its contract: with room for the records it is the plain run; number 1 comes first, then 2 whatever the hints say; where it
 -- is done the slots hold the records, whose totals are the counts, and a refusal leaves image and slots. Carried by the choices of the definitions.
+use Rattle.std.specs.Prelude.{Result, Ok, Err, ⊤}
 use mathlib.Core.Path.{◌≡◌, refl, sym, ap, ◌∙◌}
 use mathlib.Core.Bool.{false, ◌&&◌}
 use mathlib.Core.List.{List, ◌∷◌, ◌++◌}
@@ -14,8 +15,6 @@ use Rattle.macho.specs.RuleRecord.{rule_record_size, rule_record_at, rule_record
 use Rattle.macho.specs.declared.refusal.Refusal.{Refusal}
 use Rattle.macho.specs.declared.refusal.Refusal.TheVariants.{Lengths, Slots}
 use Rattle.macho.specs.Refusal.{first}
-use Rattle.macho.specs.declared.refusal.Check.{Check}
-use Rattle.macho.specs.declared.refusal.Check.TheVariants as C
 use Rattle.image.specs.Steps.{answered, written}
 use Rattle.arm64_hint_order.specs.Lists.{run_list}
 use Rattle.arm64_hint_order.specs.Cursor.{order_of}
@@ -27,7 +26,6 @@ use Rattle.arm64_hint_work.specs.Step.{steps_of}
 use Rattle.arm64_hint_work.specs.declared.tally.Tally.{Tally}
 use Rattle.arm64_hint_run.specs.Run as Run
 use Rattle.arm64_hint_run.specs.Run.{worked, answer_by, image_by, run_of}
-use Rattle.arm64_hint_run.specs.declared.run.RunAnswer.TheVariants as A
 use Rattle.arm64_hint_run.specs.Records.{record_of, records_of, filled}
 use Rattle.arm64_hint_listed.specs.Listed.{listed_check, listed_of, image_of, slots_of}
 use Rattle.arm64_hint_listed.specs.Totals.{totals}
@@ -40,8 +38,8 @@ module _ (image hints entries slots : List ℕ) where
   unfolding listed_of image_of run_of Run.image_of
   same-run l =
       let e = with-room (length image) hints (length entries) (length slots) l in (
-        ap (λ (c : Check). answer_by c (worked image hints entries (order_of hints)).tally) e,
-        ap (λ (c : Check). image_by c image (worked image hints entries (order_of hints)).image) e,
+        ap (λ (c : Result ⊤ Refusal). answer_by c (worked image hints entries (order_of hints)).tally) e,
+        ap (λ (c : Result ⊤ Refusal). image_by c image (worked image hints entries (order_of hints)).image) e,
       )
 
   -- what the slots hold changes neither answer nor image
@@ -50,51 +48,51 @@ module _ (image hints entries slots : List ℕ) where
   unfolding listed_of image_of
   slots-ignored others e =
       let same = ap (λ (n : ℕ). check_listed (length image) hints (length entries) n) e in (
-        ap (λ (c : Check). answer_by c (worked image hints entries (order_of hints)).tally) same,
-        ap (λ (c : Check). image_by c image (worked image hints entries (order_of hints)).image) same,
+        ap (λ (c : Result ⊤ Refusal). answer_by c (worked image hints entries (order_of hints)).tally) same,
+        ap (λ (c : Result ⊤ Refusal). image_by c image (worked image hints entries (order_of hints)).image) same,
       )
 
   -- number 1, whatever the slots
-  pub not-lists : (is_list (length hints) hint_size && is_list (length entries) reloc_size) ≡ false → listed_of image hints entries slots ≡ A.Refused Lengths
+  pub not-lists : (is_list (length hints) hint_size && is_list (length entries) reloc_size) ≡ false → listed_of image hints entries slots ≡ Err Lengths
   unfolding listed_of check_lists
   not-lists e =
-      ap (λ (c : Check). answer_by c (worked image hints entries (order_of hints)).tally)
+      ap (λ (c : Result ⊤ Refusal). answer_by c (worked image hints entries (order_of hints)).tally)
       (listed-lists (length image) hints (length entries) (length slots) Lengths (choose-false _ _ _ e))
 
   -- then number 2, whatever the hints
-  pub too_short : check_lists (length hints) (length entries) ≡ C.Fit → length slots < rule_record_size * hint_count hints
-      → listed_of image hints entries slots ≡ A.Refused Slots
+  pub too_short : check_lists (length hints) (length entries) ≡ Ok tt → length slots < rule_record_size * hint_count hints
+      → listed_of image hints entries slots ≡ Err Slots
   unfolding listed_of
   too_short e l =
-      ap (λ (c : Check). answer_by c (worked image hints entries (order_of hints)).tally)
-      (without-room (length image) hints (length entries) (length slots) l ∙ ap (λ (c : Check). first c (C.Refused Slots)) e)
+      ap (λ (c : Result ⊤ Refusal). answer_by c (worked image hints entries (order_of hints)).tally)
+      (without-room (length image) hints (length entries) (length slots) l ∙ ap (λ (c : Result ⊤ Refusal). first c (Err Slots)) e)
 
   -- a refusal leaves image and slots
-  pub refused-leaves : (x : Refusal) → listed_of image hints entries slots ≡ A.Refused x
+  pub refused-leaves : (x : Refusal) → listed_of image hints entries slots ≡ Err x
       → (image_of image hints entries slots ≡ image) × (slots_of image hints entries slots ≡ slots)
   unfolding listed_of image_of slots_of
   refused-leaves x e = go (listed_check image hints entries slots) e
     where
-      go : (c : Check) → answer_by c (worked image hints entries (order_of hints)).tally ≡ A.Refused x
+      go : (c : Result ⊤ Refusal) → answer_by c (worked image hints entries (order_of hints)).tally ≡ Err x
           → (image_by c image (worked image hints entries (order_of hints)).image ≡ image)
           × (image_by c slots (filled (records_of image hints entries (order_of hints)) slots) ≡ slots)
-      go C.Fit q = let z : ◌≡◌ {A = ℕ} 0 1 = cc in absurd (omega arith)
-      go (C.Refused y) q = (refl, refl)
+      go (Ok tt) q = let z : ◌≡◌ {A = ℕ} 0 1 = cc in absurd (omega arith)
+      go (Err y) q = (refl, refl)
 
-  module _ (t : Tally) (e : listed_of image hints entries slots ≡ A.Done t) where
+  module _ (t : Tally) (e : listed_of image hints entries slots ≡ Ok t) where
     -- nothing is turned down, and the counts are those of the order of work
-    fit : (listed_check image hints entries slots ≡ C.Fit) × (t ≡ (worked image hints entries (order_of hints)).tally)
+    fit : (listed_check image hints entries slots ≡ Ok tt) × (t ≡ (worked image hints entries (order_of hints)).tally)
     unfolding listed_of
     fit = go (listed_check image hints entries slots) e
       where
-        go : (c : Check) → answer_by c (worked image hints entries (order_of hints)).tally ≡ A.Done t
-            → (c ≡ C.Fit) × (t ≡ (worked image hints entries (order_of hints)).tally)
-        go C.Fit q = (refl, cc)
-        go (C.Refused y) q = let z : ◌≡◌ {A = ℕ} 0 1 = cc in absurd (omega arith)
+        go : (c : Result ⊤ Refusal) → answer_by c (worked image hints entries (order_of hints)).tally ≡ Ok t
+            → (c ≡ Ok tt) × (t ≡ (worked image hints entries (order_of hints)).tally)
+        go (Ok tt) q = (refl, cc)
+        go (Err y) q = let z : ◌≡◌ {A = ℕ} 0 1 = cc in absurd (omega arith)
 
     -- there was room for the records, and the plain run is done, too, with the same counts and image
     pub done : (rule_record_size * hint_count hints ≤ length slots)
-        × (run_of image hints entries ≡ A.Done t)
+        × (run_of image hints entries ≡ Ok t)
         × (image_of image hints entries slots ≡ Run.image_of image hints entries)
     done =
         let room = (listed-fit (length image) hints (length entries) (length slots) fit.0).1 in
@@ -103,7 +101,7 @@ module _ (image hints entries slots : List ℕ) where
 
     fills : slots_of image hints entries slots ≡ filled (records_of image hints entries (order_of hints)) slots
     unfolding slots_of
-    fills = ap (λ (c : Check). image_by c slots (filled (records_of image hints entries (order_of hints)) slots)) fit.0
+    fills = ap (λ (c : Result ⊤ Refusal). image_by c slots (filled (records_of image hints entries (order_of hints)) slots)) fit.0
 
     -- the slots hold the records, and after them what they held
     pub slots_filled : slots_of image hints entries slots

@@ -1,9 +1,10 @@
 -- What a record says of its hint: the rules of each kind with the words that they change are a table, each row of which is reached; the words changed are the
 -- places that get a new word, and no other byte of the image changes; rule 7 is number 9. By the table of what a decision writes, and by computed examples.
+use Rattle.std.specs.Prelude.{Result, Ok, Err, Some, None}
 use mathlib.Core.Path.{◌≡◌, refl, sym, ap, ◌∙◌, subst}
 use mathlib.Core.Bool.{Bool, true, false}
 use mathlib.Core.List.{List, [], ◌∷◌, map}
-use mathlib.Core.Option.{Option, none, some}
+use Rattle.std.specs.Prelude.{Option}
 use Prim.Native.Nat.{ℕ, zero, suc, ◌+◌, ◌<◌}
 use native.Mathlib.Omega.{arith}
 use native.Mathlib.Nat.{not-suc-le-zero, le_of_suc-le-suc}
@@ -28,13 +29,11 @@ use Rattle.arm64_insn.specs.Links.{makes, takes, links31, adds31}
 use Rattle.arm64_insn.specs.Adrp.{adrp_of}
 use Rattle.arm64_hint_terms.specs.Rels.{is_page_rel, both_pages}
 use Rattle.arm64_hint_terms.specs.declared.answer.Insns.{Insns}
-use Rattle.arm64_hint_terms.specs.declared.answer.NewWord.{NewWord}
-use Rattle.arm64_hint_terms.specs.declared.answer.NewWord.TheVariants.{Keep, Set}
-use Rattle.arm64_hint_terms.specs.declared.answer.Decision.{Decision}
-use Rattle.arm64_hint_terms.specs.declared.answer.Decision.TheVariants.{Declined, Nine, Rewritten}
+use Rattle.arm64_hint_terms.specs.declared.answer.Plan.{Plan}
+use Rattle.arm64_hint_terms.specs.declared.answer.NoRewrite.{NoRewrite}
+use Rattle.arm64_hint_terms.specs.declared.answer.NoRewrite.TheVariants.{Declined, Nine}
 use Rattle.arm64_hint_terms.specs.declared.answer.Rewrite.{Rewrite}
 use Rattle.arm64_hint_terms.specs.declared.answer.Rewrite.TheVariants.{Drop, Literal, Adr, Fold, Slot}
-use Rattle.arm64_hint_terms.specs.declared.rels.Rel.TheVariants.{Entry, Absent}
 use Rattle.arm64_hint_terms.specs.declared.rels.Rels.{Rels}
 use Rattle.arm64_hint_adrp.specs.Two.{adrp_adrp}
 use Rattle.arm64_hint_laws.specs.Decide.{by_rule, bars31, decide}
@@ -44,12 +43,9 @@ use Rattle.arm64_hint_laws.proofs.Written as Table
 use Rattle.arm64_hint_laws.proofs.Hinted.{counts, KeepsThird, two-words, two-targets}
 use Rattle.arm64_hint_laws.proofs.Examples as Examples
 use Rattle.arm64_hint_laws.proofs.Examples.{rewrites, decided_of, given_of}
-use Rattle.arm64_hint_words.specs.Place.{new_of}
 use Rattle.arm64_hint_places.specs.Hint.{is_skipped, insns_in, insns_of, rels_of}
 use Rattle.arm64_hint_places.proofs.Places.{insns-none, by_count, count-two}
 use Rattle.arm64_hint_rules.specs.Rule.{hint_outcome, outcome_number, news_in, news_of}
-use Rattle.arm64_hint_rules.specs.declared.outcome.HintOutcome.{HintOutcome}
-use Rattle.arm64_hint_rules.specs.declared.outcome.HintOutcome.TheVariants.{Skipped, Worked}
 use Rattle.arm64_hint_work.specs.Step.{places_of, steps_of}
 use Rattle.arm64_hint_work.specs.Acted.{rewrite_rule, decision_rule, rule_of, changed_at, changed_in, changed_of}
 use Rattle.arm64_hint_listed.specs.Rows as R
@@ -58,7 +54,7 @@ use Rattle.arm64_hint_listed.specs.Rows.{Row, Reached, written_at}
 -- ---- the table
 
 -- what a decision writes is a row
-row_of : (s : Insns) (kind : ℕ) (d : Decision) → Written s kind d → Row kind (decision_rule d) (changed_in d)
+row_of : (s : Insns) (kind : ℕ) (d : Result Plan NoRewrite) → Written s kind d → Row kind (decision_rule d) (changed_in d)
 row_of s kind d W.declines = R.declined
 row_of s kind d W.nine-2 = R.turned-down-2
 row_of s kind d W.nine-3 = R.turned-down-3
@@ -89,7 +85,7 @@ pub in_table : (hints entries : List ℕ) (k : ℕ) (image : List ℕ) → is_sk
     → Row (hint_of hints k).kind (rule_of (answered (steps_of hints entries) k image)) (changed_of (answered (steps_of hints entries) k image))
 unfolding hint_outcome
 in_table hints entries k image e =
-    subst (λ (o : HintOutcome). Row h.kind (rule_of o) (changed_of o)) (sym (choose-false (is_skipped h) Skipped _ e))
+    subst (λ (o : Option (Result Plan NoRewrite × Insns)). Row h.kind (rule_of o) (changed_of o)) (sym (choose-false (is_skipped h) None _ e))
     (row_of s h.kind (decide h.kind s (rels_of entries h)) (Table.written h.kind s (rels_of entries h)))
   where
     h : HintRecord
@@ -101,7 +97,7 @@ in_table hints entries k image e =
 -- ---- each row is reached
 
 -- example i is decided as it says
-example-is : (es : List Examples.Row) (i : ℕ) (e : Examples.Row) → i < length es → get_or (decided_of es) i Declined
+example-is : (es : List Examples.Row) (i : ℕ) (e : Examples.Row) → i < length es → get_or (decided_of es) i (Err Declined)
     ≡ decide (get_or es i e).kind (get_or es i e).words (get_or es i e).entries
 example-is [] i e l = absurd (not-suc-le-zero l)
 example-is (x ∷ es) zero e l = refl
@@ -111,16 +107,16 @@ example-is (x ∷ es) (suc i) e l = example-is es i e (le_of_suc-le-suc l)
 abbrev none-there : Examples.Row
 none-there = record {
   kind = 0;
-  entries = record { r0 = Absent; r1 = Absent; r2 = Absent };
+  entries = record { r0 = None; r1 = None; r2 = None };
   words = record { w0 = 0; w1 = 0; w2 = 0; p0 = 0; p1 = 0; p2 = 0 };
-  gives = Declined;
+  gives = Err Declined;
 }
 
 -- so it reaches the row of what it gives
 by-example : (i : ℕ) → i < 30
-    → Reached (get_or rewrites i none-there).kind (decision_rule (get_or (given_of rewrites) i Declined)) (changed_in (get_or (given_of rewrites) i Declined))
+    → Reached (get_or rewrites i none-there).kind (decision_rule (get_or (given_of rewrites) i (Err Declined))) (changed_in (get_or (given_of rewrites) i (Err Declined)))
 by-example i l =
-    let e = sym (example-is rewrites i none-there l) ∙ ap (λ (ds : List Decision). get_or ds i Declined) (Examples.examples).0 in
+    let e = sym (example-is rewrites i none-there l) ∙ ap (λ (ds : List (Result Plan NoRewrite)). get_or ds i (Err Declined)) (Examples.examples).0 in
     record {
       words = (get_or rewrites i none-there).words;
       entries = (get_or rewrites i none-there).entries;
@@ -133,18 +129,18 @@ abbrev target : ℕ → Reloc
 target n = record { offset = 0; ty = 0; size = 4; is_pcrel = 0; is_subtracted = 0; target = n; signing = 0; addend = 0 }
 
 abbrev two : Rels
-two = record { r0 = Entry (target 5); r1 = Entry (target 6); r2 = Absent }
+two = record { r0 = Some (target 5); r1 = Some (target 6); r2 = None }
 
 abbrev none-words : Insns
 none-words = record { w0 = 0; w1 = 0; w2 = 0; p0 = 0; p1 = 0; p2 = 0 }
 
-no-pages : decide MCLOH_AdrpAdrp none-words two ≡ Declined
+no-pages : decide MCLOH_AdrpAdrp none-words two ≡ Err Declined
 unfolding choose word_count makes takes links31 adds31 bars31 by_rule decide both_pages is_page_rel adrp_adrp adrp_of
 no-pages = refl
 
 declines : (kind : ℕ) → Reached kind rule_declined 0
 declines kind =
-    let e : decide kind none-words two ≡ Declined =
+    let e : decide kind none-words two ≡ Err Declined =
     same_or kind MCLOH_AdrpAdrp (λ q. ap (λ (n : ℕ). decide n none-words two) q ∙ no-pages)
     (λ q. two-targets kind none-words two (target 5) (target 6) q refl refl (λ z. omega arith)) in
     record { words = none-words; entries = two; by = ap decision_rule e; writes = ap changed_in e }
@@ -197,48 +193,48 @@ skipped-is hints entries k image = go (is_skipped h) (decide h.kind s (rels_of e
     s : Insns
     s = insns_of h (words_at (places_of h) image)
 
-    go : (t : Bool) (d : Decision) → eqb (rule_of (choose t Skipped (Worked d s))) rule_skipped ≡ t
+    go : (t : Bool) (d : Result Plan NoRewrite) → eqb (rule_of (choose t None (Some (d, s)))) rule_skipped ≡ t
     go true d = refl
-    go false Declined = refl
-    go false Nine = refl
-    go false (Rewritten p) = other rule_skipped refl refl refl refl refl p.rewrite
+    go false (Err Declined) = refl
+    go false (Err Nine) = refl
+    go false (Ok p) = other rule_skipped refl refl refl refl refl p.rewrite
 
 -- a hint of rule 7 is one of number 9, and only it
-pub turned-down-is : (o : HintOutcome) → eqb (rule_of o) rule_turned_down ≡ eqb (outcome_number o) (number_of Overflow)
-turned-down-is Skipped = refl
-turned-down-is (Worked Declined s) = refl
-turned-down-is (Worked Nine s) = refl
-turned-down-is (Worked (Rewritten p) s) = other rule_turned_down refl refl refl refl refl p.rewrite
+pub turned-down-is : (o : Option (Result Plan NoRewrite × Insns)) → eqb (rule_of o) rule_turned_down ≡ eqb (outcome_number o) (number_of Overflow)
+turned-down-is None = refl
+turned-down-is (Some (Err Declined, s)) = refl
+turned-down-is (Some (Err Nine, s)) = refl
+turned-down-is (Some (Ok p, s)) = other rule_turned_down refl refl refl refl refl p.rewrite
 
 -- ---- the places
 
 -- a place more
-written_one : (at : ℕ) (places : List ℕ) (w : NewWord) (news : List (Option ℕ))
-    → length (written_at (at ∷ places) (new_of w ∷ news)) ≡ changed_at w + length (written_at places news)
-written_one at places Keep news = omega arith
-written_one at places (Set w) news = omega arith
+written_one : (at : ℕ) (places : List ℕ) (w : Option ℕ) (news : List (Option ℕ))
+    → length (written_at (at ∷ places) (w ∷ news)) ≡ changed_at w + length (written_at places news)
+written_one at places None news = omega arith
+written_one at places (Some w) news = omega arith
 
 -- at three places, or at two where the third is kept, as many words are written as a decision changes
-three-places : (a b c : ℕ) (d : Decision) → changed_in d ≡ length (written_at (a ∷ b ∷ c ∷ []) (news_in d))
-three-places a b c Declined = refl
-three-places a b c Nine = refl
-three-places a b c (Rewritten p) =
+three-places : (a b c : ℕ) (d : Result Plan NoRewrite) → changed_in d ≡ length (written_at (a ∷ b ∷ c ∷ []) (news_in d))
+three-places a b c (Err Declined) = refl
+three-places a b c (Err Nine) = refl
+three-places a b c (Ok p) =
     omega (
       arith,
-      written_one a (b ∷ c ∷ []) p.w0 (new_of p.w1 ∷ new_of p.w2 ∷ []),
-      written_one b (c ∷ []) p.w1 (new_of p.w2 ∷ []),
+      written_one a (b ∷ c ∷ []) p.w0 (p.w1 ∷ p.w2 ∷ []),
+      written_one b (c ∷ []) p.w1 (p.w2 ∷ []),
       written_one c [] p.w2 [],
     )
 
-two-places : (a b : ℕ) (d : Decision) → KeepsThird d → changed_in d ≡ length (written_at (a ∷ b ∷ []) (news_in d))
-two-places a b Declined e = refl
-two-places a b Nine e = refl
-two-places a b (Rewritten p) e =
+two-places : (a b : ℕ) (d : Result Plan NoRewrite) → KeepsThird d → changed_in d ≡ length (written_at (a ∷ b ∷ []) (news_in d))
+two-places a b (Err Declined) e = refl
+two-places a b (Err Nine) e = refl
+two-places a b (Ok p) e =
     omega (
       arith,
       ap changed_at e,
-      written_one a (b ∷ []) p.w0 (new_of p.w1 ∷ new_of p.w2 ∷ []),
-      written_one b [] p.w1 (new_of p.w2 ∷ []),
+      written_one a (b ∷ []) p.w0 (p.w1 ∷ p.w2 ∷ []),
+      written_one b [] p.w1 (p.w2 ∷ []),
     )
 
 module _ (hints entries : List ℕ) (k : ℕ) (image : List ℕ) where
@@ -254,20 +250,20 @@ module _ (hints entries : List ℕ) (k : ℕ) (image : List ℕ) where
       words : List ℕ
       words = words_at (places_of h) image
 
-      d : Decision
+      d : Result Plan NoRewrite
       d = decide h.kind (insns_of h words) (rels_of entries h)
 
       -- what is to be shown, of the hint's places and of an outcome
-      P : List HintInsn → HintOutcome → Type 0
+      P : List HintInsn → Option (Result Plan NoRewrite × Insns) → Type 0
       P l o = changed_of o ≡ length (written_at (map (λ at. h.start + at) (map (λ i. i.off) l)) (news_of o))
 
       go : (t : Bool) → is_skipped h ≡ t → P (insns_in h) (hint_outcome entries h words)
       go true e =
-          subst (λ (o : HintOutcome). P (insns_in h) o) (sym (choose-true (is_skipped h) Skipped _ e))
-          (subst (λ (l : List HintInsn). P l Skipped) (sym (insns-none h e)) refl)
+          subst (λ (o : Option (Result Plan NoRewrite × Insns)). P (insns_in h) o) (sym (choose-true (is_skipped h) None _ e))
+          (subst (λ (l : List HintInsn). P l None) (sym (insns-none h e)) refl)
       go false e =
-          subst (λ (o : HintOutcome). P (insns_in h) o) (sym (choose-false (is_skipped h) Skipped _ e))
-          (by_count h e (λ l. P l (Worked d (insns_of h words)))
+          subst (λ (o : Option (Result Plan NoRewrite × Insns)). P (insns_in h) o) (sym (choose-false (is_skipped h) None _ e))
+          (by_count h e (λ l. P l (Some (d, insns_of h words)))
           (λ n. three-places (h.start + h.insn0.off) (h.start + h.insn1.off) (h.start + h.insn2.off) d)
           (λ n. two-places (h.start + h.insn0.off) (h.start + h.insn1.off) d
           (two-words h.kind (insns_of h words) (rels_of entries h) (sym (counts h.kind) ∙ count-two h e n))))
@@ -277,8 +273,8 @@ stays : (places : List ℕ) (news : List (Option ℕ)) (x : List ℕ) (b : ℕ) 
     → get_or (put_words places news x) b 0 ≡ get_or x b 0
 stays [] news x b h = refl
 stays (at ∷ places) [] x b h = refl
-stays (at ∷ places) (none ∷ news) x b h = stays places news x b h
-stays (at ∷ places) (some w ∷ news) x b h =
+stays (at ∷ places) (None ∷ news) x b h = stays places news x b h
+stays (at ∷ places) (Some w ∷ news) x b h =
     let t = neither (span at 4 b) (in_words (written_at places news) b) h in
     stays places news (put 4 x at w) b t.1 ∙ (put-writes (span at 4) at w (λ c q. q)).stays x b t.0
 

@@ -1,5 +1,6 @@
 -- The records of a listed run: their positions are the order of work, each is told by what came of its hint at its turn, and stands in its slot; their totals
 -- are the tally. By induction over the order, and by the layout of a record.
+use Rattle.std.specs.Prelude.{Result, Ok, Err, Option, Some, None}
 use mathlib.Core.Path.{◌≡◌, refl, sym, ap, ◌∙◌, subst}
 use mathlib.Core.Bool.{Bool}
 use mathlib.Core.List.{List, [], ◌∷◌, ◌++◌, map}
@@ -17,7 +18,10 @@ use Rattle.macho.specs.RuleRecord.{rule_record_size, rule_record_at, rule_record
 use Rattle.macho.specs.declared.rule_record.RuleRecord.{RuleRecord}
 use Rattle.macho.proofs.RoundTrip.{rule_record, value-in-list}
 use Rattle.image.specs.Steps.{answered, written}
-use Rattle.arm64_hint_terms.specs.declared.answer.Decision.TheVariants.{Declined, Nine, Rewritten}
+use Rattle.arm64_hint_terms.specs.declared.answer.Plan.{Plan}
+use Rattle.arm64_hint_terms.specs.declared.answer.NoRewrite.{NoRewrite}
+use Rattle.arm64_hint_terms.specs.declared.answer.Insns.{Insns}
+use Rattle.arm64_hint_terms.specs.declared.answer.NoRewrite.TheVariants.{Declined, Nine}
 use Rattle.arm64_hint_terms.specs.declared.answer.Rewrite.{Rewrite}
 use Rattle.arm64_hint_terms.specs.declared.answer.Rewrite.TheVariants.{Drop, Literal, Adr, Fold, Slot}
 use Rattle.arm64_hint_order.specs.Lists.{run_list}
@@ -26,8 +30,6 @@ use Rattle.arm64_hint_order.specs.Cursor.{object_at, late_at, order_of}
 use Rattle.arm64_hint_order.proofs.Lists.{once-inside}
 use Rattle.arm64_hint_order.proofs.Own.{own-once}
 use Rattle.arm64_hint_order.proofs.Runs.{run-tally}
-use Rattle.arm64_hint_rules.specs.declared.outcome.HintOutcome.{HintOutcome}
-use Rattle.arm64_hint_rules.specs.declared.outcome.HintOutcome.TheVariants.{Skipped, Worked}
 use Rattle.arm64_hint_work.specs.Step.{add_outcome, steps_of}
 use Rattle.arm64_hint_work.specs.Acted.{rewrite_rule, rule_of, changed_of}
 use Rattle.arm64_hint_work.specs.declared.tally.Tally.{Tally}
@@ -76,24 +78,24 @@ each-rewrite P a b c d e Fold = d
 each-rewrite P a b c d e Slot = e
 
 -- a rule and a number of words changed are bytes
-rule-lt : (o : HintOutcome) → rule_of o < 256
-rule-lt Skipped = lit< tt
-rule-lt (Worked Declined s) = lit< tt
-rule-lt (Worked Nine s) = lit< tt
-rule-lt (Worked (Rewritten p) s) = each-rewrite (λ n. n < 256) (lit< tt) (lit< tt) (lit< tt) (lit< tt) (lit< tt) p.rewrite
+rule-lt : (o : Option (Result Plan NoRewrite × Insns)) → rule_of o < 256
+rule-lt None = lit< tt
+rule-lt (Some (Err Declined, s)) = lit< tt
+rule-lt (Some (Err Nine, s)) = lit< tt
+rule-lt (Some (Ok p, s)) = each-rewrite (λ n. n < 256) (lit< tt) (lit< tt) (lit< tt) (lit< tt) (lit< tt) p.rewrite
 
-changed-lt : (o : HintOutcome) → changed_of o < 256
-changed-lt Skipped = lit< tt
-changed-lt (Worked Declined s) = lit< tt
-changed-lt (Worked Nine s) = lit< tt
-changed-lt (Worked (Rewritten p) s) = omega (arith, at_most_one p.w0, at_most_one p.w1, at_most_one p.w2)
+changed-lt : (o : Option (Result Plan NoRewrite × Insns)) → changed_of o < 256
+changed-lt None = lit< tt
+changed-lt (Some (Err Declined, s)) = lit< tt
+changed-lt (Some (Err Nine, s)) = lit< tt
+changed-lt (Some (Ok p, s)) = omega (arith, at_most_one p.w0, at_most_one p.w1, at_most_one p.w2)
 
 object-lt : (hints : List ℕ) (k : ℕ) → object_at hints k < 2 ^ 32
 unfolding hint_at
 object-lt hints k = le-lt 4 hints (hint_size * k + 4)
 
 -- a record of a list that may be lent fits its fields
-fits : (hints : List ℕ) (k : ℕ) (o : HintOutcome) → k < 2 ^ 32 → Fits (rule_record_fields (record_of hints k o))
+fits : (hints : List ℕ) (k : ℕ) (o : Option (Result Plan NoRewrite × Insns)) → k < 2 ^ 32 → Fits (rule_record_fields (record_of hints k o))
 fits hints k o h = (h, (object-lt hints k, (rule-lt o, (changed-lt o, tt))))
 
 -- in slots filled with the records of an order of work, the slot of a hint's turn holds its record
@@ -122,7 +124,7 @@ slot-of-turn image hints entries slots few l k m e =
 
 -- a count of the tally that goes by the rules goes by the records
 by-rule : (hints entries : List ℕ) (f : Tally → ℕ) (test : ℕ → Bool)
-    → ((o : HintOutcome) (t : Tally) → f (add_outcome o t) ≡ f t + choose (test (rule_of o)) 1 0) → (l image : List ℕ) (t : Tally)
+    → ((o : Option (Result Plan NoRewrite × Insns)) (t : Tally) → f (add_outcome o t) ≡ f t + choose (test (rule_of o)) 1 0) → (l image : List ℕ) (t : Tally)
     → f (add_all add_outcome (answers (written (steps_of hints entries)) (answered (steps_of hints entries)) l image) t)
     ≡ f t + count_rules test (records_of image hints entries l)
 unfolding records_of
@@ -132,41 +134,41 @@ by-rule hints entries f test h (k ∷ l) image t =
     ∙ ap (λ (n : ℕ). n + count_rules test (records_of (written (steps_of hints entries) k image) hints entries l)) (h o t)
     ∙ add_assoc (f t) (choose (test (rule_of o)) 1 0) (count_rules test (records_of (written (steps_of hints entries) k image) hints entries l))
   where
-    o : HintOutcome
+    o : Option (Result Plan NoRewrite × Insns)
     o = answered (steps_of hints entries) k image
 
-rewritten-rule : (o : HintOutcome) (t : Tally) → (add_outcome o t).rewritten ≡ t.rewritten + choose (is_rewrite (rule_of o)) 1 0
+rewritten-rule : (o : Option (Result Plan NoRewrite × Insns)) (t : Tally) → (add_outcome o t).rewritten ≡ t.rewritten + choose (is_rewrite (rule_of o)) 1 0
 unfolding choose
-rewritten-rule Skipped t = sym (add-zero t.rewritten)
-rewritten-rule (Worked Declined s) t = sym (add-zero t.rewritten)
-rewritten-rule (Worked Nine s) t = sym (add-zero t.rewritten)
-rewritten-rule (Worked (Rewritten p) s) t =
+rewritten-rule None t = sym (add-zero t.rewritten)
+rewritten-rule (Some (Err Declined, s)) t = sym (add-zero t.rewritten)
+rewritten-rule (Some (Err Nine, s)) t = sym (add-zero t.rewritten)
+rewritten-rule (Some (Ok p, s)) t =
     each-rewrite (λ n. t.rewritten + 1 ≡ t.rewritten + choose (is_rewrite n) 1 0) refl refl refl refl refl p.rewrite
 
-skipped-rule : (o : HintOutcome) (t : Tally) → (add_outcome o t).skipped ≡ t.skipped + choose (eqb (rule_of o) rule_skipped) 1 0
+skipped-rule : (o : Option (Result Plan NoRewrite × Insns)) (t : Tally) → (add_outcome o t).skipped ≡ t.skipped + choose (eqb (rule_of o) rule_skipped) 1 0
 unfolding choose
-skipped-rule Skipped t = refl
-skipped-rule (Worked Declined s) t = sym (add-zero t.skipped)
-skipped-rule (Worked Nine s) t = sym (add-zero t.skipped)
-skipped-rule (Worked (Rewritten p) s) t =
+skipped-rule None t = refl
+skipped-rule (Some (Err Declined, s)) t = sym (add-zero t.skipped)
+skipped-rule (Some (Err Nine, s)) t = sym (add-zero t.skipped)
+skipped-rule (Some (Ok p, s)) t =
     let z = sym (add-zero t.skipped) in
     each-rewrite (λ n. t.skipped ≡ t.skipped + choose (eqb n rule_skipped) 1 0) z z z z z p.rewrite
 
-declined-rule : (o : HintOutcome) (t : Tally) → (add_outcome o t).declined ≡ t.declined + choose (eqb (rule_of o) rule_declined) 1 0
+declined-rule : (o : Option (Result Plan NoRewrite × Insns)) (t : Tally) → (add_outcome o t).declined ≡ t.declined + choose (eqb (rule_of o) rule_declined) 1 0
 unfolding choose
-declined-rule Skipped t = sym (add-zero t.declined)
-declined-rule (Worked Declined s) t = refl
-declined-rule (Worked Nine s) t = sym (add-zero t.declined)
-declined-rule (Worked (Rewritten p) s) t =
+declined-rule None t = sym (add-zero t.declined)
+declined-rule (Some (Err Declined, s)) t = refl
+declined-rule (Some (Err Nine, s)) t = sym (add-zero t.declined)
+declined-rule (Some (Ok p, s)) t =
     let z = sym (add-zero t.declined) in
     each-rewrite (λ n. t.declined ≡ t.declined + choose (eqb n rule_declined) 1 0) z z z z z p.rewrite
 
-turned-down-rule : (o : HintOutcome) (t : Tally) → (add_outcome o t).turned_down ≡ t.turned_down + choose (eqb (rule_of o) rule_turned_down) 1 0
+turned-down-rule : (o : Option (Result Plan NoRewrite × Insns)) (t : Tally) → (add_outcome o t).turned_down ≡ t.turned_down + choose (eqb (rule_of o) rule_turned_down) 1 0
 unfolding choose
-turned-down-rule Skipped t = sym (add-zero t.turned_down)
-turned-down-rule (Worked Declined s) t = sym (add-zero t.turned_down)
-turned-down-rule (Worked Nine s) t = refl
-turned-down-rule (Worked (Rewritten p) s) t =
+turned-down-rule None t = sym (add-zero t.turned_down)
+turned-down-rule (Some (Err Declined, s)) t = sym (add-zero t.turned_down)
+turned-down-rule (Some (Err Nine, s)) t = refl
+turned-down-rule (Some (Ok p, s)) t =
     let z = sym (add-zero t.turned_down) in
     each-rewrite (λ n. t.turned_down ≡ t.turned_down + choose (eqb n rule_turned_down) 1 0) z z z z z p.rewrite
 
@@ -182,7 +184,7 @@ totals-are image hints entries l =
     }
   where
     from-zeros : (f : Tally → ℕ) (test : ℕ → Bool) → f zeros ≡ 0
-        → ((o : HintOutcome) (t : Tally) → f (add_outcome o t) ≡ f t + choose (test (rule_of o)) 1 0)
+        → ((o : Option (Result Plan NoRewrite × Insns)) (t : Tally) → f (add_outcome o t) ≡ f t + choose (test (rule_of o)) 1 0)
         → f (add_all add_outcome (answers (written (steps_of hints entries)) (answered (steps_of hints entries)) l image) zeros)
         ≡ count_rules test (records_of image hints entries l)
     from-zeros f test z h =

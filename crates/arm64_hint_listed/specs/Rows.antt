@@ -1,6 +1,5 @@
 -- Which rules a hint of each kind meets that is not skipped, and how many words each changes (RULES 16.4).
-use Rattle.std.specs.Prelude.{◌≡◌, List, [], ◌∷◌, ℕ}
-use Rattle.std.proofs.Math.Option.{Option, none, some}
+use Rattle.std.specs.Prelude.{◌≡◌, List, [], ◌∷◌, ℕ, Option, Some, None}
 use Rattle.macho.specs.Types.{MCLOH_AdrpAdrp, MCLOH_AdrpLdr, MCLOH_AdrpAddLdr, MCLOH_AdrpLdrGotLdr}
 use Rattle.macho.specs.Types.{MCLOH_AdrpAddStr, MCLOH_AdrpLdrGotStr, MCLOH_AdrpAdd, MCLOH_AdrpLdrGot}
 use Rattle.macho.specs.RuleRecord.{rule_declined, rule_second_adrp, rule_literal, rule_adr, rule_fold, rule_got_slot, rule_turned_down}
@@ -47,5 +46,5 @@ pub record Reached (kind rule changed : ℕ) : Type 0 where
 abbrev pub written_at : List ℕ → List (Option ℕ) → List ℕ
 written_at [] news = []
 written_at (at ∷ places) [] = []
-written_at (at ∷ places) (none ∷ news) = written_at places news
-written_at (at ∷ places) (some w ∷ news) = at ∷ written_at places news
+written_at (at ∷ places) (None ∷ news) = written_at places news
+written_at (at ∷ places) (Some w ∷ news) = at ∷ written_at places news

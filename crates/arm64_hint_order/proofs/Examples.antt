@@ -3,7 +3,7 @@ use mathlib.Core.Path.{◌≡◌, refl, ap}
 use mathlib.Core.Logic.{◌≢◌, inl, inr}
 use mathlib.Core.Bool.{Bool, false}
 use mathlib.Core.List.{List, [], ◌∷◌, ◌++◌}
-use mathlib.Core.Option.{some}
+use Rattle.std.specs.Prelude.{Some}
 use Prim.Native.Nat.{ℕ, zero, suc, ◌+◌, ◌-◌, ◌*◌, ◌≤◌, ◌<◌}
 use native.Mathlib.Omega.{arith}
 use lib.Dec.{eqb, lit<}
@@ -88,7 +88,7 @@ turned_round kept =
 
 -- two hints that put a word of their own at the same place: the order within an object shows in the image
 abbrev sharing : Steps ℕ ℕ
-sharing = record { places = λ k. 0 ∷ []; answer = λ k ws. k; news = λ k. some (k + 7) ∷ []; add = λ k t. suc t }
+sharing = record { places = λ k. 0 ∷ []; answer = λ k ws. k; news = λ k. Some (k + 7) ∷ []; add = λ k t. suc t }
 
 pub order-shows : ((run_list (step_of sharing) (0 ∷ 1 ∷ []) (record { image = replicate 4 0; tally = 0 })).image ≡ 8 ∷ 0 ∷ 0 ∷ 0 ∷ [])
     × ((run_list (step_of sharing) (1 ∷ 0 ∷ []) (record { image = replicate 4 0; tally = 0 })).image ≡ 7 ∷ 0 ∷ 0 ∷ 0 ∷ [])
@@ -97,7 +97,7 @@ order-shows = (refl, refl)
 
 -- two hints of different objects, each at a place of its own: the list 0, 1 leaves what the run, 1 and then 0, leaves
 abbrev apart : Steps ℕ ℕ
-apart = record { places = λ k. 4 * k ∷ []; answer = λ k ws. k; news = λ k. some (k + 7) ∷ []; add = λ k t. suc t }
+apart = record { places = λ k. 4 * k ∷ []; answer = λ k ws. k; news = λ k. Some (k + 7) ∷ []; add = λ k t. suc t }
 
 pub either_order : (w : Work ℕ) → run_list (step_of apart) (0 ∷ 1 ∷ []) w ≡ run_list (step_of apart) (1 ∷ 0 ∷ []) w
 unfolding choose

@@ -66,11 +66,20 @@ module _ (p : ℕ → Bool) (k hi : ℕ) where
   pub sel-take : k < hi → p k ≡ true → sel p k hi ≡ k ∷ sel p (k + 1) hi
   sel-take h e = sel-next h ∙ choose-true (p k) _ _ e
 
-  pub sel-skip : k < hi → p k ≡ false → sel p k hi ≡ sel p (k + 1) hi
-  sel-skip h e = sel-next h ∙ choose-false (p k) _ _ e
+-- no position passes, and the first that does
+module _ (p : ℕ → Bool) (lo hi : ℕ) where
+  pub sel_none : ((k : ℕ) → lo ≤ k → k < hi → p k ≡ false) → sel p lo hi ≡ []
+  sel_none f = those-none p (all_map (λ k h. f k h.0 (omega arith)) (all-range lo (hi - lo)))
 
-  pub sel-end : hi ≤ k → sel p k hi ≡ []
-  sel-end h = ap (λ (m : ℕ). those p (range k m)) (let e : hi - k ≡ 0 = omega arith in e)
+  pub sel_first : (r : ℕ) → lo ≤ r → r < hi → p r ≡ true → ((k : ℕ) → lo ≤ k → k < r → p k ≡ false) → sel p lo hi ≡ r ∷ sel p (r + 1) hi
+  sel_first r l h e f =
+      ap (λ (m : ℕ). those p (range lo m)) (let q : hi - lo ≡ (r - lo) + (hi - r) = omega arith in q)
+      ∙ ap (those p) (range-add lo (r - lo) (hi - r))
+      ∙ those-append p (range lo (r - lo)) (range (lo + (r - lo)) (hi - r))
+      ∙ ap₂ (λ (x : List ℕ) (m : ℕ). x ++ those p (range m (hi - r)))
+      (those-none p (all_map (λ k g. f k g.0 (omega arith)) (all-range lo (r - lo))))
+      (let q : lo + (r - lo) ≡ r = omega arith in q)
+      ∙ sel-take p r hi h e
 
 -- ---- counts
 

@@ -1,4 +1,5 @@
 -- The cursor's steps against the order of work. Carried by selections from a position on, and by the work of the objects from a number on.
+use Rattle.std.specs.Prelude.{Option, Some, None, MatchOption, unwrap_or}
 use mathlib.Core.Path.{◌≡◌, refl, sym, ap, ap₂, ◌∙◌, subst}
 use mathlib.Core.Bool.{Bool, true, false, ◌&&◌, true≢false}
 use mathlib.Core.List.{List, [], ◌∷◌, ◌++◌, append-nil}
@@ -15,12 +16,10 @@ use Rattle.util.proofs.All.{all_map}
 use Rattle.util.proofs.Cases.{same_or, less-or}
 use Rattle.macho.specs.Hint.{hint_count}
 use Rattle.arm64_hint_order.specs.declared.Cursor.{Cursor}
-use Rattle.arm64_hint_order.specs.declared.Next.{Next}
-use Rattle.arm64_hint_order.specs.declared.Next.TheVariants.{At, Done}
 use Rattle.arm64_hint_order.specs.Lists.{run_list, count, range, those, sel, in_pass, passes}
 use Rattle.arm64_hint_order.specs.Cursor.{object_at, late_at, work_from, order_of, pass_of, left_in, rest, following, Cut, Sound, SoundNext}
-use Rattle.arm64_hint_order.specs.Walk.{grouped, last_of, Least, GroupEnd, Found, Entered, StepsIn}
-use Rattle.arm64_hint_order.proofs.Lists.{all-range, range-add, those-append, those-none, sel-take, sel-end}
+use Rattle.arm64_hint_order.specs.Walk.{grouped, last_of, LeastAt, Least, GroupEnd, Found, Entered, StepsIn}
+use Rattle.arm64_hint_order.proofs.Lists.{all-range, range-add, those-append, those-none, sel_none, sel_first}
 use Rattle.arm64_hint_order.proofs.Commute.{once-length}
 use Rattle.arm64_hint_order.proofs.Own.{own-once, pass-true, passes_count, from_end, from-object, from-jump}
 
@@ -67,93 +66,50 @@ module _ (obj : ℕ → ℕ) where
   grouped-step zero = sym (le-leb 0 (obj 0) (omega arith))
   grouped-step (suc k) = refl
 
--- ---- the least object number
-
--- one hint more: a position r that is no worse than the best so far, nor than hint k
-pub least_more : (s : List ℕ) (o k best r : ℕ) → Least s o k best → r ≤ hint_count s → (r < hint_count s → o ≤ object_at s r)
-    → (best < hint_count s → (r < hint_count s) × (object_at s r ≤ object_at s best)) → (o ≤ object_at s k → (r < hint_count s) × (object_at s r ≤ object_at s k))
-    → Least s o (k + 1) r
-least_more s o k best r l w a b h = record {
-  within = w;
-  reached = a;
-  least = λ j g q.
-      same_or j k
-      (λ e. subst (λ (i : ℕ). (r < hint_count s) × (object_at s r ≤ object_at s i)) (sym e) (h (subst (λ (i : ℕ). o ≤ object_at s i) e q)))
-      (λ ne. let t = l.least j (omega arith) q in let u = b t.0 in (u.0, omega (arith, t.1, u.1)));
-}
-
 -- ---- what is left, step by step
 
 module _ (s : List ℕ) where
-  -- a pass that the cursor is in
-  pub take_in : (c : Cursor) (k : ℕ) → Found s c.object c.late c.at c.hi k → k < c.hi
-      → k ∷ rest s (record { grouped = c.grouped; object = c.object; lo = c.lo; hi = c.hi; late = c.late; at = k + 1 }) ≡ rest s c
-  take_in c k f h =
-      ap (λ (x : List ℕ). x ++ choose c.late [] (pass_of s c.object true c.lo c.hi) ++ work_from s (suc c.object))
-      (sym (sel-take (in_pass (object_at s) (late_at s) c.object c.late) k c.hi h (f.stops h)) ∙ f.skipped)
+  -- the first position that passes, or that none does
+  pub found-first : (o : ℕ) (b : Bool) (lo hi : ℕ) (r : Option ℕ)
+      → MatchOption r ((k : ℕ) → lo ≤ k → k < hi → in_pass (object_at s) (late_at s) o b k ≡ false)
+      (λ i. (lo ≤ i) × (i < hi) × (in_pass (object_at s) (late_at s) o b i ≡ true)
+      × ((k : ℕ) → lo ≤ k → k < i → in_pass (object_at s) (late_at s) o b k ≡ false))
+      → Found s o b lo hi r
+  found-first o b lo hi None f = sel_none (in_pass (object_at s) (late_at s) o b) lo hi f
+  found-first o b lo hi (Some i) f = (f.1, sel_first (in_pass (object_at s) (late_at s) o b) lo hi i f.0 f.1 f.2 f.3)
 
-  -- a pass that is at its end
-  pass-ended : (o : ℕ) (b : Bool) (lo hi k : ℕ) → Found s o b lo hi k → hi ≤ k → pass_of s o b lo hi ≡ []
-  pass-ended o b lo hi k f h = sym f.skipped ∙ sel-end (in_pass (object_at s) (late_at s) o b) k hi h
+  pub ended-late : (c : Cursor) → Found s c.object c.late c.at c.hi None → c.late ≡ true → left_in s c ≡ []
+  ended-late c f e = ap₂ (λ (x y : List ℕ). x ++ y) f (choose-true c.late [] (pass_of s c.object true c.lo c.hi) e)
 
-  pub ended-late : (c : Cursor) (k : ℕ) → Found s c.object c.late c.at c.hi k → c.hi ≤ k → c.late ≡ true → left_in s c ≡ []
-  ended-late c k f h e =
-      ap₂ (λ (x y : List ℕ). x ++ y) (pass-ended c.object c.late c.at c.hi k f h)
-      (choose-true c.late [] (pass_of s c.object true c.lo c.hi) e)
+  second-left : (c : Cursor) → Found s c.object c.late c.at c.hi None → c.late ≡ false → left_in s c ≡ pass_of s c.object true c.lo c.hi
+  second-left c f e = ap₂ (λ (x y : List ℕ). x ++ y) f (choose-false c.late [] (pass_of s c.object true c.lo c.hi) e)
 
-  second-left : (c : Cursor) (k : ℕ) → Found s c.object c.late c.at c.hi k → c.hi ≤ k → c.late ≡ false
-      → left_in s c ≡ pass_of s c.object true c.lo c.hi
-  second-left c k f h e =
-      ap₂ (λ (x y : List ℕ). x ++ y) (pass-ended c.object c.late c.at c.hi k f h)
-      (choose-false c.late [] (pass_of s c.object true c.lo c.hi) e)
-
-  pub take_second : (c : Cursor) (k m : ℕ) → Found s c.object c.late c.at c.hi k → c.hi ≤ k → c.late ≡ false
-      → Found s c.object true c.lo c.hi m → m < c.hi
+  pub take_second : (c : Cursor) (m : ℕ) → Found s c.object c.late c.at c.hi None → c.late ≡ false → Found s c.object true c.lo c.hi (Some m)
       → m ∷ rest s (record { grouped = c.grouped; object = c.object; lo = c.lo; hi = c.hi; late = true; at = m + 1 }) ≡ rest s c
-  take_second c k m f h e g l =
+  take_second c m f e g =
       ap (λ (x : List ℕ). x ++ work_from s (suc c.object))
       (ap (λ (x : List ℕ). m ∷ pass_of s c.object true (m + 1) c.hi ++ x) (choose-true true [] (pass_of s c.object true c.lo c.hi) refl)
       ∙ append-nil (m ∷ pass_of s c.object true (m + 1) c.hi)
-      ∙ sym (sel-take (in_pass (object_at s) (late_at s) c.object true) m c.hi l (g.stops l))
-      ∙ g.skipped
-      ∙ sym (second-left c k f h e))
+      ∙ sym g.1
+      ∙ sym (second-left c f e))
 
-  pub ended-both : (c : Cursor) (k m : ℕ) → Found s c.object c.late c.at c.hi k → c.hi ≤ k → c.late ≡ false
-      → Found s c.object true c.lo c.hi m → c.hi ≤ m → left_in s c ≡ []
-  ended-both c k m f h e g l = second-left c k f h e ∙ pass-ended c.object true c.lo c.hi m g l
+  pub ended-both : (c : Cursor) → Found s c.object c.late c.at c.hi None → c.late ≡ false → Found s c.object true c.lo c.hi None → left_in s c ≡ []
+  ended-both c f e g = second-left c f e ∙ g
 
   -- ---- from object to object
 
-  -- the start of an object's hints in such a list
-  pub cut_at : (o p : ℕ) → Cut s o p → p < hint_count s → Cut s (object_at s p) p
-  cut_at o p c h = record {
-    rises = c.rises;
-    below = λ k l. omega (arith, c.below k l, c.above p (omega arith) h);
-    above = λ k l g. c.rises p k l g;
-  }
-
-  pub cut-least : (o p : ℕ) → p ≤ hint_count s → Cut s o p → Least s o (hint_count s) p
-  cut-least o p h c = record {
-    within = h;
-    reached = λ l. c.above p (omega arith) l;
-    least = λ k l g. less-or k p (λ q. absurd (omega (arith, c.below k q))) (λ q. (omega arith, c.rises p k q l));
-  }
-
   -- the least object from o on is the next that is worked
-  jumped : (o p : ℕ) → Least s o (hint_count s) p → p < hint_count s
-      → work_from s o ≡ work_from s (object_at s p)
-  jumped o p l h = from-jump (object_at s) (late_at s) (hint_count s) o (object_at s p) (l.reached h) (λ k g q. (l.least k g q).1)
+  jumped : (o p : ℕ) → LeastAt s o (hint_count s) p → work_from s o ≡ work_from s (object_at s p)
+  jumped o p l = from-jump (object_at s) (late_at s) (hint_count s) o (object_at s p) l.reached l.least
 
-  pub none_left : (o p : ℕ) → Least s o (hint_count s) p → hint_count s ≤ p → work_from s o ≡ []
-  none_left o p l h =
-      from_end (object_at s) (late_at s) (hint_count s) o (λ k g. less-or (object_at s k) o (λ q. q) (λ q. absurd (omega (arith, (l.least k g q).0))))
+  pub none_left : (o : ℕ) → Least s o (hint_count s) None → work_from s o ≡ []
+  none_left o l = from_end (object_at s) (late_at s) (hint_count s) o l
 
-  pub entered-rest : (o p : ℕ) (c : Cursor) → Least s o (hint_count s) p → p < hint_count s → Entered s p c
-      → rest s c ≡ work_from s o
-  entered-rest o p c l h e =
+  pub entered-rest : (o p : ℕ) (c : Cursor) → LeastAt s o (hint_count s) p → Entered s p c → rest s c ≡ work_from s o
+  entered-rest o p c l e =
       ap₂ (λ (x : List ℕ) (y : ℕ). x ++ work_from s (suc y)) e.whole e.object
-      ∙ sym (from-object (object_at s) (late_at s) (hint_count s) p h)
-      ∙ sym (jumped o p l h)
+      ∙ sym (from-object (object_at s) (late_at s) (hint_count s) p l.within)
+      ∙ sym (jumped o p l)
 
   -- an object that is entered has work
   pub entered-work : (p : ℕ) (c : Cursor) → p < hint_count s → Entered s p c → left_in s c ≡ [] → ⊥
@@ -173,13 +129,22 @@ module _ (s : List ℕ) where
     sound = record { ends = omega arith; holds = λ k l q. omega arith; cut = λ f. absurd (true≢false (sym f)) };
   }
 
-  -- where the last hint has p's object, so have all from p on
-  pub group-to-end : (p : ℕ) → p < hint_count s → Cut s (object_at s p) p → object_at s (hint_count s - 1) ≡ object_at s p → GroupEnd s p (hint_count s)
-  group-to-end p h c e = record {
+  -- in such a list the object's hints end where another object is first found past p
+  pub group-found : (p : ℕ) (r : Option ℕ) → p < hint_count s
+      → MatchOption r ((k : ℕ) → p + 1 ≤ k → k < hint_count s → object_at s k ≡ object_at s p)
+      (λ e. (p + 1 ≤ e) × (e < hint_count s) × (object_at s e ≡ object_at s p → ⊥) × ((k : ℕ) → p + 1 ≤ k → k < e → object_at s k ≡ object_at s p))
+      → GroupEnd s p (unwrap_or r (hint_count s))
+  group-found p None h f = record {
     within = omega arith;
     past = h;
-    same = λ k l g. omega (arith, e, c.above k l g, c.rises k (hint_count s - 1) (omega arith) (omega arith));
+    same = λ k l g. same_or k p (ap (object_at s)) (λ n. f k (omega arith) g);
     other = λ l. absurd (omega arith);
+  }
+  group-found p (Some e) h f = record {
+    within = omega arith;
+    past = omega (arith, f.0);
+    same = λ k l g. same_or k p (ap (object_at s)) (λ n. f.3 k (omega arith) g);
+    other = λ l. f.2;
   }
 
   pub entered-grouped : (o p e : ℕ) → o ≡ object_at s p → p < hint_count s → Cut s (object_at s p) p → GroupEnd s p e
@@ -222,22 +187,22 @@ module _ (s : List ℕ) where
   left-none c e =
       ap₂ (λ (x : List ℕ) (o : ℕ). x ++ work_from s o) e (sym (add-one c.object))
 
-  pub next-object : (c d : Cursor) (p : ℕ) (r : Next) → left_in s c ≡ [] → Least s (c.object + 1) (hint_count s) p → p < hint_count s → Entered s p d
+  pub next-object : (c d : Cursor) (p : ℕ) (r : Option (ℕ × Cursor)) → left_in s c ≡ [] → LeastAt s (c.object + 1) (hint_count s) p → Entered s p d
       → StepsIn s d r → following s r ≡ rest s c
-  next-object c d p (At k b) e l h q t = t ∙ entered-rest (c.object + 1) p d l h q ∙ sym (left-none c e)
-  next-object c d p Done e l h q t = absurd (entered-work p d h q t)
+  next-object c d p (Some (k, b)) e l q t = t ∙ entered-rest (c.object + 1) p d l q ∙ sym (left-none c e)
+  next-object c d p None e l q t = absurd (entered-work p d l.within q t)
 
-  pub next-none : (c : Cursor) (p : ℕ) → left_in s c ≡ [] → Least s (c.object + 1) (hint_count s) p → hint_count s ≤ p → [] ≡ rest s c
-  next-none c p e l h = sym (left-none c e ∙ none_left (c.object + 1) p l h)
+  pub next-none : (c : Cursor) → left_in s c ≡ [] → Least s (c.object + 1) (hint_count s) None → [] ≡ rest s c
+  next-none c e l = sym (left-none c e ∙ none_left (c.object + 1) l)
 
   -- ---- the start
 
   pub cut-start : grouped (object_at s) (hint_count s) ≡ true → Cut s 0 0
   cut-start e = record { rises = never-falls (object_at s) (hint_count s) e; below = λ k h. absurd (omega arith); above = λ k h g. omega arith }
 
-  module _ (g : Bool) (p : ℕ) (l : Least s 0 (hint_count s) p) (h : hint_count s ≤ p) where
+  module _ (g : Bool) (l : Least s 0 (hint_count s) None) where
     no-hint : (k : ℕ) → k < hint_count s → ⊥
-    no-hint k q = omega (arith, (l.least k q (omega arith)).0)
+    no-hint k q = omega (arith, l k q)
 
     abbrev none-cursor : Cursor
     none-cursor = record { grouped = g; object = 0; lo = 0; hi = 0; late = false; at = 0 }
@@ -246,29 +211,22 @@ module _ (s : List ℕ) where
     none_rest =
         left-none none-cursor (opened 0 0 0)
         ∙ from_end (object_at s) (late_at s) (hint_count s) 1 (λ k q. absurd (no-hint k q))
-        ∙ sym (none_left 0 p l h)
-
-    pub none-sound : Sound s none-cursor
-    none-sound = record {
-      ends = omega arith;
-      holds = λ k q. absurd (no-hint k q);
-      cut = λ _. record { rises = λ i j r q. absurd (no-hint j q); below = λ k q. absurd (omega arith); above = λ k r q. absurd (no-hint k q) };
-    }
+        ∙ sym (none_left 0 l)
 
 -- ---- a loop over the cursor: the state after the work that is left
 
-module _ {S : Type 0} (step : ℕ → S → S) (s : List ℕ) (c : Cursor) (r : Next) (told : following s r ≡ rest s c) (w : S) where
-  pub turn_at : (k : ℕ) (d : Cursor) → r ≡ At k d → run_list step (rest s d) (step k w) ≡ run_list step (rest s c) w
+module _ {S : Type 0} (step : ℕ → S → S) (s : List ℕ) (c : Cursor) (r : Option (ℕ × Cursor)) (told : following s r ≡ rest s c) (w : S) where
+  pub turn_at : (k : ℕ) (d : Cursor) → r ≡ Some (k, d) → run_list step (rest s d) (step k w) ≡ run_list step (rest s c) w
   turn_at k d e = ap (λ (l : List ℕ). run_list step l w) (ap (following s) (sym e) ∙ told)
 
-  pub turn-done : r ≡ Done → w ≡ run_list step (rest s c) w
+  pub turn-done : r ≡ None → w ≡ run_list step (rest s c) w
   turn-done e = ap (λ (l : List ℕ). run_list step l w) (ap (following s) (sym e) ∙ told)
 
 pub order-length : (s : List ℕ) → length (order_of s) ≡ hint_count s
 order-length s = once-length (hint_count s) (order_of s) (own-once (object_at s) (late_at s) (hint_count s))
 
 -- the number of hints that are left, and what is known of the hint and the next cursor
-module _ (s : List ℕ) (r : Next) (k : ℕ) (d : Cursor) (e : r ≡ At k d) where
+module _ (s : List ℕ) (r : Option (ℕ × Cursor)) (k : ℕ) (d : Cursor) (e : r ≡ Some (k, d)) where
   pub turn-count : (c : Cursor) → following s r ≡ rest s c → suc (length (rest s d)) ≡ length (rest s c)
   turn-count c told = ap length (ap (following s) (sym e) ∙ told)
 

@@ -1,11 +1,9 @@
 -- The order of work as a cursor over the lent hint records (RULES 2.22, 8.31).
-use Rattle.std.specs.Prelude.{◌≡◌, Bool, true, List, [], ◌∷◌, ◌++◌, ℕ, suc, ◌+◌, ◌≤◌, ◌<◌, eqb}
+use Rattle.std.specs.Prelude.{◌≡◌, Bool, true, List, [], ◌∷◌, ◌++◌, ℕ, suc, ◌+◌, ◌≤◌, ◌<◌, eqb, Option, Some, None}
 use Rattle.util.specs.Choice.{choose}
 use Rattle.macho.specs.Types.{MCLOH_AdrpAdrp}
 use Rattle.macho.specs.Hint.{hint_count, hint_of}
 use Rattle.arm64_hint_order.specs.declared.Cursor.{Cursor}
-use Rattle.arm64_hint_order.specs.declared.Next.{Next}
-use Rattle.arm64_hint_order.specs.declared.Next.TheVariants.{At, Done}
 use Rattle.arm64_hint_order.specs.Lists.{sel, in_pass, own_from, own_list}
 
 -- a hint's object number
@@ -37,9 +35,9 @@ abbrev pub rest : List ℕ → Cursor → List ℕ
 rest s c = left_in s c ++ work_from s (suc c.object)
 
 -- an answer as the list that it stands for
-abbrev pub following : List ℕ → Next → List ℕ
-following s (At k c) = k ∷ rest s c
-following s Done = []
+abbrev pub following : List ℕ → Option (ℕ × Cursor) → List ℕ
+following s (Some (k, c)) = k ∷ rest s c
+following s None = []
 
 -- the object numbers never fall, and those from o on begin at position p
 pub record Cut (s : List ℕ) (o p : ℕ) : Type 0 where
@@ -54,6 +52,6 @@ pub record Sound (s : List ℕ) (c : Cursor) : Type 0 where
   pub cut : c.grouped ≡ true → Cut s (c.object + 1) c.hi
 
 -- a position in the list, with a cursor over it
-abbrev pub SoundNext : List ℕ → Next → Type 0
-SoundNext s (At k c) = (k < hint_count s) × Sound s c
-SoundNext s Done = Unit {0}
+abbrev pub SoundNext : List ℕ → Option (ℕ × Cursor) → Type 0
+SoundNext s (Some (k, c)) = (k < hint_count s) × Sound s c
+SoundNext s None = Unit {0}

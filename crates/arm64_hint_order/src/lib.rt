@@ -24,13 +24,6 @@ pub struct Cursor {
     pub at: usize,
 }
 
-// The position of the hint that is worked next, with the cursor after it; or none is left.
-#[derive(Clone, Copy)]
-pub enum Next {
-    At(usize, Cursor),
-    Done,
-}
-
 // Whether a hint is one of the second pass.
 fn is_late(hints: &[u8], k: usize) -> bool
     requires { k < hint_count hints.now }
@@ -44,10 +37,7 @@ fn in_pass(hints: &[u8], o: u32, late: bool, k: usize) -> bool
     requires { k < hint_count hints.now }
     ensures { result ≡ in_pass (object_at hints.now) (late_at hints.now) o late k }
 {
-    if object_at(hints, k) != o {
-        return false;
-    }
-    is_late(hints, k) == late
+    object_at(hints, k) == o && is_late(hints, k) == late
 }
 
 // The first position after p with another object, or the number of hints, in a grouped list. Where the last hint has p's object, nothing is walked.
@@ -60,18 +50,11 @@ fn group_end(hints: &[u8], p: usize) -> usize
     if object_at(hints, n - 1) == o {
         return n;
     }
-    let mut k = p + 1;
-    while k < n {
-        if object_at(hints, k) != o {
-            return k;
-        }
-        k += 1;
-    }
-    k
+    (p + 1..n).find(|k| object_at(hints, *k) != o).unwrap_or(n)
 }
 
-// The better of two positions for the least object number from o on: `best`, which may be none, or k.
-fn lesser(hints: &[u8], o: u64, best: usize, k: usize) -> usize
+// The better of two positions for the least object number from o on: `best`, if there is one, or k.
+fn lesser(hints: &[u8], o: u64, best: Option<usize>, k: usize) -> Option<usize>
     requires { (k < hint_count hints.now) × Least hints.now o k best }
     ensures { Least hints.now o (k + 1) result }
 {
@@ -79,53 +62,44 @@ fn lesser(hints: &[u8], o: u64, best: usize, k: usize) -> usize
     if (x as u64) < o {
         return best;
     }
-    if best == hints.len() / HintRecord::SIZE {
-        return k;
-    }
-    if object_at(hints, best) <= x {
+    let Some(p) = best else {
+        return Some(k);
+    };
+    if object_at(hints, p) <= x {
         return best;
     }
-    k
+    Some(k)
 }
 
-// A position of the least object number from o on, or the number of hints.
-fn least_from(hints: &[u8], o: u64) -> usize
+// A position of the least object number from o on.
+fn least_from(hints: &[u8], o: u64) -> Option<usize>
     ensures { Least hints.now o (hint_count hints.now) result }
 {
-    let n = hints.len() / HintRecord::SIZE;
-    let mut best = n;
-    let mut k = 0;
-    while k < n {
+    let mut best = None;
+    for k in 0..hints.len() / HintRecord::SIZE {
         best = lesser(hints, o, best, k);
-        k += 1;
     }
     best
 }
 
 // The same, where the objects from o on begin at position p if the list is grouped.
-fn position_from(hints: &[u8], grouped: bool, p: usize, o: u64) -> usize
+fn position_from(hints: &[u8], grouped: bool, p: usize, o: u64) -> Option<usize>
     requires { (p ≤ hint_count hints.now) × (grouped ≡ true → Cut hints.now o p) }
     ensures { Positioned hints.now grouped o result }
 {
     if grouped {
-        return p;
+        (p < hints.len() / HintRecord::SIZE).then_some(p)
+    } else {
+        least_from(hints, o)
     }
-    least_from(hints, o)
 }
 
-// The first position of a pass from a position on and below an end, or the end.
-fn find(hints: &[u8], o: u32, late: bool, from: usize, to: usize) -> usize
+// The first position of a pass from a position on and below an end.
+fn find(hints: &[u8], o: u32, late: bool, from: usize, to: usize) -> Option<usize>
     requires { to ≤ hint_count hints.now }
     ensures { Found hints.now o late from to result }
 {
-    let mut k = from;
-    while k < to {
-        if in_pass(hints, o, late, k) {
-            return k;
-        }
-        k += 1;
-    }
-    k
+    (from..to).find(|k| in_pass(hints, o, late, *k))
 }
 
 // The cursor at the start of the object of position p.
@@ -134,24 +108,18 @@ fn enter(hints: &[u8], grouped: bool, p: usize) -> Cursor
     ensures { Entered hints.now p result }
 {
     let object = object_at(hints, p);
-    if grouped {
-        let hi = group_end(hints, p);
-        return Cursor {
-            grouped: true,
-            object,
-            lo: p,
-            hi,
-            late: false,
-            at: p,
-        };
-    }
+    let (lo, hi) = if grouped {
+        (p, group_end(hints, p))
+    } else {
+        (0, hints.len() / HintRecord::SIZE)
+    };
     Cursor {
-        grouped: false,
+        grouped,
         object,
-        lo: 0,
-        hi: hints.len() / HintRecord::SIZE,
+        lo,
+        hi,
         late: false,
-        at: 0,
+        at: lo,
     }
 }
 
@@ -162,78 +130,52 @@ impl Cursor {
         ensures all { rest hints.now result ≡ order_of hints.now }
         ensures sound { Sound hints.now result }
     {
-        let p = position_from(hints, rises, 0, 0);
-        if p < hints.len() / HintRecord::SIZE {
-            return enter(hints, rises, p);
-        }
-        Cursor {
-            grouped: rises,
-            object: 0,
-            lo: 0,
-            hi: 0,
-            late: false,
-            at: 0,
+        match position_from(hints, rises, 0, 0) {
+            Some(p) => enter(hints, rises, p),
+            None => Cursor {
+                grouped: rises,
+                object: 0,
+                lo: 0,
+                hi: 0,
+                late: false,
+                at: 0,
+            },
         }
     }
 
     // The next hint of the cursor's object.
-    fn step_in(self, hints: &[u8]) -> Next
+    fn step_in(self, hints: &[u8]) -> Option<(usize, Cursor)>
         requires { Sound hints.now self }
         ensures step { StepsIn hints.now self result }
         ensures sound { SoundNext hints.now result }
     {
-        let k = find(hints, self.object, self.late, self.at, self.hi);
-        if k < self.hi {
-            return Next::At(
-                k,
-                Cursor {
-                    grouped: self.grouped,
-                    object: self.object,
-                    lo: self.lo,
-                    hi: self.hi,
-                    late: self.late,
-                    at: k + 1,
-                },
-            );
+        if let Some(k) = find(hints, self.object, self.late, self.at, self.hi) {
+            return Some((k, Cursor { at: k + 1, ..self }));
         }
         if self.late {
-            return Next::Done;
+            return None;
         }
-        let m = find(hints, self.object, true, self.lo, self.hi);
-        if m < self.hi {
-            return Next::At(
-                m,
-                Cursor {
-                    grouped: self.grouped,
-                    object: self.object,
-                    lo: self.lo,
-                    hi: self.hi,
-                    late: true,
-                    at: m + 1,
-                },
-            );
-        }
-        Next::Done
+        let k = find(hints, self.object, true, self.lo, self.hi)?;
+        Some((
+            k,
+            Cursor {
+                late: true,
+                at: k + 1,
+                ..self
+            },
+        ))
     }
 
     // The hint that is worked next.
-    pub fn next(self, hints: &[u8]) -> Next
+    pub fn next(self, hints: &[u8]) -> Option<(usize, Cursor)>
         requires { Sound hints.now self }
         ensures step { following hints.now result ≡ rest hints.now self }
         ensures sound { SoundNext hints.now result }
     {
-        let step = self.step_in(hints);
-        match step {
-            Next::At(k, c) => {
-                return Next::At(k, c);
-            }
-            Next::Done => {
-                let p = position_from(hints, self.grouped, self.hi, (self.object as u64) + 1);
-                if p < hints.len() / HintRecord::SIZE {
-                    return enter(hints, self.grouped, p).step_in(hints);
-                }
-                return Next::Done;
-            }
+        if let Some(step) = self.step_in(hints) {
+            return Some(step);
         }
+        let p = position_from(hints, self.grouped, self.hi, (self.object as u64) + 1)?;
+        enter(hints, self.grouped, p).step_in(hints)
     }
 }

@@ -1,4 +1,5 @@
 -- A hint's places by its word count. Carried by the choices of `is_skipped`, `insns_in` and `word_count`.
+use Rattle.std.specs.Prelude.{None}
 use mathlib.Core.Path.{◌≡◌, refl, sym, ap, ◌∙◌}
 use mathlib.Core.Bool.{true, false, not, true≢false}
 use mathlib.Core.List.{List, [], ◌∷◌}
@@ -13,7 +14,6 @@ use Rattle.macho.specs.Hint.{word_count}
 use Rattle.macho.specs.declared.hint.HintInsn.{HintInsn}
 use Rattle.macho.specs.declared.hint.HintRecord.{HintRecord}
 use Rattle.arm64_hint_terms.specs.Rels.{rel_at}
-use Rattle.arm64_hint_terms.specs.declared.rels.Rel.TheVariants.{Absent}
 use Rattle.arm64_hint_places.specs.Hint.{is_skipped, insns_all, insns_in, rels_of}
 
 -- what holds of each number of words
@@ -63,7 +63,7 @@ module _ (h : HintRecord) where
     pub rels-two : (entries : List ℕ) → (h.n ≡ 3 → ⊥) → rels_of entries h ≡ record {
       r0 = rel_at entries h.insn0.rel;
       r1 = rel_at entries h.insn1.rel;
-      r2 = Absent;
+      r2 = None;
     }
     unfolding rels_of rel_at choose
     rels-two entries n = rw (insns-two n)

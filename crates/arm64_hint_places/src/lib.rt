@@ -12,6 +12,7 @@ use arm64_hint_words::words::words_of;
 use macho::hint::{HintInsn, HintRecord, word_count};
 
 // Whether a hint is skipped: there is no such kind, or its word count is not the kind's.
+#[tactic(auto, unfolding(crate::specs::Hint::is_skipped))]
 pub fn is_skipped(h: HintRecord) -> bool
     ensures { result ≡ is_skipped h }
 {
@@ -23,10 +24,7 @@ pub fn is_skipped(h: HintRecord) -> bool
 pub fn insns_all(h: HintRecord) -> [HintInsn; 3]
     ensures { result ≡ insns_all h }
 {
-    let i0 = h.insn0;
-    let i1 = h.insn1;
-    let i2 = h.insn2;
-    [i0, i1, i2]
+    [h.insn0, h.insn1, h.insn2]
 }
 
 // The words at the places up to the word count, with their addresses. The section stays as it is.

@@ -1,9 +1,5 @@
 // What working one hint comes to.
 use arm64_hint_terms::answer::{Decision, Insns};
 
-// A hint that was skipped, or what was decided of the words that stood at its places, with those words.
-#[derive(Clone, Copy)]
-pub enum HintOutcome {
-    Skipped,
-    Worked(Decision, Insns),
-}
+// What was decided of the words that stood at a hint's places, with those words; none of a hint that was skipped.
+pub type HintOutcome = Option<(Decision, Insns)>;

@@ -14,14 +14,7 @@ pub fn store(section: &mut [u8], h: HintRecord, d: Decision)
     requires { Inside h (length section.old) }
     ensures { section.new ≡ put_words (offs_of h) (news_in d) section.old }
 {
-    match d {
-        Decision::Declined => {}
-        Decision::Nine => {}
-        Decision::Rewritten(p) => {
-            let w0 = p.w0;
-            let w1 = p.w1;
-            let w2 = p.w2;
-            set_words(section, insns_all(h), h.n as usize, w0, w1, w2);
-        }
+    if let Ok(p) = d {
+        set_words(section, insns_all(h), h.n as usize, p.w0, p.w1, p.w2);
     }
 }

@@ -7,7 +7,7 @@ use Prim.Native.Nat.{ℕ, zero, suc, ◌<◌}
 use lib.ListN.{length, take}
 use Rattle.util.specs.Choice.{choose}
 use Rattle.macho.specs.Hint.{hint_count, hint_of}
-use Rattle.macho.specs.Refusal.{check_number}
+use Rattle.macho.specs.Refusal.{answer_number}
 use Rattle.macho.specs.declared.hint.HintInsn.{HintInsn}
 use Rattle.macho.specs.declared.hint.HintRecord.{HintRecord}
 use Rattle.arm64_hint_places.specs.Hint.{is_skipped, insns_all, insns_in, insns_of, rels_of}
@@ -72,7 +72,7 @@ pub same_number : (hints others entries image : List ℕ) → length hints ≡ l
     → run_number (run_of image hints entries) ≡ run_number (run_of image others entries)
 same_number hints others entries image sized same =
     number_is image hints entries
-    ∙ ap check_number
+    ∙ ap answer_number
     (same_by hints others sized
     (λ len count k h. sym (check-blind len count (hint_of hints k)) ∙ ap (check_hint len count) (same k h) ∙ check-blind len count (hint_of others k))
     (length image) (length entries))

@@ -1,5 +1,6 @@
 -- Runs that are computed, on image bytes, hint records and entry records: examples 6 to 8 (RULES 11.6 to 11.8), and those of the numbers 1, 3 and 12
 -- (RULES 3.1) with their order. Runs of several hints are computed in arm64_hint_kept (`ExampleRuns`).
+use Rattle.std.specs.Prelude.{Result, Ok}
 use mathlib.Core.Path.{◌≡◌, refl}
 use mathlib.Core.List.{List, [], ◌∷◌, ◌++◌}
 use Prim.Native.Nat.{ℕ, ◌+◌, ◌*◌}
@@ -29,8 +30,8 @@ use Rattle.arm64_hint_places.specs.Hint.{is_skipped, insns_in, insns_of, rels_of
 use Rattle.arm64_hint_check.specs.Check.{is_list, check_lists, check_hint, check_to, check_all}
 use Rattle.arm64_hint_rules.specs.Rule.{hint_outcome}
 use Rattle.arm64_hint_run.specs.Run.{worked, run_of, image_of, run_number}
-use Rattle.arm64_hint_run.specs.declared.run.RunAnswer.{RunAnswer}
-use Rattle.arm64_hint_run.specs.declared.run.RunAnswer.TheVariants.{Done}
+use Rattle.macho.specs.declared.refusal.Refusal.{Refusal}
+use Rattle.arm64_hint_work.specs.declared.tally.Tally.{Tally}
 
 -- an image of words
 abbrev pub words : List ℕ → List ℕ
@@ -59,11 +60,11 @@ abbrev pub pair : List ℕ
 pair = entry ARM64_RELOC_PAGE21 ++ entry ARM64_RELOC_PAGEOFF12
 
 -- an answer with its counts
-abbrev pub counts : ℕ → ℕ → ℕ → ℕ → RunAnswer
-counts a b c d = Done (record { rewritten = a; skipped = b; declined = c; turned_down = d })
+abbrev pub counts : ℕ → ℕ → ℕ → ℕ → Result Tally Refusal
+counts a b c d = Ok (record { rewritten = a; skipped = b; declined = c; turned_down = d })
 
 -- a run with these entries on these words gives the answer, and leaves those words
-abbrev pub Runs : List ℕ → List ℕ → List ℕ → RunAnswer → List ℕ → Type 0
+abbrev pub Runs : List ℕ → List ℕ → List ℕ → Result Tally Refusal → List ℕ → Type 0
 Runs entries hints old answer new = (run_of (words old) hints entries ≡ answer) × (image_of (words old) hints entries ≡ words new)
 
 -- ---- examples 6 to 8

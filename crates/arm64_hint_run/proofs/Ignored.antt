@@ -1,5 +1,6 @@
 -- What is ignored changes nothing: of a hint its bytes 2 and 3 and the places past its word count, of an entry all but type, target and addend.
 -- Lists that agree in the rest have the same run. Carried by equal checks, equal orders of work and equal steps.
+use Rattle.std.specs.Prelude.{Result, Option, ⊤}
 use mathlib.Core.Path.{◌≡◌, ap, ap₂, ◌∙◌}
 use mathlib.Core.Logic.{◌⊎◌, ⊎_elim}
 use mathlib.Core.List.{List, map}
@@ -10,7 +11,10 @@ use lib.ListN.{length, length-set}
 use Rattle.macho.specs.Hint.{hint_size, hint_at, hint_count, hint_of}
 use Rattle.macho.specs.declared.hint.HintInsn.{HintInsn}
 use Rattle.macho.specs.declared.hint.HintRecord.{HintRecord}
-use Rattle.macho.specs.declared.refusal.Check.{Check}
+use Rattle.macho.specs.declared.refusal.Refusal.{Refusal}
+use Rattle.arm64_hint_terms.specs.declared.answer.Plan.{Plan}
+use Rattle.arm64_hint_terms.specs.declared.answer.NoRewrite.{NoRewrite}
+use Rattle.arm64_hint_terms.specs.declared.answer.Insns.{Insns}
 use Rattle.image.specs.Words.{words_at, put_words}
 use Rattle.image.specs.Steps.{Work, step_of}
 use Rattle.arm64_hint_order.specs.Lists.{run_list, own_list}
@@ -21,7 +25,6 @@ use Rattle.arm64_hint_order.proofs.Same.{run-same, own_same}
 use Rattle.arm64_hint_places.proofs.Alike.{Alike, same-skip, same-insns, same-rels, changed, elsewhere, ignored-byte, past-place}
 use Rattle.arm64_hint_check.proofs.Ignored.{same_check}
 use Rattle.arm64_hint_rules.specs.Rule.{hint_outcome, news_of}
-use Rattle.arm64_hint_rules.specs.declared.outcome.HintOutcome.{HintOutcome}
 use Rattle.arm64_hint_work.specs.Step.{places_of, add_outcome, steps_of}
 use Rattle.arm64_hint_work.specs.declared.tally.Tally.{Tally}
 use Rattle.arm64_hint_run.specs.Run.{start, worked, answer_by, image_by, run_of, image_of}
@@ -52,8 +55,8 @@ module _ (hints hints' : List ℕ) (sized : length hints ≡ length hints')
     same_step : (k : ℕ) → k < hint_count hints → (w : Work Tally) → step_of (steps_of hints entries) k w ≡ step_of (steps_of hints' entries) k w
     same_step k h w =
         let a = same_answer _ _ (alike k h) entries w.image in
-        let p = ap₂ (λ (l : List ℕ) (o : HintOutcome). put_words l (news_of o) w.image) (same-places _ _ (alike k h)) a in
-        let q = ap (λ (o : HintOutcome). add_outcome o w.tally) a in
+        let p = ap₂ (λ (l : List ℕ) (o : Option (Result Plan NoRewrite × Insns)). put_words l (news_of o) w.image) (same-places _ _ (alike k h)) a in
+        let q = ap (λ (o : Option (Result Plan NoRewrite × Insns)). add_outcome o w.tally) a in
         λ i. record { image = p i; tally = q i }
 
     same-work : worked image hints entries (order_of hints) ≡ worked image hints' entries (order_of hints')
@@ -68,8 +71,8 @@ module _ (hints hints' : List ℕ) (sized : length hints ≡ length hints')
     unfolding run_of image_of
     run-alike =
         let c = same_check hints hints' sized alike (length image) (length entries) in (
-          ap₂ (λ (c : Check) (w : Work Tally). answer_by c w.tally) c same-work,
-          ap₂ (λ (c : Check) (w : Work Tally). image_by c image w.image) c same-work,
+          ap₂ (λ (c : Result ⊤ Refusal) (w : Work Tally). answer_by c w.tally) c same-work,
+          ap₂ (λ (c : Result ⊤ Refusal) (w : Work Tally). image_by c image w.image) c same-work,
         )
 
 -- ---- one byte

@@ -1,4 +1,5 @@
 -- The loop over the cursor with the records beside it. Carried by the laws of records stored one after another.
+use Rattle.std.specs.Prelude.{Result, Option, Some, None}
 use mathlib.Core.Path.{◌≡◌, refl, sym, ap, ap₂, ◌∙◌}
 use mathlib.Core.Bool.{Bool, true, false}
 use mathlib.Core.List.{List, [], ◌∷◌, ◌++◌, append_assoc, append-nil}
@@ -16,11 +17,11 @@ use Rattle.macho.proofs.RoundTrip.{rule_record}
 use Rattle.macho.proofs.Stored.{stored_one, stored-front}
 use Rattle.image.specs.Steps.{answered, written}
 use Rattle.arm64_hint_order.specs.declared.Cursor.{Cursor}
-use Rattle.arm64_hint_order.specs.declared.Next.{Next}
-use Rattle.arm64_hint_order.specs.declared.Next.TheVariants.{At, Done}
+use Rattle.arm64_hint_terms.specs.declared.answer.Plan.{Plan}
+use Rattle.arm64_hint_terms.specs.declared.answer.NoRewrite.{NoRewrite}
+use Rattle.arm64_hint_terms.specs.declared.answer.Insns.{Insns}
 use Rattle.arm64_hint_order.specs.Cursor.{order_of, rest, following}
 use Rattle.arm64_hint_order.proofs.Walk.{order-length}
-use Rattle.arm64_hint_rules.specs.declared.outcome.HintOutcome.{HintOutcome}
 use Rattle.arm64_hint_work.specs.Step.{steps_of}
 use Rattle.arm64_hint_run.specs.Records.{record_of, records_of, filled}
 
@@ -59,9 +60,9 @@ module _ (first hints entries slots₀ : List ℕ) where
       same true = refl
       same false = refl
 
-  module _ (lists : Bool) (image : List ℕ) (c : Cursor) (slots : List ℕ) (count : ℕ) (r : Next)
+  module _ (lists : Bool) (image : List ℕ) (c : Cursor) (slots : List ℕ) (count : ℕ) (r : Option (ℕ × Cursor))
       (g : Listing first hints entries slots₀ lists image c slots count) (told : following hints r ≡ rest hints c) where
-    pub listing-done : r ≡ Done → (lists ≡ true → rule_record_size * hint_count hints ≤ length slots₀)
+    pub listing-done : r ≡ None → (lists ≡ true → rule_record_size * hint_count hints ≤ length slots₀)
         → slots ≡ choose lists (filled (records_of first hints entries (order_of hints)) slots₀) slots₀
     unfolding records_of choose
     listing-done e room = g.stand ∙ go lists room
@@ -80,7 +81,7 @@ module _ (first hints entries slots₀ : List ℕ) where
             ∙ ap (λ (rs : List RuleRecord). filled rs slots₀) all
         go false l = refl
 
-    module _ (k : ℕ) (d : Cursor) (e : r ≡ At k d) where
+    module _ (k : ℕ) (d : Cursor) (e : r ≡ Some (k, d)) where
       here : rest hints c ≡ k ∷ rest hints d
       here = sym told ∙ ap (following hints) e
 
@@ -88,7 +89,7 @@ module _ (first hints entries slots₀ : List ℕ) where
       pub record-room : rule_record_size * hint_count hints ≤ length slots₀ → rule_record_size * count + rule_record_size ≤ length slots
       record-room room = omega (arith, g.left, g.size, ap length here)
 
-      pub listing-next : {o : HintOutcome} {y slots' : List ℕ} → o ≡ answered (steps_of hints entries) k image
+      pub listing-next : {o : Option (Result Plan NoRewrite × Insns)} {y slots' : List ℕ} → o ≡ answered (steps_of hints entries) k image
           → y ≡ written (steps_of hints entries) k image
           → slots' ≡ choose lists (sets slots (rule_record_size * count) (rule_record_bytes (record_of hints k o))) slots
           → length slots' ≡ length slots → Listing first hints entries slots₀ lists y d slots' (count + 1)

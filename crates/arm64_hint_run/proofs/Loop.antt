@@ -1,4 +1,5 @@
 -- The loop over the cursor, and the run. Carried by the laws of the step and of the order of work.
+use Rattle.std.specs.Prelude.{Result, Ok, Err, Option, Some, None, ⊤}
 use mathlib.Core.Path.{◌≡◌, refl, sym, ap, ◌∙◌}
 use mathlib.Core.List.{List}
 use Prim.Native.Nat.{ℕ, ◌+◌, ◌<◌}
@@ -6,23 +7,20 @@ use native.Mathlib.Omega.{arith}
 use lib.ListN.{length}
 use Rattle.macho.specs.declared.refusal.Refusal.{Refusal}
 use Rattle.macho.specs.Hint.{hint_count}
-use Rattle.macho.specs.declared.refusal.Check.{Check}
-use Rattle.macho.specs.declared.refusal.Check.TheVariants as C
+use Rattle.arm64_hint_terms.specs.declared.answer.Plan.{Plan}
+use Rattle.arm64_hint_terms.specs.declared.answer.NoRewrite.{NoRewrite}
+use Rattle.arm64_hint_terms.specs.declared.answer.Insns.{Insns}
 use Rattle.image.specs.Steps.{Work, answered, written, step_of}
 use Rattle.image.proofs.Steps.{local-step}
 use Rattle.arm64_hint_order.specs.declared.Cursor.{Cursor}
-use Rattle.arm64_hint_order.specs.declared.Next.{Next}
-use Rattle.arm64_hint_order.specs.declared.Next.TheVariants.{At, Done}
 use Rattle.arm64_hint_order.specs.Lists.{run_list}
 use Rattle.arm64_hint_order.specs.Cursor.{order_of, rest, following, Sound, SoundNext}
 use Rattle.arm64_hint_order.proofs.Walk.{turn_at, turn-done, turn-count, turn-sound, order-length}
 use Rattle.arm64_hint_check.specs.Check.{check_all}
-use Rattle.arm64_hint_rules.specs.declared.outcome.HintOutcome.{HintOutcome}
 use Rattle.arm64_hint_work.specs.Step.{add_outcome, total, steps_of}
 use Rattle.arm64_hint_work.specs.declared.tally.Tally.{Tally}
 use Rattle.arm64_hint_work.proofs.Steps.{total-add}
 use Rattle.arm64_hint_run.specs.Run.{zeros, start, worked, answer_by, image_by, run_of, image_of}
-use Rattle.arm64_hint_run.specs.declared.run.RunAnswer.TheVariants as A
 
 -- ---- the loop
 
@@ -43,18 +41,13 @@ module _ (first hints entries : List ℕ) where
     counted = omega (arith, ap length e, order-length hints);
   }
 
-  module _ (image : List ℕ) (c : Cursor) (t : Tally) (r : Next) (g : Going first hints entries image c t) (told : following hints r ≡ rest hints c) where
-    pub going_done : r ≡ Done → (t ≡ (worked first hints entries (order_of hints)).tally) × (image ≡ (worked first hints entries (order_of hints)).image)
-    going_done e =
-        let w = turn-done (step_of (steps_of hints entries)) hints c r told (record { image = image; tally = t }) e ∙ g.left in
-        (ap (λ (w : Work Tally). w.tally) w, ap (λ (w : Work Tally). w.image) w)
-
-    module _ (k : ℕ) (d : Cursor) (e : r ≡ At k d) where
+  module _ (image : List ℕ) (c : Cursor) (t : Tally) (r : Option (ℕ × Cursor)) (g : Going first hints entries image c t) (told : following hints r ≡ rest hints c) where
+    module _ (k : ℕ) (d : Cursor) (e : r ≡ Some (k, d)) where
       -- there is room for one hint more
       pub room : total t < hint_count hints
       room = omega (arith, turn-count hints r k d e c told, g.counted)
 
-      pub going_next : SoundNext hints r → {o : HintOutcome} {y : List ℕ} {u : Tally} → o ≡ answered (steps_of hints entries) k image
+      pub going_next : SoundNext hints r → {o : Option (Result Plan NoRewrite × Insns)} {y : List ℕ} {u : Tally} → o ≡ answered (steps_of hints entries) k image
           → y ≡ written (steps_of hints entries) k image → u ≡ add_outcome o t → Going first hints entries y d u
       going_next s {o} {y} {u} answers writes adds = record {
         sound = (turn-sound hints r k d e s).1;
@@ -67,23 +60,23 @@ module _ (first hints entries : List ℕ) where
       }
         where
           tallies : u ≡ add_outcome (answered (steps_of hints entries) k image) t
-          tallies = adds ∙ ap (λ (x : HintOutcome). add_outcome x t) answers
+          tallies = adds ∙ ap (λ (x : Option (Result Plan NoRewrite × Insns)). add_outcome x t) answers
 
 -- ---- the run
 
 module _ (image hints entries : List ℕ) where
-  pub run-refused : (x : Refusal) → check_all (length image) hints (length entries) ≡ C.Refused x
-      → (A.Refused x ≡ run_of image hints entries) × (image ≡ image_of image hints entries)
+  pub run-refused : (x : Refusal) → check_all (length image) hints (length entries) ≡ Err x
+      → (Err x ≡ run_of image hints entries) × (image ≡ image_of image hints entries)
   unfolding run_of image_of
   run-refused x e = (
-    sym (ap (λ (c : Check). answer_by c (worked image hints entries (order_of hints)).tally) e),
-    sym (ap (λ (c : Check). image_by c image (worked image hints entries (order_of hints)).image) e),
+    sym (ap (λ (c : Result ⊤ Refusal). answer_by c (worked image hints entries (order_of hints)).tally) e),
+    sym (ap (λ (c : Result ⊤ Refusal). image_by c image (worked image hints entries (order_of hints)).image) e),
   )
 
-  pub run-done : {t : Tally} {y : List ℕ} → check_all (length image) hints (length entries) ≡ C.Fit → t ≡ (worked image hints entries (order_of hints)).tally
-      → y ≡ (worked image hints entries (order_of hints)).image → (A.Done t ≡ run_of image hints entries) × (y ≡ image_of image hints entries)
+  pub run-done : {t : Tally} {y : List ℕ} → check_all (length image) hints (length entries) ≡ Ok tt → t ≡ (worked image hints entries (order_of hints)).tally
+      → y ≡ (worked image hints entries (order_of hints)).image → (Ok t ≡ run_of image hints entries) × (y ≡ image_of image hints entries)
   unfolding run_of image_of
   run-done e told left = (
-    ap A.Done told ∙ sym (ap (λ (c : Check). answer_by c (worked image hints entries (order_of hints)).tally) e),
-    left ∙ sym (ap (λ (c : Check). image_by c image (worked image hints entries (order_of hints)).image) e),
+    ap Ok told ∙ sym (ap (λ (c : Result ⊤ Refusal). answer_by c (worked image hints entries (order_of hints)).tally) e),
+    left ∙ sym (ap (λ (c : Result ⊤ Refusal). image_by c image (worked image hints entries (order_of hints)).image) e),
   )

@@ -1,4 +1,5 @@
 -- The words of a hint that is not turned down lie in its part of the image, as RULES 9.27 supposes it. Carried by the check.
+use Rattle.std.specs.Prelude.{Ok}
 use mathlib.Core.Path.{◌≡◌, refl, sym, ap, ◌∙◌}
 use mathlib.Core.Bool.{Bool, true, false, true≢false}
 use mathlib.Core.List.{List, map}
@@ -9,7 +10,6 @@ use Rattle.util.specs.All.{All, empty, more}
 use Rattle.macho.specs.declared.hint.HintInsn.{HintInsn}
 use Rattle.macho.specs.declared.hint.HintRecord.{HintRecord}
 use Rattle.macho.specs.Hint.{hint_count, hint_of}
-use Rattle.macho.specs.declared.refusal.Check.TheVariants.{Fit}
 use Rattle.image.specs.Words.{span, in_words}
 use Rattle.image.specs.Steps.{foot_of}
 use Rattle.image.proofs.Words.{words_inside}
@@ -29,7 +29,7 @@ pub places-inside : (h : HintRecord) → Inside h h.len → All (λ at. (h.start
 places-inside h i = moved h.start h.len i.words
 
 -- a byte of a hint's words: the hint is not skipped, and the byte is one of its part
-pub in-part : (image hints entries : List ℕ) → check_all (length image) hints (length entries) ≡ Fit → (k : ℕ) → k < hint_count hints → (b : ℕ)
+pub in-part : (image hints entries : List ℕ) → check_all (length image) hints (length entries) ≡ Ok tt → (k : ℕ) → k < hint_count hints → (b : ℕ)
     → foot_of (steps_of hints entries) k b ≡ true → (is_skipped (hint_of hints k) ≡ false) × (span (hint_of hints k).start (hint_of hints k).len b ≡ true)
 in-part image hints entries fit k l b inside = go (is_skipped (hint_of hints k)) refl
   where

@@ -1,5 +1,6 @@
 -- Nothing of a skipped hint counts but that it is skipped: lists of hints that differ in skipped hints alone have the same run, their part, places, object
 -- number and kind whatever they are (RULES 3.17, 8.3). Carried by `idle-run`: the step of a skipped hint may be made at any time.
+use Rattle.std.specs.Prelude.{Result, Option, None, ⊤}
 use mathlib.Core.Path.{◌≡◌, refl, sym, ap, ap₂, ◌∙◌}
 use mathlib.Core.Logic.{◌⊎◌, ⊎_elim}
 use mathlib.Core.Bool.{Bool, true, false, not, true≢false}
@@ -10,7 +11,10 @@ use lib.Dec.{eqb}
 use lib.ListN.{length}
 use Rattle.macho.specs.Hint.{hint_size, hint_count, hint_of}
 use Rattle.macho.specs.declared.hint.HintRecord.{HintRecord}
-use Rattle.macho.specs.declared.refusal.Check.{Check}
+use Rattle.macho.specs.declared.refusal.Refusal.{Refusal}
+use Rattle.arm64_hint_terms.specs.declared.answer.Plan.{Plan}
+use Rattle.arm64_hint_terms.specs.declared.answer.NoRewrite.{NoRewrite}
+use Rattle.arm64_hint_terms.specs.declared.answer.Insns.{Insns}
 use Rattle.image.specs.Words.{words_at, put_words}
 use Rattle.image.specs.Steps.{Work, answered, step_of}
 use Rattle.arm64_hint_order.specs.Lists.{run_list, own_list}
@@ -23,8 +27,6 @@ use Rattle.arm64_hint_places.specs.Hint.{is_skipped}
 use Rattle.arm64_hint_check.specs.Check.{check_hint}
 use Rattle.arm64_hint_check.proofs.Ignored.{skipped-check, same_by}
 use Rattle.arm64_hint_rules.specs.Rule.{hint_outcome, news_of}
-use Rattle.arm64_hint_rules.specs.declared.outcome.HintOutcome.{HintOutcome}
-use Rattle.arm64_hint_rules.specs.declared.outcome.HintOutcome.TheVariants.{Skipped}
 use Rattle.arm64_hint_work.specs.Step.{places_of, add_outcome, steps_of}
 use Rattle.arm64_hint_work.specs.declared.tally.Tally.{Tally}
 use Rattle.arm64_hint_work.proofs.Steps.{skipped-step, add-swap}
@@ -32,19 +34,19 @@ use Rattle.arm64_hint_run.specs.Run.{start, worked, answer_by, image_by, run_of,
 
 -- the step of a skipped hint: it is counted
 abbrev pub idle : Work Tally → Work Tally
-idle w = record { image = w.image; tally = add_outcome Skipped w.tally }
+idle w = record { image = w.image; tally = add_outcome None w.tally }
 
 module _ (entries : List ℕ) where
   pub idle-step : (hints : List ℕ) (k : ℕ) → is_skipped (hint_of hints k) ≡ true → (w : Work Tally) → step_of (steps_of hints entries) k w ≡ idle w
   idle-step hints k e w =
       let t = skipped-step hints entries w.image k (hint_of hints k) refl e in
       let p = sym t.1 in
-      let q = ap (λ (o : HintOutcome). add_outcome o w.tally) (sym t.0) in
+      let q = ap (λ (o : Option (Result Plan NoRewrite × Insns)). add_outcome o w.tally) (sym t.0) in
       λ i. record { image = p i; tally = q i }
 
   idle-any : (hints : List ℕ) (j : ℕ) (w : Work Tally) → step_of (steps_of hints entries) j (idle w) ≡ idle (step_of (steps_of hints entries) j w)
   idle-any hints j w =
-      let q = add-swap (answered (steps_of hints entries) j w.image) Skipped w.tally in
+      let q = add-swap (answered (steps_of hints entries) j w.image) None w.tally in
       λ i. record { image = (step_of (steps_of hints entries) j w).image; tally = q i }
 
   -- a hint's step by its fields
@@ -100,6 +102,6 @@ module _ (entries : List ℕ) where
       unfolding run_of image_of
       run-skipped =
           let c = same_by hints others sized same_check (length image) (length entries) in (
-            ap₂ (λ (c : Check) (w : Work Tally). answer_by c w.tally) c same-work,
-            ap₂ (λ (c : Check) (w : Work Tally). image_by c image w.image) c same-work,
+            ap₂ (λ (c : Result ⊤ Refusal) (w : Work Tally). answer_by c w.tally) c same-work,
+            ap₂ (λ (c : Result ⊤ Refusal) (w : Work Tally). image_by c image w.image) c same-work,
           )

@@ -1,18 +1,17 @@
 // The hint run: the check of all hints, then their work.
-ghost use Rattle.std.specs.Prelude.{◌≡◌, true, ◌+◌, ◌*◌, ◌^◌, ◌≤◌, ◌<◌, length};
+ghost use Rattle.std.specs.Prelude.{◌≡◌, true, ◌+◌, ◌*◌, ◌^◌, ◌≤◌, ◌<◌, length, Ok};
 ghost use Rattle.std.proofs.lemmas.List.Edits.{sets};
 ghost use Rattle.util.specs.Choice.{choose};
 ghost use Rattle.macho.specs.Hint.{hint_count};
 ghost use Rattle.macho.specs.RuleRecord.{rule_record_size, rule_record_bytes};
-ghost use Rattle.macho.specs.declared.refusal.Check.TheVariants.{Fit};
 ghost use Rattle.arm64_hint_order.specs.Cursor.{object_at, order_of};
 ghost use Rattle.arm64_hint_order.specs.Walk.{grouped};
 ghost use Rattle.arm64_hint_check.specs.Check.{check_all};
 ghost use Rattle.arm64_hint_run.specs.Run.{worked, run_of, image_of};
 ghost use Rattle.arm64_hint_run.specs.Records.{record_of, records_of, filled};
 
-use arm64_hint_check::{Checked, check_all};
-use arm64_hint_order::{Cursor, Next};
+use arm64_hint_check::check_all;
+use arm64_hint_order::Cursor;
 use arm64_hint_rules::outcome::HintOutcome;
 use arm64_hint_work::rule::{changed_of, rule_of};
 use arm64_hint_work::tally::Tally;
@@ -20,13 +19,6 @@ use arm64_hint_work::work::work;
 use macho::hint::object_at;
 use macho::refusal::Refusal;
 use macho::rule_record::RuleRecord;
-
-// What a run answers: its counts, or why it changed nothing.
-#[derive(Clone, Copy)]
-pub enum RunAnswer {
-    Done(Tally),
-    Refused(Refusal),
-}
 
 // The record of hint k, by what came of it.
 fn record_of(hints: &[u8], k: usize, o: HintOutcome) -> RuleRecord
@@ -64,7 +56,7 @@ pub fn work_and_list(
     lists: bool,
     rises: bool,
 ) -> Tally
-    requires entries_value { check_all (length image.old) hints.now (length entries.now) ≡ Fit }
+    requires entries_value { check_all (length image.old) hints.now (length entries.now) ≡ Ok tt }
     requires hints_in_bounds { lists ≡ true → rule_record_size * hint_count hints.now ≤ length slots.old }
     requires rises_value { rises ≡ grouped (object_at hints.now) (hint_count hints.now) }
     ensures tally { result ≡ (worked image.old hints.now entries.now (order_of hints.now)).tally }
@@ -81,25 +73,19 @@ pub fn work_and_list(
         turned_down: 0,
     };
     let mut count: usize = 0;
-    loop {
-        match c.next(hints) {
-            Next::Done => {
-                return tally;
-            }
-            Next::At(k, next) => {
-                let o = work(image, hints, entries, k);
-                tally = tally.add(o);
-                list(slots, lists, count, hints, k, o);
-                count += 1;
-                c = next;
-            }
-        }
+    while let Some((k, next)) = c.next(hints) {
+        let o = work(image, hints, entries, k);
+        tally = tally.add(o);
+        list(slots, lists, count, hints, k, o);
+        count += 1;
+        c = next;
     }
+    tally
 }
 
 // Works all hints as work_and_list does, of a run that is not listed: it touches no slot.
 fn work_all(image: &mut [u8], hints: &[u8], entries: &[u8], rises: bool) -> Tally
-    requires entries_value { check_all (length image.old) hints.now (length entries.now) ≡ Fit }
+    requires entries_value { check_all (length image.old) hints.now (length entries.now) ≡ Ok tt }
     requires rises_value { rises ≡ grouped (object_at hints.now) (hint_count hints.now) }
     ensures tally { result ≡ (worked image.old hints.now entries.now (order_of hints.now)).tally }
     ensures image { image.new ≡ (worked image.old hints.now entries.now (order_of hints.now)).image }
@@ -109,12 +95,10 @@ fn work_all(image: &mut [u8], hints: &[u8], entries: &[u8], rises: bool) -> Tall
 }
 
 // Works the hints on the image by the entries, unless something lent is turned down.
-pub fn run(image: &mut [u8], hints: &[u8], entries: &[u8]) -> RunAnswer
+pub fn run(image: &mut [u8], hints: &[u8], entries: &[u8]) -> Result<Tally, Refusal>
     ensures answer { result ≡ run_of image.old hints.now entries.now }
     ensures image { image.new ≡ image_of image.old hints.now entries.now }
 {
-    match check_all(image.len(), hints, entries.len()) {
-        Checked::Refused(x) => RunAnswer::Refused(x),
-        Checked::Fit(rises) => RunAnswer::Done(work_all(image, hints, entries, rises)),
-    }
+    let rises = check_all(image.len(), hints, entries.len())?;
+    Ok(work_all(image, hints, entries, rises))
 }

@@ -1,5 +1,6 @@
 -- What the tests of a hint's entries say by LLVM's kinds: a hint passes the test of its kind just where its entries refer to what the kind says, the named
 -- exceptions included (RULES 8.4, 8.8, 8.9). By cases on the entries and their types.
+use Rattle.std.specs.Prelude.{Option, Some, None}
 use mathlib.Core.Path.{◌≡◌, refl}
 use mathlib.Core.Logic.{◌⊎◌, inl, inr, ⊎_elim}
 use mathlib.Core.Bool.{Bool, true, false, ◌||◌, false≢true}
@@ -15,8 +16,7 @@ use Rattle.macho.specs.Types.{MCLOH_AdrpAddStr, MCLOH_AdrpLdrGotStr, MCLOH_AdrpA
 use Rattle.arm64_hint_terms.specs.Rels.{is_page_rel, is_pageoff_rel, same_reference, is_absent, has_page_pair, both_pages}
 use Rattle.arm64_hint_terms.specs.Kinds.{Word, Adrp-Page, Adrp-GotPage, Add-PageOff, Ldr-GotPageOff, Ldr, Str}
 use Rattle.arm64_hint_terms.specs.Kinds.{words_of, IsCarried, IsTakenFor, AreCarried, OneV, Refers}
-use Rattle.arm64_hint_terms.specs.declared.rels.Rel.{Rel}
-use Rattle.arm64_hint_terms.specs.declared.rels.Rel.TheVariants.{Entry, Absent}
+use Rattle.macho.specs.declared.reloc.Reloc.{Reloc}
 use Rattle.arm64_hint_terms.specs.declared.rels.Rels.{Rels}
 
 -- ---- one entry
@@ -41,80 +41,80 @@ got-half ty p g t = go (eqb ty p) refl
     go false e h = of_two ty g t (unfold choose in rw e at h)
 
 -- an entry may stand for what a word carries
-abbrev Stands : Word → Rel → Type 0
+abbrev Stands : Word → Option Reloc → Type 0
 Stands k r = IsCarried k r ⊎ IsTakenFor k r
 
-page-any : (r : Rel) → is_page_rel r false ≡ true → Stands Adrp-Page r
+page-any : (r : Option Reloc) → is_page_rel r false ≡ true → Stands Adrp-Page r
 unfolding is_page_rel
-page-any Absent e = absurd (false≢true e)
-page-any (Entry a) e = any-half a.ty _ _ _ e
+page-any None e = absurd (false≢true e)
+page-any (Some a) e = any-half a.ty _ _ _ e
 
-page-got : (r : Rel) → is_page_rel r true ≡ true → Stands Adrp-GotPage r
+page-got : (r : Option Reloc) → is_page_rel r true ≡ true → Stands Adrp-GotPage r
 unfolding is_page_rel
-page-got Absent e = absurd (false≢true e)
-page-got (Entry a) e = got-half a.ty _ _ _ e
+page-got None e = absurd (false≢true e)
+page-got (Some a) e = got-half a.ty _ _ _ e
 
-pageoff-any : (r : Rel) → is_pageoff_rel r false ≡ true → Stands Add-PageOff r
+pageoff-any : (r : Option Reloc) → is_pageoff_rel r false ≡ true → Stands Add-PageOff r
 unfolding is_pageoff_rel
-pageoff-any Absent e = absurd (false≢true e)
-pageoff-any (Entry a) e = any-half a.ty _ _ _ e
+pageoff-any None e = absurd (false≢true e)
+pageoff-any (Some a) e = any-half a.ty _ _ _ e
 
-pageoff-got : (r : Rel) → is_pageoff_rel r true ≡ true → Stands Ldr-GotPageOff r
+pageoff-got : (r : Option Reloc) → is_pageoff_rel r true ≡ true → Stands Ldr-GotPageOff r
 unfolding is_pageoff_rel
-pageoff-got Absent e = absurd (false≢true e)
-pageoff-got (Entry a) e = got-half a.ty _ _ _ e
+pageoff-got None e = absurd (false≢true e)
+pageoff-got (Some a) e = got-half a.ty _ _ _ e
 
-no-entry : (r : Rel) → is_absent r ≡ true → r ≡ Absent
+no-entry : (r : Option Reloc) → is_absent r ≡ true → r ≡ None
 unfolding is_absent
-no-entry Absent e = refl
-no-entry (Entry a) e = absurd (false≢true e)
+no-entry None e = refl
+no-entry (Some a) e = absurd (false≢true e)
 
 -- and the other way round
 
-is-page-any : (r : Rel) → Stands Adrp-Page r → is_page_rel r false ≡ true
+is-page-any : (r : Option Reloc) → Stands Adrp-Page r → is_page_rel r false ≡ true
 unfolding is_page_rel choose
-is-page-any Absent h = absurd (⊎_elim (λ x. x) (λ x. ⊎_elim (λ y. y) (λ y. y) x) h)
-is-page-any (Entry a) h = ⊎_elim (λ e. rw e) (λ h. ⊎_elim (λ e. rw e) (λ e. rw e) h) h
+is-page-any None h = absurd (⊎_elim (λ x. x) (λ x. ⊎_elim (λ y. y) (λ y. y) x) h)
+is-page-any (Some a) h = ⊎_elim (λ e. rw e) (λ h. ⊎_elim (λ e. rw e) (λ e. rw e) h) h
 
-is-page-got : (r : Rel) → Stands Adrp-GotPage r → is_page_rel r true ≡ true
+is-page-got : (r : Option Reloc) → Stands Adrp-GotPage r → is_page_rel r true ≡ true
 unfolding is_page_rel choose
-is-page-got Absent h = absurd (⊎_elim (λ x. x) (λ x. x) h)
-is-page-got (Entry a) h = ⊎_elim (λ e. rw e) (λ e. rw e) h
+is-page-got None h = absurd (⊎_elim (λ x. x) (λ x. x) h)
+is-page-got (Some a) h = ⊎_elim (λ e. rw e) (λ e. rw e) h
 
-is-pageoff-any : (r : Rel) → Stands Add-PageOff r → is_pageoff_rel r false ≡ true
+is-pageoff-any : (r : Option Reloc) → Stands Add-PageOff r → is_pageoff_rel r false ≡ true
 unfolding is_pageoff_rel choose
-is-pageoff-any Absent h = absurd (⊎_elim (λ x. x) (λ x. ⊎_elim (λ y. y) (λ y. y) x) h)
-is-pageoff-any (Entry a) h = ⊎_elim (λ e. rw e) (λ h. ⊎_elim (λ e. rw e) (λ e. rw e) h) h
+is-pageoff-any None h = absurd (⊎_elim (λ x. x) (λ x. ⊎_elim (λ y. y) (λ y. y) x) h)
+is-pageoff-any (Some a) h = ⊎_elim (λ e. rw e) (λ h. ⊎_elim (λ e. rw e) (λ e. rw e) h) h
 
-is-pageoff-got : (r : Rel) → Stands Ldr-GotPageOff r → is_pageoff_rel r true ≡ true
+is-pageoff-got : (r : Option Reloc) → Stands Ldr-GotPageOff r → is_pageoff_rel r true ≡ true
 unfolding is_pageoff_rel choose
-is-pageoff-got Absent h = absurd (⊎_elim (λ x. x) (λ x. x) h)
-is-pageoff-got (Entry a) h = ⊎_elim (λ e. rw e) (λ e. rw e) h
+is-pageoff-got None h = absurd (⊎_elim (λ x. x) (λ x. x) h)
+is-pageoff-got (Some a) h = ⊎_elim (λ e. rw e) (λ e. rw e) h
 
-is-absent : (r : Rel) → (r ≡ Absent) ⊎ ⊥ → is_absent r ≡ true
+is-absent : (r : Option Reloc) → (r ≡ None) ⊎ ⊥ → is_absent r ≡ true
 unfolding is_absent
 is-absent r h = ⊎_elim (λ e. rw e) (λ x. absurd x) h
 
 -- ---- two entries of one v
 
-one-v : (a b : Rel) (got : Bool) → is_page_rel a got ≡ true → same_reference a b ≡ true → OneV a b
+one-v : (a b : Option Reloc) (got : Bool) → is_page_rel a got ≡ true → same_reference a b ≡ true → OneV a b
 unfolding is_page_rel same_reference
-one-v Absent b got p e = absurd (false≢true p)
-one-v (Entry a) Absent got p e = absurd (false≢true e)
-one-v (Entry a) (Entry b) got p e =
+one-v None b got p e = absurd (false≢true p)
+one-v (Some a) None got p e = absurd (false≢true e)
+one-v (Some a) (Some b) got p e =
     let f = both (eqb a.target b.target) (eqb a.addend b.addend) e in
     (eqb-true a.target b.target f.0, eqb-true a.addend b.addend f.1)
 
-is-one-v : (a b : Rel) → OneV a b → same_reference a b ≡ true
+is-one-v : (a b : Option Reloc) → OneV a b → same_reference a b ≡ true
 unfolding same_reference
-is-one-v Absent b h = absurd h
-is-one-v (Entry a) Absent h = absurd h
-is-one-v (Entry a) (Entry b) h = rw (eq-eqb a.target b.target h.0, eq-eqb a.addend b.addend h.1)
+is-one-v None b h = absurd h
+is-one-v (Some a) None h = absurd h
+is-one-v (Some a) (Some b) h = rw (eq-eqb a.target b.target h.0, eq-eqb a.addend b.addend h.1)
 
 -- ---- the tests of a hint's entries
 
 module _ (r : Rels) where
-  abbrev all : List Rel
+  abbrev all : List (Option Reloc)
   all = r.r0 ∷ r.r1 ∷ r.r2 ∷ []
 
   halves : (n : ℕ) (got : Bool) → has_page_pair r n got ≡ true
@@ -134,7 +134,7 @@ module _ (r : Rels) where
       → AreCarried (Adrp-GotPage ∷ Ldr-GotPageOff ∷ ws) all × OneV r.r0 r.r1
   pair-got ws c n e = let h = halves n true e in ((page-got r.r0 h.0, (pageoff-got r.r1 h.1, c)), h.2)
 
-  third : (got : Bool) → has_page_pair r 3 got ≡ true → ((r.r2 ≡ Absent) ⊎ ⊥) × Unit {0}
+  third : (got : Bool) → has_page_pair r 3 got ≡ true → ((r.r2 ≡ None) ⊎ ⊥) × Unit {0}
   third got e = (inl (no-entry r.r2 (halves 3 got e).3), tt)
 
   is-pair : (n : ℕ) (got : Bool) → is_page_rel r.r0 got ≡ true → is_pageoff_rel r.r1 got ≡ true → OneV r.r0 r.r1

@@ -1,6 +1,6 @@
 -- LLVM's linker optimization hint kinds (llvm/MC/MCLinkerOptimizationHint.h, `MCLOHType`; RULES 8.2, 8.4). Numbers and names are macho's; each kind has
 -- a row of words, as "Adrp _v@PAGE -> Add _v@PAGEOFF -> Ldr" for AdrpAddLdr: which instructions stand there, and which entries.
-use Rattle.std.specs.Prelude.{ℕ, ◌≡◌, ◌⊎◌, Bool, true, false, List, [], ◌∷◌, eqb, take}
+use Rattle.std.specs.Prelude.{ℕ, ◌≡◌, ◌⊎◌, Bool, true, false, List, [], ◌∷◌, eqb, take, Option, Some, None}
 use Rattle.util.specs.Choice.{choose}
 use Rattle.macho.specs.Hint.{word_count}
 use Rattle.macho.specs.Types.{MCLOH_AdrpAdrp, MCLOH_AdrpLdr, MCLOH_AdrpAddLdr, MCLOH_AdrpLdrGotLdr}
@@ -10,8 +10,7 @@ use Rattle.macho.specs.Types.{ARM64_RELOC_PAGEOFF12, ARM64_RELOC_GOT_LOAD_PAGEOF
 use Rattle.arm64_insn.specs.LoadStoreTable.{row_of, is_store}
 use Rattle.arm64_insn.specs.Manual.{ADRP, ADD, LDST, instruction, decode}
 use Rattle.arm64_hint_terms.specs.declared.answer.Insns.{Insns}
-use Rattle.arm64_hint_terms.specs.declared.rels.Rel.{Rel}
-use Rattle.arm64_hint_terms.specs.declared.rels.Rel.TheVariants.{Entry, Absent}
+use Rattle.macho.specs.declared.reloc.Reloc.{Reloc}
 use Rattle.arm64_hint_terms.specs.declared.rels.Rels.{Rels}
 
 -- a word of a kind: the instruction, and what it carries of a reference to v, or to v's GOT slot
@@ -110,24 +109,24 @@ AreWords (k ∷ ks) [] = ⊥
 AreWords (k ∷ ks) (w ∷ ws) = (IsWord k w ⊎ IsInstead k w) × AreWords ks ws
 
 -- an entry of a type
-abbrev pub HasType : ℕ → Rel → Type 0
-HasType ty Absent = ⊥
-HasType ty (Entry e) = e.ty ≡ ty
+abbrev pub HasType : ℕ → Option Reloc → Type 0
+HasType ty None = ⊥
+HasType ty (Some e) = e.ty ≡ ty
 
 -- an entry is what its word carries: LLVM's @PAGE is a PAGE21, @PAGEOFF a PAGEOFF12, @GOTPAGE a GOT_LOAD_PAGE21, @GOTPAGEOFF a GOT_LOAD_PAGEOFF12;
 -- a bare Ldr or Str has no entry
-abbrev pub IsCarried : Word → Rel → Type 0
+abbrev pub IsCarried : Word → Option Reloc → Type 0
 IsCarried Adrp-Page r = HasType ARM64_RELOC_PAGE21 r
 IsCarried Adrp-GotPage r = HasType ARM64_RELOC_GOT_LOAD_PAGE21 r
 IsCarried Add-PageOff r = HasType ARM64_RELOC_PAGEOFF12 r
 IsCarried Ldr-PageOff r = HasType ARM64_RELOC_PAGEOFF12 r
 IsCarried Ldr-GotPageOff r = HasType ARM64_RELOC_GOT_LOAD_PAGEOFF12 r
-IsCarried Ldr r = r ≡ Absent
-IsCarried Str r = r ≡ Absent
+IsCarried Ldr r = r ≡ None
+IsCarried Str r = r ≡ None
 
 -- an entry is what may be carried instead (RULES 8.4): for a half of v's own address that of v's GOT slot or of its thread-local slot, for a half of
 -- the GOT slot's that of the thread-local slot
-abbrev pub IsTakenFor : Word → Rel → Type 0
+abbrev pub IsTakenFor : Word → Option Reloc → Type 0
 IsTakenFor Adrp-Page r = HasType ARM64_RELOC_GOT_LOAD_PAGE21 r ⊎ HasType ARM64_RELOC_TLVP_LOAD_PAGE21 r
 IsTakenFor Adrp-GotPage r = HasType ARM64_RELOC_TLVP_LOAD_PAGE21 r
 IsTakenFor Add-PageOff r = HasType ARM64_RELOC_GOT_LOAD_PAGEOFF12 r ⊎ HasType ARM64_RELOC_TLVP_LOAD_PAGEOFF12 r
@@ -137,16 +136,16 @@ IsTakenFor Ldr r = ⊥
 IsTakenFor Str r = ⊥
 
 -- entries are what a kind's words carry, or what may be carried instead: each word by itself, so that the two halves may be mixed
-abbrev pub AreCarried : List Word → List Rel → Type 0
+abbrev pub AreCarried : List Word → List (Option Reloc) → Type 0
 AreCarried [] rs = Unit {0}
 AreCarried (k ∷ ks) [] = ⊥
 AreCarried (k ∷ ks) (r ∷ rs) = (IsCarried k r ⊎ IsTakenFor k r) × AreCarried ks rs
 
 -- two entries are of one v: one target and one addend
-abbrev pub OneV : Rel → Rel → Type 0
-OneV Absent _ = ⊥
-OneV (Entry a) Absent = ⊥
-OneV (Entry a) (Entry b) = (a.target ≡ b.target) × (a.addend ≡ b.addend)
+abbrev pub OneV : Option Reloc → Option Reloc → Type 0
+OneV None _ = ⊥
+OneV (Some a) None = ⊥
+OneV (Some a) (Some b) = (a.target ≡ b.target) × (a.addend ≡ b.addend)
 
 -- the entries of a hint refer to what its kind says: AdrpAdrp names v1 and v2, which may be any two, each other kind one v
 pub record Refers (n : ℕ) (r : Rels) : Type 0 where

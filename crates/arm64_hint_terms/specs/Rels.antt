@@ -1,43 +1,41 @@
 -- What the entries of a hint's places say (arch/arm64.rs, `is_page_rel`, `is_pageoff_rel` and `has_page_pair`; RULES 8.7 to 8.9).
-use Rattle.std.specs.Prelude.{ℕ, ◌*◌, Bool, true, false, ◌&&◌, ◌||◌, not, List, eqb, ltb}
+use Rattle.std.specs.Prelude.{ℕ, ◌*◌, Bool, true, false, ◌&&◌, ◌||◌, not, List, eqb, ltb, Option, Some, None}
 use Rattle.util.specs.Choice.{choose}
 use Rattle.macho.specs.Reloc.{reloc_size, reloc_at}
 use Rattle.macho.specs.Types.{ARM64_RELOC_PAGE21, ARM64_RELOC_GOT_LOAD_PAGE21, ARM64_RELOC_TLVP_LOAD_PAGE21}
 use Rattle.macho.specs.Types.{ARM64_RELOC_PAGEOFF12, ARM64_RELOC_GOT_LOAD_PAGEOFF12, ARM64_RELOC_TLVP_LOAD_PAGEOFF12}
 use Rattle.macho.specs.Hint.{no_entry}
-use Rattle.arm64_hint_terms.specs.declared.rels.Rel.{Rel}
-use Rattle.arm64_hint_terms.specs.declared.rels.Rel.TheVariants.{Entry, Absent}
+use Rattle.macho.specs.declared.reloc.Reloc.{Reloc}
 use Rattle.arm64_hint_terms.specs.declared.rels.Rels.{Rels}
 
 -- the entry that a number names in a list of entries; no_entry names none
-unfoldable pub rel_at : List ℕ → ℕ → Rel
-rel_at entries number = choose (eqb number no_entry) Absent (Entry (reloc_at entries (reloc_size * number)))
+unfoldable pub rel_at : List ℕ → ℕ → Option Reloc
+rel_at entries number = choose (eqb number no_entry) None (Some (reloc_at entries (reloc_size * number)))
+
+-- whether an entry is a half of a reference, by the types of that half: plain, by a GOT slot, and by a thread-local slot; with got, a plain one is not
+abbrev pub is_half : Option Reloc → Bool → ℕ → ℕ → ℕ → Bool
+is_half None got plain got_slot tlv_slot = false
+is_half (Some r) got plain got_slot tlv_slot = choose (eqb r.ty plain) (not got) (eqb r.ty got_slot || eqb r.ty tlv_slot)
 
 -- whether an entry is the page half of a reference; with got, of a reference to a GOT slot or one relaxed from it
-unfoldable pub is_page_rel : Rel → Bool → Bool
-is_page_rel Absent got = false
-is_page_rel (Entry r) got =
-    choose (eqb r.ty ARM64_RELOC_PAGE21) (not got)
-    (eqb r.ty ARM64_RELOC_GOT_LOAD_PAGE21 || eqb r.ty ARM64_RELOC_TLVP_LOAD_PAGE21)
+unfoldable pub is_page_rel : Option Reloc → Bool → Bool
+is_page_rel rel got = is_half rel got ARM64_RELOC_PAGE21 ARM64_RELOC_GOT_LOAD_PAGE21 ARM64_RELOC_TLVP_LOAD_PAGE21
 
 -- the same for the page-offset half
-unfoldable pub is_pageoff_rel : Rel → Bool → Bool
-is_pageoff_rel Absent got = false
-is_pageoff_rel (Entry r) got =
-    choose (eqb r.ty ARM64_RELOC_PAGEOFF12) (not got)
-    (eqb r.ty ARM64_RELOC_GOT_LOAD_PAGEOFF12 || eqb r.ty ARM64_RELOC_TLVP_LOAD_PAGEOFF12)
+unfoldable pub is_pageoff_rel : Option Reloc → Bool → Bool
+is_pageoff_rel rel got = is_half rel got ARM64_RELOC_PAGEOFF12 ARM64_RELOC_GOT_LOAD_PAGEOFF12 ARM64_RELOC_TLVP_LOAD_PAGEOFF12
 
 -- whether two places have equal targets and addends, or neither has an entry
-unfoldable pub same_reference : Rel → Rel → Bool
-same_reference Absent Absent = true
-same_reference Absent (Entry b) = false
-same_reference (Entry a) Absent = false
-same_reference (Entry a) (Entry b) = eqb a.target b.target && eqb a.addend b.addend
+unfoldable pub same_reference : Option Reloc → Option Reloc → Bool
+same_reference None None = true
+same_reference None (Some b) = false
+same_reference (Some a) None = false
+same_reference (Some a) (Some b) = eqb a.target b.target && eqb a.addend b.addend
 
 -- whether a place has no entry
-unfoldable pub is_absent : Rel → Bool
-is_absent Absent = true
-is_absent (Entry r) = false
+unfoldable pub is_absent : Option Reloc → Bool
+is_absent None = true
+is_absent (Some r) = false
 
 -- the two halves of one reference on the first two of n words, and no entry on a third
 unfoldable pub has_page_pair : Rels → ℕ → Bool → Bool

@@ -3,16 +3,16 @@ ghost use Rattle.std.specs.Prelude.{◌≡◌, ◌<◌};
 ghost use Rattle.arm64_insn.specs.Literal.{Rebased};
 ghost use Rattle.arm64_hint_terms.specs.Plans.{rewritten, dropped, literal_second, literal_third, adr_first, adr_third, folded};
 
-use crate::answer::{Decision, Insns, NewWord, Plan, Rewrite};
+use crate::answer::{Decision, Insns, Plan, Rewrite};
 use arm64_insn::adrp::adr;
 use arm64_insn::fix::NOP;
 use arm64_insn::ldst::LoadStore;
 
 // A rewrite with what it writes at each place.
-fn rewritten(rewrite: Rewrite, w0: NewWord, w1: NewWord, w2: NewWord) -> Decision
+fn rewritten(rewrite: Rewrite, w0: Option<u32>, w1: Option<u32>, w2: Option<u32>) -> Decision
     ensures { result ≡ rewritten rewrite w0 w1 w2 }
 {
-    Decision::Rewritten(Plan {
+    Ok(Plan {
         rewrite,
         w0,
         w1,
@@ -24,12 +24,7 @@ fn rewritten(rewrite: Rewrite, w0: NewWord, w1: NewWord, w2: NewWord) -> Decisio
 pub fn drop_second() -> Decision
     ensures { result ≡ dropped }
 {
-    rewritten(
-        Rewrite::Drop,
-        NewWord::Keep,
-        NewWord::Set(NOP),
-        NewWord::Keep,
-    )
+    rewritten(Rewrite::Drop, None, Some(NOP), None)
 }
 
 // The second word as a literal load of target.
@@ -38,12 +33,7 @@ pub fn literal_second(rewrite: Rewrite, s: Insns, ld: LoadStore, target: u64) ->
     ensures { result ≡ literal_second rewrite s ld target }
 {
     let word = ld.to_literal(target, s.p1);
-    rewritten(
-        rewrite,
-        NewWord::Set(NOP),
-        NewWord::Set(word),
-        NewWord::Keep,
-    )
+    rewritten(rewrite, Some(NOP), Some(word), None)
 }
 
 // The third word as a literal load of target.
@@ -52,12 +42,7 @@ pub fn literal_third(s: Insns, ld: LoadStore, target: u64) -> Decision
     ensures { result ≡ literal_third s ld target }
 {
     let word = ld.to_literal(target, s.p2);
-    rewritten(
-        Rewrite::Literal,
-        NewWord::Set(NOP),
-        NewWord::Set(NOP),
-        NewWord::Set(word),
-    )
+    rewritten(Rewrite::Literal, Some(NOP), Some(NOP), Some(word))
 }
 
 // The target by an ADR into the register rd. A third word is not written.
@@ -66,12 +51,7 @@ pub fn adr_first(s: Insns, rd: u32, target: u64) -> Decision
     ensures { result ≡ adr_first s rd target }
 {
     let word = adr(rd, target, s.p0);
-    rewritten(
-        Rewrite::Adr,
-        NewWord::Set(word),
-        NewWord::Set(NOP),
-        NewWord::Keep,
-    )
+    rewritten(Rewrite::Adr, Some(word), Some(NOP), None)
 }
 
 // The target by an ADR into the base of the third word's access, which loses its offset.
@@ -81,12 +61,7 @@ pub fn adr_third(s: Insns, ls: LoadStore, target: u64) -> Decision
 {
     let first = adr(ls.base, target, s.p0);
     let third = ls.with_base(ls.base, 0);
-    rewritten(
-        Rewrite::Adr,
-        NewWord::Set(first),
-        NewWord::Set(NOP),
-        NewWord::Set(third),
-    )
+    rewritten(Rewrite::Adr, Some(first), Some(NOP), Some(third))
 }
 
 // The ADD dropped, and the access through the register rn at the offset.
@@ -95,10 +70,5 @@ pub fn fold(ls: LoadStore, rn: u32, offset: u64) -> Decision
     ensures { result ≡ folded ls rn offset }
 {
     let word = ls.with_base(rn, offset);
-    rewritten(
-        Rewrite::Fold,
-        NewWord::Keep,
-        NewWord::Set(NOP),
-        NewWord::Set(word),
-    )
+    rewritten(Rewrite::Fold, None, Some(NOP), Some(word))
 }

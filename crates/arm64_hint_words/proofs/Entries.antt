@@ -1,4 +1,5 @@
 -- The third place counts for a page pair only where the word count takes it in: past it, it has no entry.
+use Rattle.std.specs.Prelude.{Option, None}
 use mathlib.Core.Path.{◌≡◌, refl, ap}
 use mathlib.Core.Bool.{Bool, true, false, ◌&&◌, ◌||◌}
 use mathlib.Core.List.{List}
@@ -11,17 +12,16 @@ use Rattle.util.specs.Choice.{choose}
 use Rattle.macho.specs.Hint.{no_entry}
 use Rattle.macho.specs.declared.hint.HintInsn.{HintInsn}
 use Rattle.arm64_hint_terms.specs.Rels.{rel_at, is_page_rel, is_pageoff_rel, same_reference, is_absent, has_page_pair}
-use Rattle.arm64_hint_terms.specs.declared.rels.Rel.{Rel}
-use Rattle.arm64_hint_terms.specs.declared.rels.Rel.TheVariants.{Absent}
+use Rattle.macho.specs.declared.reloc.Reloc.{Reloc}
 use Rattle.arm64_hint_words.specs.Entry.{number_at, rels_in}
 use Rattle.arm64_hint_words.proofs.First.{first_past}
 
 -- no entry past the word count
-pub rel-past : (entries : List ℕ) (insns : List HintInsn) (n i : ℕ) → n ≤ i → rel_at entries (number_at (take n insns) i) ≡ Absent
+pub rel-past : (entries : List ℕ) (insns : List HintInsn) (n i : ℕ) → n ≤ i → rel_at entries (number_at (take n insns) i) ≡ None
 unfolding rel_at choose
 rel-past entries insns n i h = ap (rel_at entries) (first_past (λ i. i.rel) no_entry insns n i h)
 
-counted : (r : Rel) (n : ℕ) → (n < 3 → r ≡ Absent) → is_absent r ≡ (ltb n 3 || is_absent r)
+counted : (r : Option Reloc) (n : ℕ) → (n < 3 → r ≡ None) → is_absent r ≡ (ltb n 3 || is_absent r)
 unfolding is_absent
 counted r n past = go (ltb n 3) refl
   where
@@ -34,7 +34,7 @@ pub page-pair-count : (entries : List ℕ) (insns : List HintInsn) (n : ℕ) (go
     → has_page_pair (rels_in entries (take n insns)) 3 got ≡ has_page_pair (rels_in entries (take n insns)) n got
 unfolding has_page_pair
 page-pair-count entries insns n got =
-    let r0 : Rel = rel_at entries (number_at (take n insns) 0) in
-    let r1 : Rel = rel_at entries (number_at (take n insns) 1) in
+    let r0 : Option Reloc = rel_at entries (number_at (take n insns) 0) in
+    let r1 : Option Reloc = rel_at entries (number_at (take n insns) 1) in
     ap (λ (b : Bool). is_page_rel r0 got && is_pageoff_rel r1 got && same_reference r0 r1 && b)
     (counted (rel_at entries (number_at (take n insns) 2)) n (λ h. rel-past entries insns n 2 (omega arith)))

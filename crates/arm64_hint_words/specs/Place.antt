@@ -1,15 +1,12 @@
 -- The words of a hint in the bytes of its section (arch/arm64.rs, `Hint::get`, `Hint::set` and `Hint::addr`; RULES 8.6, 8.10, 8.11).
 -- A place past the word count is not looked at (RULES 3.17): it reads as 0, and nothing is stored there.
-use Rattle.std.specs.Prelude.{ℕ, ◌+◌, ◌≤◌, ◌<◌, List, map, ltb, length, get_or, take}
-use Rattle.std.proofs.Math.Option.{Option, none, some}
+use Rattle.std.specs.Prelude.{ℕ, ◌+◌, ◌≤◌, ◌<◌, List, map, ltb, length, get_or, take, Some, None, Option}
 use Rattle.util.specs.Choice.{choose}
 use Rattle.util.specs.Word.{put}
 use Rattle.util.specs.All.{All}
 use Rattle.macho.specs.declared.hint.HintInsn.{HintInsn}
 use Rattle.image.specs.Words.{words_at}
 use Rattle.arm64_hint_terms.specs.declared.answer.Insns.{Insns}
-use Rattle.arm64_hint_terms.specs.declared.answer.NewWord.{NewWord}
-use Rattle.arm64_hint_terms.specs.declared.answer.NewWord.TheVariants.{Keep, Set}
 
 -- ---- places in a list
 
@@ -37,11 +34,6 @@ insns_with insns words =
 abbrev pub insns_read : List ℕ → List HintInsn → Insns
 insns_read bytes insns = insns_with insns (words_at (offsets insns) bytes)
 
--- a place's new word
-abbrev pub new_of : NewWord → Option ℕ
-new_of Keep = none
-new_of (Set word) = some word
-
 -- the words of the places lie in len bytes
 abbrev pub InBytes : ℕ → List HintInsn → Type 0
 InBytes len insns = All (λ at. at + 4 ≤ len) (offsets insns)
@@ -61,9 +53,9 @@ abbrev pub place_at : List HintInsn → ℕ → HintInsn
 place_at insns i = get_or insns i (record { off = 0; rel = 0; addr = 0 })
 
 -- the bytes with a new word at place i, where there is one
-abbrev pub set_in : List ℕ → List HintInsn → ℕ → ℕ → NewWord → List ℕ
-set_in bytes insns n i Keep = bytes
-set_in bytes insns n i (Set word) = choose (ltb i n) (put 4 bytes (place_at insns i).off word) bytes
+abbrev pub set_in : List ℕ → List HintInsn → ℕ → ℕ → Option ℕ → List ℕ
+set_in bytes insns n i None = bytes
+set_in bytes insns n i (Some word) = choose (ltb i n) (put 4 bytes (place_at insns i).off word) bytes
 
 -- place i is one of the three, and its word lies in the bytes, unless it is past the word count
 pub record Fits (bytes : List ℕ) (insns : List HintInsn) (n i : ℕ) : Type 0 where

@@ -1,14 +1,14 @@
-// The Rust's `Hint`: a borrow of a section's bytes, three places in them, and the word count. Its methods are thin: they take the struct apart.
-// `get`, `addr` and `has_page_pair` take `&mut self`, since nothing reads through a `&` to a struct that holds a `&mut`.
+// The Rust's `Hint`: a borrow of a section's bytes, three places in them, and the word count. A place past the word count is not looked at.
 ghost use Rattle.std.specs.Prelude.{◌≡◌, ◌<◌, length, take};
 ghost use Rattle.arm64_hint_terms.specs.Rels.{has_page_pair};
 ghost use Rattle.arm64_hint_words.specs.Place.{word_in, set_in, addr_in, Fits};
 ghost use Rattle.arm64_hint_words.specs.Entry.{rels_in, InEntries};
 ghost use Rattle.arm64_hint_words.specs.Held.{holding};
 
-use crate::place::{addr_in, get_in, page_pair_in, set_in};
-use arm64_hint_terms::answer::NewWord;
+use crate::place::rels_in;
+use arm64_hint_terms::rels::has_page_pair;
 use macho::hint::HintInsn;
+use util::{read32, write32};
 
 // A hint's instructions, in their section's bytes.
 #[derive(Drop)]
@@ -19,46 +19,47 @@ pub struct Hint<'a> {
 }
 
 impl<'a> Hint<'a> {
-    // The word of place i. The hint stays as it is.
-    pub fn get<'s>(&'s mut self, i: usize) -> u32
-        requires { Fits self.old.buf.now self.old.insns self.old.n i }
-        ensures { (result ≡ word_in self.old.buf.now self.old.insns self.old.n i)
-            × (self.new ≡ self.old) }
+    // The word of place i.
+    pub fn get(&self, i: usize) -> u32
+        requires { Fits self.now.buf.now self.now.insns self.now.n i }
+        ensures { result ≡ word_in self.now.buf.now self.now.insns self.now.n i }
     {
-        let insns = self.insns;
-        let n = self.n;
-        get_in(&mut *self.buf, insns, n, i)
+        if i < self.n {
+            read32(self.buf, self.insns[i].off as usize)
+        } else {
+            0
+        }
     }
 
     // Stores a new word at place i. Nothing else changes.
-    pub fn set<'s>(&'s mut self, i: usize, w: NewWord)
+    pub fn set(&mut self, i: usize, w: Option<u32>)
         requires { Fits self.old.buf.now self.old.insns self.old.n i }
         ensures { self.new ≡ holding self.old
             (set_in self.old.buf.now self.old.insns self.old.n i w) }
     {
-        let insns = self.insns;
-        let n = self.n;
-        set_in(&mut *self.buf, insns, n, i, w);
+        let Some(word) = w else {
+            return;
+        };
+        if i < self.n {
+            write32(self.buf, self.insns[i].off as usize, word);
+        }
     }
 
-    // The address of the word of place i. The hint stays as it is.
-    pub fn addr<'s>(&'s mut self, i: usize) -> u64
+    // The address of the word of place i.
+    pub fn addr(&self, i: usize) -> u64
         requires { i < 3 }
-        ensures { (result ≡ addr_in self.old.insns self.old.n i) × (self.new ≡ self.old) }
+        ensures { result ≡ addr_in self.now.insns self.now.n i }
     {
-        let insns = self.insns;
-        let n = self.n;
-        addr_in(insns, n, i)
+        if i < self.n { self.insns[i].addr } else { 0 }
     }
 
-    // Whether the first two words carry the halves of one reference, and a third carries no entry. The hint stays as it is.
-    pub fn has_page_pair<'s, 'e>(&'s mut self, entries: &'e [u8], got: bool) -> bool
-        requires { InEntries (length entries.now) (take self.old.n self.old.insns) }
-        ensures { (result ≡ has_page_pair (rels_in entries.now (take self.old.n self.old.insns))
-            self.old.n got) × (self.new ≡ self.old) }
+    // Whether the first two words carry the halves of one reference, and a third carries no entry.
+    pub fn has_page_pair(&self, entries: &[u8], got: bool) -> bool
+        requires { InEntries (length entries.now) (take self.now.n self.now.insns) }
+        ensures { result ≡ has_page_pair (rels_in entries.now (take self.now.n self.now.insns))
+            self.now.n got }
     {
-        let insns = self.insns;
-        let n = self.n;
-        page_pair_in(entries, insns, n, got)
+        // all three places are asked: one past the word count has no entry
+        has_page_pair(rels_in(entries, self.insns, self.n), 3, got)
     }
 }

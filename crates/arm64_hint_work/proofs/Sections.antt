@@ -1,7 +1,7 @@
 -- A hint's words in its part are words of the image. Carried by the laws of parts, word by word.
 use mathlib.Core.Path.{◌≡◌, refl, ap, ap₂, ◌∙◌}
 use mathlib.Core.List.{List, [], ◌∷◌, map}
-use mathlib.Core.Option.{Option, none, some}
+use Rattle.std.specs.Prelude.{Option, Some, None}
 use Prim.Native.Nat.{ℕ, ◌+◌, ◌≤◌}
 use native.Mathlib.Omega.{arith}
 use lib.ListN.{length}
@@ -24,8 +24,8 @@ module _ (image : List ℕ) (a k : ℕ) where
       → splice image a k (put_words offs news ys) ≡ put_words (map (λ at. a + at) offs) news (splice image a k ys)
   puts-splice l empty news ys e = refl
   puts-splice l (more h rest) [] ys e = refl
-  puts-splice l (more h rest) (none ∷ news) ys e = puts-splice l rest news ys e
-  puts-splice l (more {k = at} {l = offs} h rest) (some w ∷ news) ys e =
+  puts-splice l (more h rest) (None ∷ news) ys e = puts-splice l rest news ys e
+  puts-splice l (more {k = at} {l = offs} h rest) (Some w ∷ news) ys e =
       puts-splice l rest news (put 4 ys at w) (length-put 4 ys at w ∙ e)
       ∙ ap (put_words (map (λ at. a + at) offs) news) (splice-put 4 image a k ys at w l (omega arith))
 

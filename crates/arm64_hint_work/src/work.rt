@@ -1,8 +1,7 @@
 // The work of one hint.
-ghost use Rattle.std.specs.Prelude.{◌≡◌, ◌/◌, ◌<◌, length};
+ghost use Rattle.std.specs.Prelude.{◌≡◌, ◌/◌, ◌<◌, length, Ok};
 ghost use Rattle.macho.specs.Hint.{hint_count, hint_of};
 ghost use Rattle.macho.specs.Reloc.{reloc_size};
-ghost use Rattle.macho.specs.declared.refusal.Check.TheVariants.{Fit};
 ghost use Rattle.image.specs.Steps.{answered, written};
 ghost use Rattle.arm64_hint_places.specs.Hint.{Inside};
 ghost use Rattle.arm64_hint_check.specs.Check.{check_hint};
@@ -10,10 +9,10 @@ ghost use Rattle.arm64_hint_rules.specs.Rule.{ruled_in, section_after};
 ghost use Rattle.arm64_hint_work.specs.Step.{steps_of};
 
 use arm64_hint_places::{is_skipped, rels_of};
-use arm64_hint_rules::loh::{
-    loh_adrp_add, loh_adrp_add_ldr, loh_adrp_add_str, loh_adrp_adrp, loh_adrp_ldr,
-    loh_adrp_ldr_got, loh_adrp_ldr_got_ldr, loh_adrp_ldr_got_str,
+use arm64_hint_rules::decide::{
+    AdrpAdd, AdrpAddLdr, AdrpAddStr, AdrpAdrp, AdrpLdr, AdrpLdrGot, AdrpLdrGotLdr, AdrpLdrGotStr,
 };
+use arm64_hint_rules::loh::loh;
 use arm64_hint_rules::outcome::HintOutcome;
 use arm64_hint_terms::rels::Rels;
 use macho::consts;
@@ -25,29 +24,28 @@ fn apply(section: &mut [u8], h: HintRecord, r: Rels) -> HintOutcome
     ensures outcome { result ≡ ruled_in h.kind h r section.old }
     ensures section { section.new ≡ section_after h.kind h r section.old }
 {
-    let kind = h.kind;
-    match kind {
-        consts::LOH_ARM64_ADRP_ADRP => loh_adrp_adrp(section, h, r),
-        consts::LOH_ARM64_ADRP_LDR => loh_adrp_ldr(section, h, r),
-        consts::LOH_ARM64_ADRP_ADD_LDR => loh_adrp_add_ldr(section, h, r),
-        consts::LOH_ARM64_ADRP_LDR_GOT_LDR => loh_adrp_ldr_got_ldr(section, h, r),
-        consts::LOH_ARM64_ADRP_ADD_STR => loh_adrp_add_str(section, h, r),
-        consts::LOH_ARM64_ADRP_LDR_GOT_STR => loh_adrp_ldr_got_str(section, h, r),
-        consts::LOH_ARM64_ADRP_ADD => loh_adrp_add(section, h, r),
-        consts::LOH_ARM64_ADRP_LDR_GOT => loh_adrp_ldr_got(section, h, r),
-        _ => HintOutcome::Skipped,
+    match h.kind {
+        consts::LOH_ARM64_ADRP_ADRP => loh::<AdrpAdrp>(section, h, r),
+        consts::LOH_ARM64_ADRP_LDR => loh::<AdrpLdr>(section, h, r),
+        consts::LOH_ARM64_ADRP_ADD_LDR => loh::<AdrpAddLdr>(section, h, r),
+        consts::LOH_ARM64_ADRP_LDR_GOT_LDR => loh::<AdrpLdrGotLdr>(section, h, r),
+        consts::LOH_ARM64_ADRP_ADD_STR => loh::<AdrpAddStr>(section, h, r),
+        consts::LOH_ARM64_ADRP_LDR_GOT_STR => loh::<AdrpLdrGotStr>(section, h, r),
+        consts::LOH_ARM64_ADRP_ADD => loh::<AdrpAdd>(section, h, r),
+        consts::LOH_ARM64_ADRP_LDR_GOT => loh::<AdrpLdrGot>(section, h, r),
+        _ => None,
     }
 }
 
 // Works hint k on the image: lends its part to the rule of its kind.
 pub fn work(image: &mut [u8], hints: &[u8], entries: &[u8], k: usize) -> HintOutcome
-    requires { (k < hint_count hints.now) × (check_hint (length image.old) (length entries.now / reloc_size) (hint_of hints.now k) ≡ Fit) }
+    requires { (k < hint_count hints.now) × (check_hint (length image.old) (length entries.now / reloc_size) (hint_of hints.now k) ≡ Ok tt) }
     ensures outcome { result ≡ answered (steps_of hints.now entries.now) k image.old }
     ensures image { image.new ≡ written (steps_of hints.now entries.now) k image.old }
 {
     let h = HintRecord::read(hints, HintRecord::SIZE * k);
     if is_skipped(h) {
-        return HintOutcome::Skipped;
+        return None;
     }
     let r = rels_of(entries, h);
     let start = h.start as usize;

@@ -1,4 +1,5 @@
 -- What holds of every decoded word, for those who make other words of it.
+use Rattle.std.specs.Prelude.{Option, Some, None}
 use mathlib.Core.Path.{◌≡◌, refl, subst}
 use mathlib.Core.Bool.{Bool, true, ◌&&◌, ◌||◌, not}
 use Prim.Native.Nat.{ℕ, ◌*◌, ◌^◌, ◌≤◌, ◌<◌}
@@ -17,11 +18,11 @@ use Rattle.arm64_insn.specs.Manual.{rd_in, rn_in, imm12_in, size_in, v_in, opc_i
 use Rattle.arm64_insn.specs.LoadStore.{load_store_from, load_store_of}
 use Rattle.arm64_insn.specs.Literal.{literal_opc, literal_v}
 use Rattle.arm64_insn.specs.declared.adrp.Adrp as A
-use Rattle.arm64_insn.specs.declared.adrp.AdrpWord.{AdrpWord}
+use Rattle.arm64_insn.specs.declared.adrp.Adrp.{Adrp}
+use Rattle.arm64_insn.specs.declared.add.Add.{Add}
+use Rattle.arm64_insn.specs.declared.ldst.LoadStore.{LoadStore}
 use Rattle.arm64_insn.specs.declared.add.Add as D
-use Rattle.arm64_insn.specs.declared.add.AddWord.{AddWord}
 use Rattle.arm64_insn.specs.declared.ldst.LoadStore as L
-use Rattle.arm64_insn.specs.declared.ldst.LoadStoreWord.{LoadStoreWord}
 use Rattle.arm64_insn.proofs.Cells.{each-cell}
 
 -- an ADRP names a register, and its immediate has 21 bits
@@ -29,15 +30,15 @@ pub record DecodedAdrp (a : A.Adrp) : Type 0 where
   pub register : a.rd < 32
   pub immediate : a.imm < 2 ^ 21
 
-abbrev HoldsAdrp : AdrpWord → Type 0
-HoldsAdrp (AdrpWord.Adrp a) = DecodedAdrp a
-HoldsAdrp AdrpWord.Other = Unit {0}
+abbrev HoldsAdrp : Option Adrp → Type 0
+HoldsAdrp (Some a) = DecodedAdrp a
+HoldsAdrp None = Unit {0}
 
-pub decoded-adrp : (x : ℕ) (a : A.Adrp) → adrp_of x ≡ AdrpWord.Adrp a → DecodedAdrp a
+pub decoded-adrp : (x : ℕ) (a : A.Adrp) → adrp_of x ≡ Some a → DecodedAdrp a
 unfolding adrp_of
 decoded-adrp x a e =
     subst HoldsAdrp e
-    (chosen HoldsAdrp (matches adrp x) _ AdrpWord.Other (record { register = omega arith; immediate = omega arith }) tt)
+    (chosen HoldsAdrp (matches adrp x) _ None (record { register = omega arith; immediate = omega arith }) tt)
 
 -- an ADD names registers, and its immediate has 12 bits
 pub record DecodedAdd (a : D.Add) : Type 0 where
@@ -45,15 +46,15 @@ pub record DecodedAdd (a : D.Add) : Type 0 where
   pub source : a.rn < 32
   pub immediate : a.imm < 4096
 
-abbrev HoldsAdd : AddWord → Type 0
-HoldsAdd (AddWord.Add a) = DecodedAdd a
-HoldsAdd AddWord.Other = Unit {0}
+abbrev HoldsAdd : Option Add → Type 0
+HoldsAdd (Some a) = DecodedAdd a
+HoldsAdd None = Unit {0}
 
-pub decoded-add : (x : ℕ) (a : D.Add) → add_of x ≡ AddWord.Add a → DecodedAdd a
+pub decoded-add : (x : ℕ) (a : D.Add) → add_of x ≡ Some a → DecodedAdd a
 unfolding add_of
 decoded-add x a e =
     subst HoldsAdd e
-    (chosen HoldsAdd (matches add x) _ AddWord.Other (record { register = omega arith; source = omega arith; immediate = omega arith }) tt)
+    (chosen HoldsAdd (matches add x) _ None (record { register = omega arith; source = omega arith; immediate = omega arith }) tt)
 
 -- a row that moves moves 1 to 16 bytes
 row_small : (size v opc : ℕ) → size < 4 → v < 2 → opc < 4 → moves (row_of size v opc) ≡ true
@@ -75,14 +76,14 @@ pub record DecodedLoadStore (x : ℕ) (l : L.LoadStore) : Type 0 where
   pub room : imm < 4096
   pub scaled : l.offset ≡ imm * l.size
 
-abbrev Holds : ℕ → LoadStoreWord → Type 0
-Holds x (LoadStoreWord.LoadStore l) = DecodedLoadStore x l
-Holds x LoadStoreWord.Other = Unit {0}
+abbrev Holds : ℕ → Option LoadStore → Type 0
+Holds x (Some l) = DecodedLoadStore x l
+Holds x None = Unit {0}
 
-pub decoded-load-store : (x : ℕ) (l : L.LoadStore) → load_store_of x ≡ LoadStoreWord.LoadStore l → DecodedLoadStore x l
+pub decoded-load-store : (x : ℕ) (l : L.LoadStore) → load_store_of x ≡ Some l → DecodedLoadStore x l
 unfolding load_store_of
 decoded-load-store x l e =
-    subst (Holds x) e (chosen (Holds x) (matches load_store x) _ LoadStoreWord.Other (split (Holds x) (moves (row_in x)) _ LoadStoreWord.Other held (λ _. tt)) tt)
+    subst (Holds x) e (chosen (Holds x) (matches load_store x) _ None (split (Holds x) (moves (row_in x)) _ None held (λ _. tt)) tt)
   where
     held : moves (row_in x) ≡ true → DecodedLoadStore x (load_store_from x (v_in x) (rd_in x) (rn_in x) (imm12_in x) (row_in x))
     held m =

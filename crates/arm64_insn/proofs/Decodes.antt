@@ -1,5 +1,6 @@
 -- The decoders (RULES 1.6, 7.16 to 7.20): what each decoder and each test of a word answers, against the manual's instruction of the word. A diagram that
 -- asks more than a class's says which fields it fixes besides; the rest is the class's.
+use Rattle.std.specs.Prelude.{Option, Some, None}
 use mathlib.Core.Path.{◌≡◌, refl, sym, ap, ◌∙◌}
 use mathlib.Core.Bool.{Bool, true, false, ◌&&◌, ◌||◌, not, false≢true}
 use mathlib.Core.List.{[], ◌∷◌}
@@ -23,39 +24,39 @@ use Rattle.arm64_insn.specs.Add.{add_of}
 use Rattle.arm64_insn.specs.LoadStore.{load_store_from, load_store_by, load_store_of, load_store_in}
 use Rattle.arm64_insn.specs.Fix.{scale_of, quad}
 use Rattle.arm64_insn.specs.declared.adrp.Adrp as A
-use Rattle.arm64_insn.specs.declared.adrp.AdrpWord.{AdrpWord}
+use Rattle.arm64_insn.specs.declared.adrp.Adrp.{Adrp}
+use Rattle.arm64_insn.specs.declared.add.Add.{Add}
+use Rattle.arm64_insn.specs.declared.ldst.LoadStore.{LoadStore}
 use Rattle.arm64_insn.specs.declared.add.Add as D
-use Rattle.arm64_insn.specs.declared.add.AddWord.{AddWord}
 use Rattle.arm64_insn.specs.declared.ldst.LoadStore as L
-use Rattle.arm64_insn.specs.declared.ldst.LoadStoreWord.{LoadStoreWord}
 use Rattle.arm64_insn.proofs.Cells.{each-cell, opc-high}
 use Rattle.arm64_insn.proofs.Manual.{decode-has, has-decode, encode-decode, decode-in-range, decode-allocated}
 use Rattle.arm64_insn.proofs.ManualClasses.{by-class}
 
 -- `Adrp::decode` answers the manual's ADRP, and nothing else
-pub adrp-decodes : (w : ℕ) (a : A.Adrp) → adrp_of w ≡ AdrpWord.Adrp a → decode w ≡ instruction (ADRP a.rd a.imm)
+pub adrp-decodes : (w : ℕ) (a : A.Adrp) → adrp_of w ≡ Some a → decode w ≡ instruction (ADRP a.rd a.imm)
 unfolding adrp_of
 adrp-decodes w a e =
-    let q = choose-first (matches adrp w) _ AdrpWord.Other (AdrpWord.Adrp a) e (λ f. let z : ◌≡◌ {A = ℕ} 0 1 = cc in omega arith) in
+    let q = choose-first (matches adrp w) _ None (Some a) e (λ f. let z : ◌≡◌ {A = ℕ} 0 1 = cc in omega arith) in
     by-class w 1 (lit< tt) q.0 ∙ cc q.1
 
-pub decodes-adrp : (w rd imm : ℕ) → decode w ≡ instruction (ADRP rd imm) → adrp_of w ≡ AdrpWord.Adrp (record { rd = rd; imm = imm })
+pub decodes-adrp : (w rd imm : ℕ) → decode w ≡ instruction (ADRP rd imm) → adrp_of w ≡ Some (record { rd = rd; imm = imm })
 unfolding adrp_of
 decodes-adrp w rd imm e =
     let m = (decode-has w (ADRP rd imm) e).matched in
     choose-true (matches adrp w) _ _ m ∙ cc (by-class w 1 (lit< tt) m, e)
 
 -- `Add::decode` answers the manual's ADD of 64 bits with an unshifted immediate, and nothing else
-pub add-decodes : (w : ℕ) (a : D.Add) → add_of w ≡ AddWord.Add a → decode w ≡ instruction (ADD 1 0 a.rd a.rn a.imm)
+pub add-decodes : (w : ℕ) (a : D.Add) → add_of w ≡ Some a → decode w ≡ instruction (ADD 1 0 a.rd a.rn a.imm)
 unfolding add_of
 add-decodes w a e =
-    let q = choose-first (matches add w) _ AddWord.Other (AddWord.Add a) e (λ f. let z : ◌≡◌ {A = ℕ} 0 1 = cc in omega arith) in
+    let q = choose-first (matches add w) _ None (Some a) e (λ f. let z : ◌≡◌ {A = ℕ} 0 1 = cc in omega arith) in
     let m = finer add_immediate add w refl refl refl refl q.0 in
     let sf : sf_in w ≡ 1 = fixed-field add w 31 1 1 refl refl refl refl q.0 in
     let sh : sh_in w ≡ 0 = fixed-field add w 22 1 0 refl refl refl refl q.0 in
     by-class w 2 (lit< tt) m ∙ cc q.1
 
-pub decodes-add : (w rd rn imm : ℕ) → w < 2 ^ 32 → decode w ≡ instruction (ADD 1 0 rd rn imm) → add_of w ≡ AddWord.Add (record { rd = rd; rn = rn; imm = imm })
+pub decodes-add : (w rd rn imm : ℕ) → w < 2 ^ 32 → decode w ≡ instruction (ADD 1 0 rd rn imm) → add_of w ≡ Some (record { rd = rd; rn = rn; imm = imm })
 unfolding add_of
 decodes-add w rd rn imm l e =
     let h = decode-has w (ADD 1 0 rd rn imm) e in
@@ -74,13 +75,13 @@ module _ (w : ℕ) where
   -- the instruction of a row, as a load or store
   of_row : (r : Row) → row_in w ≡ r → load_store_in w (load_store_form r w) ≡ load_store_by r w
   unfolding choose
-  of_row (load m g n x) e = ap (λ (r : Row). LoadStoreWord.LoadStore (load_store_from w (v_in w) (rd_in w) (rn_in w) (imm12_in w) r)) e
-  of_row (store m g n) e = ap (λ (r : Row). LoadStoreWord.LoadStore (load_store_from w (v_in w) (rd_in w) (rn_in w) (imm12_in w) r)) e
+  of_row (load m g n x) e = ap (λ (r : Row). Some (load_store_from w (v_in w) (rd_in w) (rn_in w) (imm12_in w) r)) e
+  of_row (store m g n) e = ap (λ (r : Row). Some (load_store_from w (v_in w) (rd_in w) (rn_in w) (imm12_in w) r)) e
   of_row (prefetch m) e = refl
   of_row unallocated e = refl
 
   -- an instruction of another class is none
-  of_other : matches load_store w ≡ false → (d : M.Decoded) → decode w ≡ d → load_store_in w d ≡ LoadStoreWord.Other
+  of_other : matches load_store w ≡ false → (d : M.Decoded) → decode w ≡ d → load_store_in w d ≡ None
   of_other n M.none e = refl
   of_other n (M.instruction (M.ADR rd imm21)) e = refl
   of_other n (M.instruction (M.ADRP rd imm21)) e = refl
@@ -100,24 +101,24 @@ module _ (w : ℕ) where
   unfolding load_store_of
   load-store-manual = go (matches load_store w) refl
     where
-      go : (t : Bool) → matches load_store w ≡ t → choose (matches load_store w) (load_store_by (row_in w) w) LoadStoreWord.Other ≡ load_store_in w (decode w)
+      go : (t : Bool) → matches load_store w ≡ t → choose (matches load_store w) (load_store_by (row_in w) w) None ≡ load_store_in w (decode w)
       go true e = choose-true (matches load_store w) _ _ e ∙ sym (ap (load_store_in w) (by-class w 3 (lit< tt) e) ∙ of_row (row_in w) refl)
       go false e = choose-false (matches load_store w) _ _ e ∙ sym (of_other e (decode w) refl)
 
 -- so it answers every load and store of the manual, field by field
 pub decodes-load-store : (w size v opc rt rn imm12 : ℕ) → decode w ≡ instruction (LDST size v opc rt rn imm12)
-    → load_store_of w ≡ LoadStoreWord.LoadStore (load_store_from w v rt rn imm12 (row_of size v opc))
+    → load_store_of w ≡ Some (load_store_from w v rt rn imm12 (row_of size v opc))
 decodes-load-store w size v opc rt rn imm12 e = load-store-manual w ∙ ap (load_store_in w) e
 
 -- and nothing else: not the prefetch, no unallocated word
-pub load-store-decodes : (w : ℕ) (l : L.LoadStore) → load_store_of w ≡ LoadStoreWord.LoadStore l
+pub load-store-decodes : (w : ℕ) (l : L.LoadStore) → load_store_of w ≡ Some l
     → decode w ≡ instruction (LDST (size_in w) (v_in w) (opc_in w) l.reg l.base (imm12_in w))
 unfolding load_store_of choose
 load-store-decodes w l e =
-    let q = choose-first (matches load_store w) _ LoadStoreWord.Other (LoadStoreWord.LoadStore l) e (λ f. let z : ◌≡◌ {A = ℕ} 0 1 = cc in omega arith) in
+    let q = choose-first (matches load_store w) _ None (Some l) e (λ f. let z : ◌≡◌ {A = ℕ} 0 1 = cc in omega arith) in
     by-class w 3 (lit< tt) q.0 ∙ go (row_in w) q.1
   where
-    go : (r : Row) → load_store_by r w ≡ LoadStoreWord.LoadStore l
+    go : (r : Row) → load_store_by r w ≡ Some l
         → load_store_form r w ≡ instruction (LDST (size_in w) (v_in w) (opc_in w) l.reg l.base (imm12_in w))
     go (load m g n x) f = cc
     go (store m g n) f = cc
@@ -126,23 +127,23 @@ load-store-decodes w l e =
 
 -- no decoder takes a word that the manual leaves unallocated
 pub unallocated-none : (w : ℕ) → allocated w ≡ false
-    → (adrp_of w ≡ AdrpWord.Other) × (add_of w ≡ AddWord.Other) × (load_store_of w ≡ LoadStoreWord.Other)
+    → (adrp_of w ≡ None) × (add_of w ≡ None) × (load_store_of w ≡ None)
 unallocated-none w n = (no-adrp (adrp_of w) refl, no_add (add_of w) refl, no_access (load_store_of w) refl)
   where
     not-instruction : {A : Type 0} (i : Insn) → decode w ≡ instruction i → A
     not-instruction i e = absurd (false≢true (sym n ∙ decode-allocated w i e))
 
-    no-adrp : (x : AdrpWord) → adrp_of w ≡ x → x ≡ AdrpWord.Other
-    no-adrp AdrpWord.Other e = refl
-    no-adrp (AdrpWord.Adrp a) e = not-instruction _ (adrp-decodes w a e)
+    no-adrp : (x : Option Adrp) → adrp_of w ≡ x → x ≡ None
+    no-adrp None e = refl
+    no-adrp (Some a) e = not-instruction _ (adrp-decodes w a e)
 
-    no_add : (x : AddWord) → add_of w ≡ x → x ≡ AddWord.Other
-    no_add AddWord.Other e = refl
-    no_add (AddWord.Add d) e = not-instruction _ (add-decodes w d e)
+    no_add : (x : Option Add) → add_of w ≡ x → x ≡ None
+    no_add None e = refl
+    no_add (Some d) e = not-instruction _ (add-decodes w d e)
 
-    no_access : (x : LoadStoreWord) → load_store_of w ≡ x → x ≡ LoadStoreWord.Other
-    no_access LoadStoreWord.Other e = refl
-    no_access (LoadStoreWord.LoadStore l) e = not-instruction _ (load-store-decodes w l e)
+    no_access : (x : Option LoadStore) → load_store_of w ≡ x → x ≡ None
+    no_access None e = refl
+    no_access (Some l) e = not-instruction _ (load-store-decodes w l e)
 
 -- `is_add_either` holds of the ADDs with an unshifted immediate
 pub add-either-decodes : (w : ℕ) → matches add_unshifted w ≡ true → decode w ≡ instruction (ADD (sf_in w) 0 (rd_in w) (rn_in w) (imm12_in w))

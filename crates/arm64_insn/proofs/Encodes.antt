@@ -1,5 +1,6 @@
 -- The encoders (RULES 1.6, 7.22 to 7.31): each word that is made is the manual's encoding of the instruction meant, and each word that is patched is the
 -- old instruction with one field replaced. A word that has an instruction is its encoding, and the fields of an encoding are read off by arithmetic.
+use Rattle.std.specs.Prelude.{Ok, Err, Some, None}
 use mathlib.Core.Path.{◌≡◌, refl, sym, ap, ◌∙◌, subst}
 use mathlib.Core.Bool.{Bool, true, false, ◌&&◌, not}
 use mathlib.Core.List.{[], ◌∷◌}
@@ -27,9 +28,7 @@ use Rattle.arm64_insn.specs.Literal.{has_literal_form, literal_opc, literal_v, l
 use Rattle.arm64_insn.specs.Branch.{branch_word, helper_word}
 use Rattle.arm64_insn.specs.Stub.{stub_words, thunk_words}
 use Rattle.arm64_insn.specs.Fix.{nop_word, is_enabled_word, adrp_with, scale_of, offset_with, relaxed_word}
-use Rattle.arm64_insn.specs.declared.fix.OffsetWord.TheVariants.{Word, Misaligned}
 use Rattle.arm64_insn.specs.declared.ldst.LoadStore as L
-use Rattle.arm64_insn.specs.declared.ldst.LoadStoreWord.TheVariants as LoadStoreWord
 use Rattle.arm64_insn.proofs.Manual.{decode-has, decode-encode, decode-in-range}
 use Rattle.arm64_insn.proofs.ManualClasses.{one_class}
 use Rattle.arm64_insn.proofs.Cells.{each-cell}
@@ -88,7 +87,7 @@ module _ (w : ℕ) where
 
 -- an ADD with the page offset is that ADD with another immediate, and so it always fits
 pub add-patched : (w sf sh rd rn imm12 val : ℕ) → decode w ≡ instruction (ADD sf sh rd rn imm12)
-    → offset_with w val ≡ Word (encode (ADD sf sh rd rn (field val 0 12)))
+    → offset_with w val ≡ Ok (encode (ADD sf sh rd rn (field val 0 12)))
 unfolding offset_with
 add-patched w sf sh rd rn imm12 val e =
     let h = decode-has w (ADD sf sh rd rn imm12) e in
@@ -98,14 +97,14 @@ add-patched w sf sh rd rn imm12 val e =
     let d : rd_in w ≡ rd = cc h.fields in
     let n : rn_in w ≡ rn = cc h.fields in
     rw (s, mod-one val, registers w, top-add w h.matched, t, u, d, n, div-one (val % 2 ^ 12), div-one val)
-    (choose-true (eqb 0 0) _ _ refl ∙ ap Word (omega arith))
+    (choose-true (eqb 0 0) _ _ refl ∙ ap Ok (omega arith))
 
 -- a load or store with the page offset is that access with another immediate, where the access size divides the target
 pub load-store-patched : (w size v opc rt rn imm12 val : ℕ) → decode w ≡ instruction (LDST size v opc rt rn imm12)
     → offset_with w val
     ≡ choose (eqb (val % moved_by (row_of size v opc)) 0)
-    (Word (encode (LDST size v opc rt rn (val % 2 ^ 12 / moved_by (row_of size v opc)))))
-    (Misaligned (moved_by (row_of size v opc)))
+    (Ok (encode (LDST size v opc rt rn (val % 2 ^ 12 / moved_by (row_of size v opc)))))
+    (Err (moved_by (row_of size v opc)))
 unfolding offset_with
 load-store-patched w size v opc rt rn imm12 val e =
     let h = decode-has w (LDST size v opc rt rn imm12) e in
@@ -121,7 +120,7 @@ load-store-patched w size v opc rt rn imm12 val e =
 
 -- a prefetch with the page offset is that prefetch with another immediate, which counts eights, where 8 divides the target
 pub prefetch-patched : (w rt rn imm12 val : ℕ) → decode w ≡ instruction (PRFM rt rn imm12)
-    → offset_with w val ≡ choose (eqb (val % 8) 0) (Word (encode (PRFM rt rn (val % 2 ^ 12 / 8)))) (Misaligned 8)
+    → offset_with w val ≡ choose (eqb (val % 8) 0) (Ok (encode (PRFM rt rn (val % 2 ^ 12 / 8)))) (Err 8)
 unfolding offset_with row_of
 prefetch-patched w rt rn imm12 val e =
     let h = decode-has w (PRFM rt rn imm12) e in
@@ -198,15 +197,15 @@ thunk-made addr target = (
 )
 
 -- a load or store through another base is the same row with another Rn and imm12, unallocated words too
-based : (w base : ℕ) (l : L.LoadStore) (offset : ℕ) → load_store_of w ≡ LoadStoreWord.LoadStore l
+based : (w base : ℕ) (l : L.LoadStore) (offset : ℕ) → load_store_of w ≡ Some l
     → base_word l base offset ≡ fill load_store (rd_in w ∷ base ∷ offset / l.size ∷ opc_in w ∷ v_in w ∷ size_in w ∷ [])
 unfolding base_word load_store_of
 based w base l offset e =
-    let q = choose-first (matches load_store w) _ LoadStoreWord.Other (LoadStoreWord.LoadStore l) e (λ f. let z : ◌≡◌ {A = ℕ} 0 1 = cc in omega arith) in
+    let q = choose-first (matches load_store w) _ None (Some l) e (λ f. let z : ◌≡◌ {A = ℕ} 0 1 = cc in omega arith) in
     rw ((decoded-load-store w l e).word, top-load-store w q.0) (omega arith)
 
 pub based-made : (w size v opc rt rn imm12 base offset : ℕ) (l : L.LoadStore) → decode w ≡ instruction (LDST size v opc rt rn imm12)
-    → load_store_of w ≡ LoadStoreWord.LoadStore l → Rebased l base offset
+    → load_store_of w ≡ Some l → Rebased l base offset
     → decode (base_word l base offset) ≡ instruction (LDST size v opc rt base (offset / l.size))
 based-made w size v opc rt rn imm12 base offset l e f b =
     let h = decode-has w (LDST size v opc rt rn imm12) e in
@@ -285,7 +284,7 @@ alike-cell size v opc hs hv ho h =
 
 -- and it loads what the load loaded: both rows have the same mnemonic, registers, bytes and widening
 pub literal-row : (w size v opc rt rn imm12 : ℕ) (l : L.LoadStore) → decode w ≡ instruction (LDST size v opc rt rn imm12)
-    → load_store_of w ≡ LoadStoreWord.LoadStore l → has_literal_form l ≡ true
+    → load_store_of w ≡ Some l → has_literal_form l ≡ true
     → literal_row_of (literal_opc l.size l.is_float l.is_ldrsw) (literal_v l.size l.is_float) ≡ row_of size v opc
 unfolding has_literal_form
 literal-row w size v opc rt rn imm12 l e f h =

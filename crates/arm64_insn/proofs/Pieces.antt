@@ -1,4 +1,5 @@
 -- Examples 1 to 5 and 9 to 11 (RULES 11), and the limits of `within_1mb` (RULES 7.15). All are computed.
+use Rattle.std.specs.Prelude.{Ok, Err, Option, Some, None}
 use mathlib.Core.Path.{◌≡◌, refl}
 use mathlib.Core.Bool.{true, false}
 use Prim.Native.Nat.{ℕ}
@@ -12,18 +13,17 @@ use Rattle.arm64_insn.specs.LoadStore.{load_store_of}
 use Rattle.arm64_insn.specs.Literal.{literal_opc, literal_v, literal_word}
 use Rattle.arm64_insn.specs.Branch.{branch_word}
 use Rattle.arm64_insn.specs.Fix.{scale_of, offset_with, relaxed_word}
-use Rattle.arm64_insn.specs.declared.adrp.AdrpWord.{AdrpWord}
-use Rattle.arm64_insn.specs.declared.ldst.LoadStoreWord.{LoadStoreWord}
-use Rattle.arm64_insn.specs.declared.fix.OffsetWord.TheVariants.{Word, Misaligned}
+use Rattle.arm64_insn.specs.declared.adrp.Adrp.{Adrp}
+use Rattle.arm64_insn.specs.declared.ldst.LoadStore.{LoadStore}
 
 -- the page that a decoded ADRP makes, and the literal form of a decoded load
-abbrev pub page_made : AdrpWord → ℕ → ℕ
-page_made (AdrpWord.Adrp a) pc = adrp_page a.imm pc
-page_made AdrpWord.Other pc = 1
+abbrev pub page_made : Option Adrp → ℕ → ℕ
+page_made (Some a) pc = adrp_page a.imm pc
+page_made None pc = 1
 
-abbrev pub literal_made : LoadStoreWord → ℕ → ℕ → ℕ
-literal_made (LoadStoreWord.LoadStore l) target pc = literal_word l target pc
-literal_made LoadStoreWord.Other target pc = 0
+abbrev pub literal_made : Option LoadStore → ℕ → ℕ → ℕ
+literal_made (Some l) target pc = literal_word l target pc
+literal_made None target pc = 0
 
 -- ADR x0, 0x1008 from 0x1000
 pub piece1 : adr_word 0 0x1008 0x1000 ≡ 0x10000040
@@ -51,7 +51,7 @@ unfolding adrp_of adrp_page page_of choose
 piece5 = refl
 
 -- f9400000 with 0x1238: f9411c00; with 0x1234 alignment 8
-pub piece9 : (offset_with 0xf9400000 0x1238 ≡ Word 0xf9411c00) × (offset_with 0xf9400000 0x1234 ≡ Misaligned 8)
+pub piece9 : (offset_with 0xf9400000 0x1238 ≡ Ok 0xf9411c00) × (offset_with 0xf9400000 0x1234 ≡ Err 8)
 unfolding offset_with scale_of choose
 piece9 = (refl, refl)
 

@@ -1,13 +1,11 @@
 -- Words with another page or page offset (arch/arm64.rs, `write_adrp`, `write_add_ldst` and the relaxed GOT load; RULES 7.26 to 7.29).
-use Rattle.std.specs.Prelude.{ℕ, ◌+◌, ◌*◌, ◌/◌, ◌%◌, ◌^◌, List, [], ◌∷◌, eqb}
+use Rattle.std.specs.Prelude.{ℕ, ◌+◌, ◌*◌, ◌/◌, ◌%◌, ◌^◌, List, [], ◌∷◌, eqb, Result, Ok, Err}
 use Rattle.util.specs.Choice.{choose}
 use Rattle.util.specs.Bits.{field}
 use Rattle.util.specs.Diagram.{Part, free, fixed, matches}
 use Rattle.arm64_insn.specs.Encoding.{load_store}
 use Rattle.arm64_insn.specs.Manual.{ADD, NOP, MOVZ, encode, rd_in, rn_in}
 use Rattle.arm64_insn.specs.Reach.{page_offset}
-use Rattle.arm64_insn.specs.declared.fix.OffsetWord.{OffsetWord}
-use Rattle.arm64_insn.specs.declared.fix.OffsetWord.TheVariants.{Word, Misaligned}
 
 -- NOP
 abbrev pub nop_word : ℕ
@@ -31,11 +29,11 @@ unfoldable pub scale_of : ℕ → ℕ
 scale_of x = choose (matches load_store x) (choose (matches quad x) 4 (field x 30 2)) 0
 
 -- the word with the page offset of val in imm12, or the access size that does not divide val
-unfoldable pub offset_with : ℕ → ℕ → OffsetWord
+unfoldable pub offset_with : ℕ → ℕ → Result ℕ ℕ
 offset_with x val =
     choose (eqb (val % 2 ^ scale_of x) 0)
-    (Word (field x 22 10 * 2 ^ 22 + val % 2 ^ 12 / 2 ^ scale_of x * 2 ^ 10 + field x 0 10))
-    (Misaligned (2 ^ scale_of x))
+    (Ok (field x 22 10 * 2 ^ 22 + val % 2 ^ 12 / 2 ^ scale_of x * 2 ^ 10 + field x 0 10))
+    (Err (2 ^ scale_of x))
 
 -- "add Xd, Xn, #pageoff" with the word's Rd and Rn: sf 1, sh 0
 unfoldable pub relaxed_word : ℕ → ℕ → ℕ

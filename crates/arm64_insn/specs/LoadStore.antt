@@ -1,5 +1,5 @@
 -- Load or store register (unsigned immediate), taken apart by the manual's table (RULES 7.18 to 7.20).
-use Rattle.std.specs.Prelude.{ℕ, ◌*◌, Bool, false, eqb}
+use Rattle.std.specs.Prelude.{ℕ, ◌*◌, Bool, false, eqb, Option, Some, None}
 use Rattle.util.specs.Choice.{choose}
 use Rattle.util.specs.Diagram.{matches}
 use Rattle.arm64_insn.specs.Encoding.{load_store}
@@ -7,8 +7,7 @@ use Rattle.arm64_insn.specs.LoadStoreTable.{Row, load, store, prefetch, unalloca
 use Rattle.arm64_insn.specs.Manual as M
 use Rattle.arm64_insn.specs.Manual.{rd_in, rn_in, imm12_in, v_in, row_in}
 use Rattle.arm64_insn.specs.declared.ldst.LoadStore as L
-use Rattle.arm64_insn.specs.declared.ldst.LoadStoreWord.{LoadStoreWord}
-use Rattle.arm64_insn.specs.declared.ldst.LoadStoreWord.TheVariants.{LoadStore, Other}
+use Rattle.arm64_insn.specs.declared.ldst.LoadStore.{LoadStore}
 
 -- a load of 4 bytes that copies its sign up to bit 63: LDRSW
 abbrev pub is_ldrsw : Row → Bool
@@ -34,24 +33,24 @@ load_store_from w v rt rn imm12 row =
     }
 
 -- a word of the class by its row: a load or store where the row moves something
-abbrev pub load_store_by : Row → ℕ → LoadStoreWord
-load_store_by row w = choose (moves row) (LoadStore (load_store_from w (v_in w) (rd_in w) (rn_in w) (imm12_in w) row)) Other
+abbrev pub load_store_by : Row → ℕ → Option LoadStore
+load_store_by row w = choose (moves row) (Some (load_store_from w (v_in w) (rd_in w) (rn_in w) (imm12_in w) row)) None
 
 -- a word as a load or store
-unfoldable pub load_store_of : ℕ → LoadStoreWord
-load_store_of w = choose (matches load_store w) (load_store_by (row_in w) w) Other
+unfoldable pub load_store_of : ℕ → Option LoadStore
+load_store_of w = choose (matches load_store w) (load_store_by (row_in w) w) None
 
 -- the manual's instruction of a word as a load or store: any but LDST is none
-abbrev pub load_store_in : ℕ → M.Decoded → LoadStoreWord
-load_store_in w M.none = Other
-load_store_in w (M.instruction (M.ADR rd imm21)) = Other
-load_store_in w (M.instruction (M.ADRP rd imm21)) = Other
-load_store_in w (M.instruction (M.ADD sf sh rd rn imm12)) = Other
-load_store_in w (M.instruction (M.LDST size v opc rt rn imm12)) = LoadStore (load_store_from w v rt rn imm12 (row_of size v opc))
-load_store_in w (M.instruction (M.PRFM rt rn imm12)) = Other
-load_store_in w (M.instruction (M.LDR-literal opc v rt imm19)) = Other
-load_store_in w (M.instruction (M.B imm26)) = Other
-load_store_in w (M.instruction (M.BL imm26)) = Other
-load_store_in w (M.instruction (M.BR rn)) = Other
-load_store_in w (M.instruction M.NOP) = Other
-load_store_in w (M.instruction (M.MOVZ sf hw rd imm16)) = Other
+abbrev pub load_store_in : ℕ → M.Decoded → Option LoadStore
+load_store_in w M.none = None
+load_store_in w (M.instruction (M.ADR rd imm21)) = None
+load_store_in w (M.instruction (M.ADRP rd imm21)) = None
+load_store_in w (M.instruction (M.ADD sf sh rd rn imm12)) = None
+load_store_in w (M.instruction (M.LDST size v opc rt rn imm12)) = Some (load_store_from w v rt rn imm12 (row_of size v opc))
+load_store_in w (M.instruction (M.PRFM rt rn imm12)) = None
+load_store_in w (M.instruction (M.LDR-literal opc v rt imm19)) = None
+load_store_in w (M.instruction (M.B imm26)) = None
+load_store_in w (M.instruction (M.BL imm26)) = None
+load_store_in w (M.instruction (M.BR rn)) = None
+load_store_in w (M.instruction M.NOP) = None
+load_store_in w (M.instruction (M.MOVZ sf hw rd imm16)) = None

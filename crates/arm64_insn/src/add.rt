@@ -12,13 +12,6 @@ pub struct Add {
     pub imm: u64,
 }
 
-// A word as a 64-bit ADD.
-#[derive(Clone, Copy)]
-pub enum AddWord {
-    Add(Add),
-    Other,
-}
-
 impl Add {
     // sf, op, S, 100010 and sh: bits 31..22.
     pub const MASK: u32 = 0xffc0_0000;
@@ -33,17 +26,17 @@ impl Add {
     pub const EITHER_FIXED: u32 = 0x1100_0000;
 
     // The Rust's parse_add.
-    pub fn decode(insn: u32) -> AddWord
+    pub fn decode(insn: u32) -> Option<Add>
         ensures { result ≡ add_of insn }
     {
-        if insn & Self::MASK == Self::FIXED {
-            AddWord::Add(Add {
+        if is_add(insn) {
+            Some(Add {
                 rd: insn % 0x20,
                 rn: insn / 0x20 % 0x20,
                 imm: (insn / 0x400 % 0x1000) as u64,
             })
         } else {
-            AddWord::Other
+            None
         }
     }
 }

@@ -10,13 +10,6 @@ pub struct Adrp {
     pub imm: u32,
 }
 
-// A word as an ADRP.
-#[derive(Clone, Copy)]
-pub enum AdrpWord {
-    Adrp(Adrp),
-    Other,
-}
-
 impl Adrp {
     // op and 10000: bits 31 and 28..24.
     pub const MASK: u32 = 0x9f00_0000;
@@ -31,16 +24,16 @@ impl Adrp {
     pub const IMM: u32 = 0x60ff_ffe0;
 
     // The Rust's is_adrp, with the fields.
-    pub fn decode(insn: u32) -> AdrpWord
+    pub fn decode(insn: u32) -> Option<Adrp>
         ensures { result ≡ adrp_of insn }
     {
         if insn & Self::MASK == Self::FIXED {
-            AdrpWord::Adrp(Adrp {
+            Some(Adrp {
                 rd: insn % 0x20,
                 imm: (insn / 0x20 % 0x8_0000) * 4 + insn / 0x2000_0000 % 4,
             })
         } else {
-            AdrpWord::Other
+            None
         }
     }
 

@@ -33,23 +33,16 @@ fn scale_of(insn: u32) -> u32
     0
 }
 
-// A word with another imm12, or the access size that does not divide the target.
-#[derive(Clone, Copy)]
-pub enum OffsetWord {
-    Word(u32),
-    Misaligned(u32),
-}
-
 // An ADD, LDR or STR with the page offset of val (the Rust's write_add_ldst).
-pub fn write_add_ldst_word(insn: u32, val: u64) -> OffsetWord
+pub fn write_add_ldst_word(insn: u32, val: u64) -> Result<u32, u32>
     ensures { result ≡ offset_with insn val }
 {
     let size = 1u64 << scale_of(insn);
     if val % size != 0 {
-        return OffsetWord::Misaligned(size as u32);
+        return Err(size as u32);
     }
     let imm = (val % 0x1000 / size) as u32;
-    OffsetWord::Word((insn & !LoadStore::IMM12) + imm * 0x400)
+    Ok((insn & !LoadStore::IMM12) + imm * 0x400)
 }
 
 // The LDR or ADD of a relaxed GOT load: "add Xn, Xm, #pageoff" of the same registers.

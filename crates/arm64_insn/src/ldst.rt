@@ -3,18 +3,32 @@ ghost use Rattle.std.specs.Prelude.{◌≡◌, ◌+◌, ◌*◌, ◌^◌, ◌<�
 ghost use Rattle.util.specs.Diagram.{matches};
 ghost use Rattle.arm64_insn.specs.Encoding.{ldr_immediate};
 ghost use Rattle.arm64_insn.specs.LoadStore.{load_store_of};
-ghost use Rattle.arm64_insn.specs.LoadStoreSplit.{vector_access, general_access, access_by_split};
+ghost use Rattle.arm64_insn.specs.LoadStoreSplit.{access, vector_access, general_access, access_by_split};
 ghost use Rattle.arm64_insn.specs.Literal.{has_literal_form, literal_opc, literal_v, literal_word, Rebased, base_word};
 
-// What an access moves: that many bytes, whether it stores them, and whether it is LDRSW.
+// What an access moves: how many bytes, whether it stores them, and whether it is LDRSW.
 #[derive(Clone, Copy)]
-pub enum Moved {
-    Of(u64, bool, bool),
-    Neither,
+pub struct Access {
+    pub bytes: u64,
+    pub is_store: bool,
+    pub is_ldrsw: bool,
+}
+
+impl Access {
+    // The access of these.
+    fn of(bytes: u64, is_store: bool, is_ldrsw: bool) -> Access
+        ensures { result ≡ access bytes is_store is_ldrsw }
+    {
+        Access {
+            bytes,
+            is_store,
+            is_ldrsw,
+        }
+    }
 }
 
 // What a word of the class moves. Bit 26 comes first: it is V and tells the register file.
-fn access_of(v: bool, size: u32, bit_23: bool, bit_22: bool) -> Moved
+fn access_of(v: bool, size: u32, bit_23: bool, bit_22: bool) -> Option<Access>
     requires { size < 4 }
     ensures { result ≡ access_by_split v size bit_23 bit_22 }
 {
@@ -26,59 +40,61 @@ fn access_of(v: bool, size: u32, bit_23: bool, bit_22: bool) -> Moved
 
 // A vector register: the size, then bit 23, then bit 22, which is clear in a store. With bit 23 set, size 00 is an access of 16 bytes, and every
 // other size is unallocated.
-fn vector_access(size: u32, bit_23: bool, bit_22: bool) -> Moved
+#[tactic(auto, unfolding(crate::specs::LoadStoreSplit::vector_access, util::specs::Choice::choose))]
+fn vector_access(size: u32, bit_23: bool, bit_22: bool) -> Option<Access>
     requires { size < 4 }
     ensures { result ≡ vector_access size bit_23 bit_22 }
 {
     if size == 3 {
         if bit_23 {
-            return Moved::Neither;
+            return None;
         }
-        return Moved::Of(8, !bit_22, false);
+        return Some(Access::of(8, !bit_22, false));
     }
     if size == 2 {
         if bit_23 {
-            return Moved::Neither;
+            return None;
         }
-        return Moved::Of(4, !bit_22, false);
+        return Some(Access::of(4, !bit_22, false));
     }
     if size == 1 {
         if bit_23 {
-            return Moved::Neither;
+            return None;
         }
-        return Moved::Of(2, !bit_22, false);
+        return Some(Access::of(2, !bit_22, false));
     }
     if bit_23 {
-        return Moved::Of(16, !bit_22, false);
+        return Some(Access::of(16, !bit_22, false));
     }
-    Moved::Of(1, !bit_22, false)
+    Some(Access::of(1, !bit_22, false))
 }
 
 // A general register: the size, then bit 23, then bit 22. With bit 23 clear, bit 22 is clear in a store. With bit 23 set, size 11 is PRFM, which
 // moves nothing, or unallocated; size 10 is LDRSW, or unallocated where bit 22 is set; sizes 01 and 00 are loads that copy the sign.
-fn general_access(size: u32, bit_23: bool, bit_22: bool) -> Moved
+#[tactic(auto, unfolding(crate::specs::LoadStoreSplit::general_access, util::specs::Choice::choose))]
+fn general_access(size: u32, bit_23: bool, bit_22: bool) -> Option<Access>
     requires { size < 4 }
     ensures { result ≡ general_access size bit_23 bit_22 }
 {
     if size == 3 {
         if bit_23 {
-            return Moved::Neither;
+            return None;
         }
-        return Moved::Of(8, !bit_22, false);
+        return Some(Access::of(8, !bit_22, false));
     }
     if size == 2 {
         if bit_23 {
             if bit_22 {
-                return Moved::Neither;
+                return None;
             }
-            return Moved::Of(4, false, true);
+            return Some(Access::of(4, false, true));
         }
-        return Moved::Of(4, !bit_22, false);
+        return Some(Access::of(4, !bit_22, false));
     }
     if bit_23 {
-        return Moved::Of(1u64 << size, false, false);
+        return Some(Access::of(1u64 << size, false, false));
     }
-    Moved::Of(1u64 << size, !bit_22, false)
+    Some(Access::of(1u64 << size, !bit_22, false))
 }
 
 // A load or store with a scaled unsigned offset.
@@ -93,13 +109,6 @@ pub struct LoadStore {
     pub is_store: bool,
     pub is_float: bool,
     pub is_ldrsw: bool,
-}
-
-// A word as a load or store.
-#[derive(Clone, Copy)]
-pub enum LoadStoreWord {
-    LoadStore(LoadStore),
-    Other,
 }
 
 impl LoadStore {
@@ -150,32 +159,28 @@ impl LoadStore {
 
     // The Rust's parse_ldst, but for the unallocated words of RULES 7.19, and in an order of its own: the class first, since outside it bit 26
     // may be no V; then bit 26, the size, bit 23, bit 22.
-    pub fn decode(insn: u32) -> LoadStoreWord
+    pub fn decode(insn: u32) -> Option<LoadStore>
         ensures { result ≡ load_store_of insn }
     {
         if insn & Self::MASK != Self::FIXED {
-            return LoadStoreWord::Other;
+            return None;
         }
         let v = insn / 0x400_0000 % 2 == 1;
         let size = insn / 0x4000_0000 % 4;
         let bit_23 = insn / 0x80_0000 % 2 == 1;
         let bit_22 = insn / 0x40_0000 % 2 == 1;
-        match access_of(v, size, bit_23, bit_22) {
-            Moved::Of(bytes, is_store, is_ldrsw) => {
-                let imm = (insn / 0x400 % 0x1000) as u64;
-                LoadStoreWord::LoadStore(LoadStore {
-                    insn,
-                    reg: insn % 0x20,
-                    base: insn / 0x20 % 0x20,
-                    offset: imm * bytes,
-                    size: bytes,
-                    is_store,
-                    is_float: v,
-                    is_ldrsw,
-                })
-            }
-            Moved::Neither => LoadStoreWord::Other,
-        }
+        let access = access_of(v, size, bit_23, bit_22)?;
+        let imm = (insn / 0x400 % 0x1000) as u64;
+        Some(LoadStore {
+            insn,
+            reg: insn % 0x20,
+            base: insn / 0x20 % 0x20,
+            offset: imm * access.bytes,
+            size: access.bytes,
+            is_store: access.is_store,
+            is_float: v,
+            is_ldrsw: access.is_ldrsw,
+        })
     }
 
     // Whether this load has a pc-relative literal form: loads of 4, 8 and 16 bytes have one.

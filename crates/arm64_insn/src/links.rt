@@ -1,10 +1,10 @@
 // Number 31 between words: the zero register as a destination of ADR, ADRP or a load, the stack pointer as a base and in ADD.
-ghost use Rattle.std.specs.Prelude.{◌≡◌, [], ◌∷◌};
+ghost use Rattle.std.specs.Prelude.{◌≡◌};
 ghost use Rattle.arm64_insn.specs.Links.{makes, takes, links31, adds31, meets31};
 
 use crate::add::is_add;
 use crate::adrp::Adrp;
-use crate::ldst::{LoadStore, LoadStoreWord};
+use crate::ldst::LoadStore;
 
 // Load register (literal): 011 and 00, bits 29..27 and 25..24.
 const LITERAL_MASK: u32 = 0x3b00_0000;
@@ -31,7 +31,7 @@ fn makes_31(insn: u32) -> bool
     if insn & LITERAL_MASK == LITERAL_FIXED {
         return insn / 0x400_0000 % 2 == 0 && insn / 0x4000_0000 != 3;
     }
-    let LoadStoreWord::LoadStore(ls) = LoadStore::decode(insn) else {
+    let Some(ls) = LoadStore::decode(insn) else {
         return false;
     };
     !ls.is_float && !ls.is_store
@@ -44,13 +44,7 @@ fn takes_31(insn: u32) -> bool
     if insn / 0x20 % 0x20 != 31 {
         return false;
     }
-    if is_add(insn) {
-        return true;
-    }
-    match LoadStore::decode(insn) {
-        LoadStoreWord::LoadStore(_) => true,
-        LoadStoreWord::Other => false,
-    }
+    is_add(insn) || LoadStore::decode(insn).is_some()
 }
 
 // Whether number 31 links a word to the next.
@@ -67,45 +61,18 @@ pub fn adds_31(insn: u32) -> bool
     insn % 0x20 == 31 && is_add(insn)
 }
 
-// Whether number 31 links a word to the next, or one of the two is an ADD to it.
-fn two_linked_31(w0: u32, w1: u32) -> bool
-    ensures { result ≡ meets31 (w0 ∷ w1 ∷ []) }
+// Whether number 31 links one of some words to the next, or one of them is an ADD to it. Most words have not 31 in their lowest five bits, and do not
+// make it: that is asked first, for its time.
+pub fn meet_31(words: &[u32]) -> bool
+    ensures { result ≡ meets31 words.now }
 {
-    if links_31(w0, w1) {
-        return true;
-    }
-    adds_31(w0) || adds_31(w1)
-}
-
-// The same of three words.
-fn three_linked_31(w0: u32, w1: u32, w2: u32) -> bool
-    ensures { result ≡ meets31 (w0 ∷ w1 ∷ w2 ∷ []) }
-{
-    if links_31(w0, w1) {
-        return true;
-    }
-    if adds_31(w0) {
-        return true;
-    }
-    two_linked_31(w1, w2)
-}
-
-// The same of two words. Most words have not 31 in their lowest five bits, and do not make it: that is asked first, for its time.
-pub fn two_meet_31(w0: u32, w1: u32) -> bool
-    ensures { result ≡ meets31 (w0 ∷ w1 ∷ []) }
-{
-    if w0 % 0x20 == 31 || w1 % 0x20 == 31 {
-        return two_linked_31(w0, w1);
-    }
-    false
-}
-
-// Of three words.
-pub fn three_meet_31(w0: u32, w1: u32, w2: u32) -> bool
-    ensures { result ≡ meets31 (w0 ∷ w1 ∷ w2 ∷ []) }
-{
-    if w0 % 0x20 == 31 || w1 % 0x20 == 31 || w2 % 0x20 == 31 {
-        return three_linked_31(w0, w1, w2);
+    for i in 0..words.len() {
+        if words[i] % 0x20 != 31 {
+            continue;
+        }
+        if adds_31(words[i]) || (i + 1 < words.len() && links_31(words[i], words[i + 1])) {
+            return true;
+        }
     }
     false
 }

@@ -1,6 +1,7 @@
 -- An entry says the whole class: the fields of the number, one by one. Two classes with the same fields are the same.
-use mathlib.Core.Path.{◌≡◌, refl, sym, ◌∙◌}
-use mathlib.Core.Bool.{Bool, true, false, ◌&&◌}
+use Rattle.std.specs.Prelude.{Option, Some, None}
+use mathlib.Core.Path.{◌≡◌, refl, sym, ap, ◌∙◌}
+use mathlib.Core.Bool.{Bool, true, false, ◌&&◌, false≢true}
 use Prim.Native.Nat.{ℕ, ◌+◌, ◌*◌, ◌/◌, ◌%◌, ◌≤◌, ◌<◌}
 use native.Mathlib.Omega.{arith}
 use borrow.Author.Tests.{ne_eqb, eq-eqb, eqb-true, eqb-false}
@@ -9,9 +10,8 @@ use lib.Pow.{shr-shr}
 use Rattle.util.specs.Choice.{choose, flag}
 use Rattle.util.proofs.Choice.{split, choose-false, both, agree, agree-is}
 use Rattle.util.proofs.Flags.{cast-flag}
-use Rattle.arm64_ldst_class.specs.Entry.{entry_of, class_in}
+use Rattle.arm64_ldst_class.specs.Entry.{moves, entry_of, class_in}
 use Rattle.arm64_ldst_class.specs.declared.LoadStoreClass.{LoadStoreClass}
-use Rattle.arm64_ldst_class.specs.declared.LoadStoreClass.TheVariants.{Moves, Neither}
 
 -- a bit that is set, and one that is not
 flag-back : (b : Bool) (n : ℕ) → n ≡ flag b → eqb n 1 ≡ b
@@ -19,7 +19,7 @@ flag-back true n e = eq-eqb n 1 e
 flag-back false n e = ne_eqb n 1 (λ (f : n ≡ 1). omega arith)
 
 -- a class that moves bytes
-pub moves-back : (n : ℕ) (s v l : Bool) → 1 ≤ n → class_in (entry_of (Moves n s v l)) ≡ Moves n s v l
+pub moves-back : (n : ℕ) (s v l : Bool) → 1 ≤ n → class_in (entry_of (Some (moves n s v l))) ≡ Some (moves n s v l)
 moves-back n s v l h =
     let e = n * 8 + flag s * 4 + flag v * 2 + flag l in
     let a = (cast-flag s).1 in
@@ -31,7 +31,7 @@ moves-back n s v l h =
     let ldrsw : eqb (e % 2) 1 ≡ l = flag-back l (e % 2) (omega arith) in
     choose-false (eqb e 0) _ _ (ne_eqb e 0 (λ (f : e ≡ 0). omega arith)) ∙ cc (bytes, stores, vector, ldrsw)
 
-pub neither-back : class_in (entry_of Neither) ≡ Neither
+pub neither-back : class_in (entry_of None) ≡ None
 unfolding choose
 neither-back = refl
 
@@ -44,7 +44,7 @@ flag_is n h = go (eqb n 1) refl
     go false e = let f = eqb-false n 1 e in omega arith
 
 -- the fields of a number give it back
-joined : (e : ℕ) → entry_of (Moves (e / 8) (eqb (e / 4 % 2) 1) (eqb (e / 2 % 2) 1) (eqb (e % 2) 1)) ≡ e
+joined : (e : ℕ) → entry_of (Some (moves (e / 8) (eqb (e / 4 % 2) 1) (eqb (e / 2 % 2) 1) (eqb (e % 2) 1))) ≡ e
 joined e =
     let a : e / 4 / 2 ≡ e / 8 = shr-shr e 2 1 in
     let b : e / 2 / 2 ≡ e / 4 = shr-shr e 1 1 in
@@ -53,22 +53,25 @@ joined e =
 -- every number is the entry of its class
 pub entry-back : (e : ℕ) → entry_of (class_in e) ≡ e
 entry-back e =
-    split (λ (c : LoadStoreClass). entry_of c ≡ e) (eqb e 0) Neither (Moves (e / 8) (eqb (e / 4 % 2) 1) (eqb (e / 2 % 2) 1) (eqb (e % 2) 1))
+    split (λ (c : Option LoadStoreClass). entry_of c ≡ e) (eqb e 0) None (Some (moves (e / 8) (eqb (e / 4 % 2) 1) (eqb (e / 2 % 2) 1) (eqb (e % 2) 1)))
     (λ z. sym (eqb-true e 0 z)) (λ z. joined e)
 
 -- whether two classes are the same
-abbrev pub same : LoadStoreClass → LoadStoreClass → Bool
-same (Moves m s v l) (Moves n t w k) = eqb m n && (agree s t && (agree v w && agree l k))
-same (Moves m s v l) Neither = false
-same Neither (Moves n t w k) = false
-same Neither Neither = true
+abbrev pub same : Option LoadStoreClass → Option LoadStoreClass → Bool
+same (Some a) (Some b) = eqb a.bytes b.bytes && (agree a.stores b.stores && (agree a.vector b.vector && agree a.ldrsw b.ldrsw))
+same (Some a) None = false
+same None (Some b) = false
+same None None = true
 
-pub same-is : (a b : LoadStoreClass) → same a b ≡ true → a ≡ b
-same-is (Moves m s v l) (Moves n t w k) e =
-    let p = both (eqb m n) (agree s t && (agree v w && agree l k)) e in
-    let q = both (agree s t) (agree v w && agree l k) p.1 in
-    let r = both (agree v w) (agree l k) q.1 in
-    cc (eqb-true m n p.0, agree-is s t q.0, agree-is v w r.0, agree-is l k r.1)
-same-is (Moves m s v l) Neither e = let z : ◌≡◌ {A = ℕ} 0 1 = cc in absurd (omega arith)
-same-is Neither (Moves n t w k) e = let z : ◌≡◌ {A = ℕ} 0 1 = cc in absurd (omega arith)
-same-is Neither Neither e = refl
+pub same-is : (a b : Option LoadStoreClass) → same a b ≡ true → a ≡ b
+same-is (Some a) (Some b) e =
+    let p = both (eqb a.bytes b.bytes) (agree a.stores b.stores && (agree a.vector b.vector && agree a.ldrsw b.ldrsw)) e in
+    let q = both (agree a.stores b.stores) (agree a.vector b.vector && agree a.ldrsw b.ldrsw) p.1 in
+    let r = both (agree a.vector b.vector) (agree a.ldrsw b.ldrsw) q.1 in
+    ap (λ (n : ℕ). Some (moves n a.stores a.vector a.ldrsw)) (eqb-true a.bytes b.bytes p.0)
+    ∙ ap (λ (t : Bool). Some (moves b.bytes t a.vector a.ldrsw)) (agree-is a.stores b.stores q.0)
+    ∙ ap (λ (t : Bool). Some (moves b.bytes b.stores t a.ldrsw)) (agree-is a.vector b.vector r.0)
+    ∙ ap (λ (t : Bool). Some (moves b.bytes b.stores b.vector t)) (agree-is a.ldrsw b.ldrsw r.1)
+same-is (Some a) None e = absurd (false≢true e)
+same-is None (Some b) e = absurd (false≢true e)
+same-is None None e = refl

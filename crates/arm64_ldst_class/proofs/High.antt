@@ -1,4 +1,5 @@
 -- What the decoder sees of a load or store goes by bits 31 to 22, as the rows say: 32 cells by one computed test.
+use Rattle.std.specs.Prelude.{Option, Some, None}
 use mathlib.Core.Path.{◌≡◌, refl, sym, ap, ◌∙◌, subst⁻¹}
 use Prim.Native.Nat.{ℕ, ◌/◌, ◌%◌, ◌^◌, ◌<◌}
 use native.Mathlib.Nat.{div-one}
@@ -13,17 +14,16 @@ use Rattle.arm64_insn.specs.Encoding.{load_store, load_store_high}
 use Rattle.arm64_insn.specs.LoadStoreTable.{Row, row_of, moved_by, moves, is_store}
 use Rattle.arm64_insn.specs.LoadStore.{is_ldrsw, load_store_by, load_store_of}
 use Rattle.arm64_insn.specs.Manual.{size_in, v_in, opc_in, row_in}
-use Rattle.arm64_insn.specs.declared.ldst.LoadStoreWord.TheVariants.{Other}
+use Rattle.arm64_ldst_class.specs.declared.LoadStoreClass.{LoadStoreClass}
 use Rattle.arm64_insn.proofs.Cells.{each-cell}
+use Rattle.arm64_ldst_class.specs.Entry as C
 use Rattle.arm64_ldst_class.specs.Entry.{entry_of, class_in, class_seen}
 use Rattle.arm64_ldst_class.specs.Row.{class_of_row, size_at, v_at, opc_at, row_at, class_of_index}
 use Rattle.arm64_ldst_class.proofs.Back.{same, same-is, neither-back}
-use Rattle.arm64_ldst_class.specs.declared.LoadStoreClass.{LoadStoreClass}
-use Rattle.arm64_ldst_class.specs.declared.LoadStoreClass.TheVariants.{Moves, Neither}
 
 -- the class by what the decoder takes out of a word
-abbrev seen : ℕ → Row → LoadStoreClass
-seen v r = choose (moves r) (Moves (moved_by r) (is_store r) (eqb v 1) (is_ldrsw r)) Neither
+abbrev seen : ℕ → Row → Option LoadStoreClass
+seen v r = choose (moves r) (Some (C.moves (moved_by r) (is_store r) (eqb v 1) (is_ldrsw r))) None
 
 pub cell : (size v opc : ℕ) → size < 4 → v < 2 → opc < 4 → seen v (row_of size v opc) ≡ class_of_row (row_of size v opc)
 unfolding row_of choose every
@@ -53,18 +53,18 @@ module _ (w : ℕ) where
   row-high = cc (size-high, v_high, opc-high)
 
   -- the class that the decoder sees in a word, by the word's own fields
-  class-fields : class_seen (load_store_of w) ≡ choose (matches load_store w) (class_of_row (row_in w)) Neither
+  class-fields : class_seen (load_store_of w) ≡ choose (matches load_store w) (class_of_row (row_in w)) None
   unfolding load_store_of
   class-fields =
-      choose-ap class_seen (matches load_store w) (load_store_by (row_in w) w) Other
-      ∙ ap (λ (c : LoadStoreClass). choose (matches load_store w) c Neither)
-      (choose-ap class_seen (moves (row_in w)) _ Other ∙ cell (size_in w) (v_in w) (opc_in w) (omega arith) (omega arith) (omega arith))
+      choose-ap class_seen (matches load_store w) (load_store_by (row_in w) w) None
+      ∙ ap (λ (c : Option LoadStoreClass). choose (matches load_store w) c None)
+      (choose-ap class_seen (moves (row_in w)) _ None ∙ cell (size_in w) (v_in w) (opc_in w) (omega arith) (omega arith) (omega arith))
 
   -- an entry says all of it
   pub class_back : class_in (entry_of (class_seen (load_store_of w))) ≡ class_seen (load_store_of w)
   class_back =
-      subst⁻¹ (λ (c : LoadStoreClass). class_in (entry_of c) ≡ c) class-fields
-      (chosen (λ (c : LoadStoreClass). class_in (entry_of c) ≡ c) (matches load_store w) (class_of_row (row_in w)) Neither
+      subst⁻¹ (λ (c : Option LoadStoreClass). class_in (entry_of c) ≡ c) class-fields
+      (chosen (λ (c : Option LoadStoreClass). class_in (entry_of c) ≡ c) (matches load_store w) (class_of_row (row_in w)) None
       (back-cell (size_in w) (v_in w) (opc_in w) (omega arith) (omega arith) (omega arith)) neither-back)
 
   -- and by its index

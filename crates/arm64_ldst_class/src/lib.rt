@@ -7,23 +7,20 @@ ghost use Rattle.arm64_ldst_class.specs.Entry.{entry_of};
 use util::bit;
 
 // What the words with the same bits 31 to 22 move: how many bytes, whether they store them, whether the register is a vector one, whether they are LDRSW.
-// Or they are neither load nor store.
 #[derive(Clone, Copy)]
-pub enum LoadStoreClass {
-    Moves(u8, bool, bool, bool),
-    Neither,
+pub struct LoadStoreClass {
+    pub bytes: u8,
+    pub stores: bool,
+    pub vector: bool,
+    pub ldrsw: bool,
 }
 
-impl LoadStoreClass {
-    // The number of a class.
-    pub fn entry(self) -> u32
-        ensures { result ≡ entry_of self }
-    {
-        match self {
-            LoadStoreClass::Moves(bytes, stores, vector, ldrsw) => {
-                (bytes as u32) * 8 + bit(stores) * 4 + bit(vector) * 2 + bit(ldrsw)
-            }
-            LoadStoreClass::Neither => 0,
-        }
+// The number of a class: 0 where the words are neither load nor store.
+pub fn entry(class: Option<LoadStoreClass>) -> u32
+    ensures { result ≡ entry_of class }
+{
+    match class {
+        Some(c) => (c.bytes as u32) * 8 + bit(c.stores) * 4 + bit(c.vector) * 2 + bit(c.ldrsw),
+        None => 0,
     }
 }

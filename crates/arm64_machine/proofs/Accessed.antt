@@ -1,5 +1,6 @@
 -- A load or store as the decoder of arm64_insn tells it: what it does, its literal form, and its form through another base.
 -- Carried by what arm64_insn proves of decoded and made words; an access moves a power of two of bytes, at most 16.
+use Rattle.std.specs.Prelude.{Some}
 use mathlib.Core.Path.{◌≡◌, refl, sym, ap, ◌∙◌}
 use mathlib.Core.Bool.{Bool, true, false, not, ◌&&◌, true≢false}
 use Prim.Native.Nat.{ℕ, zero, suc, ◌+◌, ◌*◌, ◌/◌, ◌%◌, ◌^◌, ◌≤◌, ◌<◌}
@@ -19,7 +20,6 @@ use Rattle.arm64_insn.specs.LoadStoreTable.{Row, load, store, prefetch, unalloca
 use Rattle.arm64_insn.specs.Manual.{imm12_in, size_in, v_in, opc_in, row_in}
 use Rattle.arm64_insn.specs.ManualTargets.{access_address}
 use Rattle.arm64_insn.specs.declared.ldst.LoadStore as L
-use Rattle.arm64_insn.specs.declared.ldst.LoadStoreWord.TheVariants as LoadStoreWord
 use Rattle.arm64_insn.proofs.Cells.{each-cell}
 use Rattle.arm64_insn.proofs.Decoded.{decoded-load-store}
 use Rattle.arm64_insn.proofs.Decodes.{decodes-load-store, load-store-decodes, load-store-scale}
@@ -43,7 +43,7 @@ pub record Accessed (w : ℕ) (l : L.LoadStore) : Type 0 where
   pub based : (base off : ℕ) → base < 32 → off < 4096 → action (base_word l base off) ≡ access (row_in w) l.reg base (off / l.size)
   pub based-address : (u off : ℕ) → off % l.size ≡ 0 → access_address (row_in w) u (off / l.size) ≡ sum u off
 
-pub accessed : (w : ℕ) {l : L.LoadStore} → load_store_of w ≡ LoadStoreWord.LoadStore l → Accessed w l
+pub accessed : (w : ℕ) {l : L.LoadStore} → load_store_of w ≡ Some l → Accessed w l
 unfolding access_address
 accessed w {l} e =
     let d = load-store-decodes w l e in

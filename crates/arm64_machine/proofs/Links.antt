@@ -1,5 +1,6 @@
 -- Number 31 between words (RULES 7.35) in the machine's own words: what a word makes is what it writes, and what it takes is what it reads. By cases on the
 -- class of the word.
+use Rattle.std.specs.Prelude.{None}
 use mathlib.Core.Path.{◌≡◌, refl, sym, ap, ap₂, ◌∙◌}
 use mathlib.Core.Bool.{Bool, true, false, not, ◌&&◌, false≢true}
 use Prim.Native.Nat.{ℕ, zero, suc}
@@ -15,7 +16,6 @@ use Rattle.arm64_insn.specs.Manual.{Decoded, instruction, none, load_store_form,
 use Rattle.arm64_insn.specs.Manual.{rd_in, rn_in, imm12_in, imm19_in, imm21_in, imm26_in, hw_in, sf_in, sh_in, size_in, v_in, row_in, has_half}
 use Rattle.arm64_insn.specs.Add.{add_of}
 use Rattle.arm64_insn.specs.Links.{loads_general, makes, takes, links31, adds31}
-use Rattle.arm64_insn.specs.declared.add.AddWord.TheVariants as AddWord
 use Rattle.arm64_insn.proofs.Decodes.{add-decodes}
 use Rattle.arm64_insn.proofs.Linked.{add-test, no_add}
 use Rattle.arm64_insn.proofs.ManualClasses.{diagram_at, one_class}
@@ -160,7 +160,7 @@ module _ (w : ℕ) where
   unfolding adds31 add_of
   adds-only e =
       let b = both (eqb 31 (rd_in w)) (matches add w) e in
-      let d = decoded-add w (add-decodes w _ (choose-true (matches add w) _ AddWord.Other b.1)) in
+      let d = decoded-add w (add-decodes w _ (choose-true (matches add w) _ None b.1)) in
       (rn_in w, imm12_in w, d ∙ ap (λ (r : ℕ). M.add r (rn_in w) (imm12_in w)) (sym (eqb-true 31 (rd_in w) b.0)))
 
 -- a link by number 31: what the first word writes and the next one reads

@@ -1,5 +1,6 @@
 -- The words that the hint rules make run as the words that they replace: each rewrite on words as the decoders of arm64_insn tell them, under that
 -- rewrite's own tests and where number 31 does not link them. Carried by the laws of fair words, and by what arm64_insn proves of decoded and made words.
+use Rattle.std.specs.Prelude.{Some}
 use mathlib.Core.Path.{◌≡◌, refl, sym, ap, ◌∙◌}
 use mathlib.Core.Bool.{true, false, not, ◌&&◌, ◌||◌}
 use mathlib.Core.List.{List, [], ◌∷◌}
@@ -22,11 +23,8 @@ use Rattle.arm64_insn.specs.ManualTargets.{adr_target, literal_target, access_ad
 use Rattle.arm64_insn.specs.Page.{page_of, adrp_page}
 use Rattle.arm64_insn.specs.Reach.{within1mb}
 use Rattle.arm64_insn.specs.declared.adrp.Adrp as A
-use Rattle.arm64_insn.specs.declared.adrp.AdrpWord.TheVariants as AdrpWord
 use Rattle.arm64_insn.specs.declared.add.Add as D
-use Rattle.arm64_insn.specs.declared.add.AddWord.TheVariants as AddWord
 use Rattle.arm64_insn.specs.declared.ldst.LoadStore as L
-use Rattle.arm64_insn.specs.declared.ldst.LoadStoreWord.TheVariants as LoadStoreWord
 use Rattle.arm64_insn.proofs.Decodes.{adrp-decodes, add-decodes}
 use Rattle.arm64_insn.proofs.Encodes.{adr-made, nop-made}
 use Rattle.arm64_insn.proofs.Meaning.{adr-means, literal-means, add-value}
@@ -40,10 +38,10 @@ use Rattle.arm64_machine.proofs.Rewrites.{Chain}
 use Rattle.arm64_machine.proofs.FairLaws as FairLaws
 
 -- ADRP, ADD and NOP
-adrp-does : (w : ℕ) {a : A.Adrp} → adrp_of w ≡ AdrpWord.Adrp a → action w ≡ adrp a.rd a.imm
+adrp-does : (w : ℕ) {a : A.Adrp} → adrp_of w ≡ Some a → action w ≡ adrp a.rd a.imm
 adrp-does w e = decoded w (adrp-decodes w _ e)
 
-add-does : (w : ℕ) {d : D.Add} → add_of w ≡ AddWord.Add d → action w ≡ add d.rd d.rn d.imm
+add-does : (w : ℕ) {d : D.Add} → add_of w ≡ Some d → action w ≡ add d.rd d.rn d.imm
 add-does w e = decoded-add w (add-decodes w _ e)
 
 nop_does : action nop_word ≡ nop
@@ -63,7 +61,7 @@ unfolding adrp_page page_of
 page-whole imm p = omega arith
 
 -- ADRP_ADRP: the second ADRP becomes NOP
-pub second-dropped : {a b p q : ℕ} {x y : A.Adrp} → adrp_of a ≡ AdrpWord.Adrp x → adrp_of b ≡ AdrpWord.Adrp y → x.rd ≡ y.rd
+pub second-dropped : {a b p q : ℕ} {x y : A.Adrp} → adrp_of a ≡ Some x → adrp_of b ≡ Some y → x.rd ≡ y.rd
     → adrp_page x.imm p ≡ adrp_page y.imm q → CloseRun (placed a p ∷ placed b q ∷ []) (placed a p ∷ placed nop_word q ∷ [])
 second-dropped {a} {b} {y = y} ea eb r h =
     Rewrites.second-dropped (adrp-does a ea) (adrp-does b eb ∙ ap (λ (n : ℕ). adrp n y.imm) (sym r)) nop_does h
@@ -80,9 +78,9 @@ apart-31 a b ws e =
 
 -- two words
 module _ {a b p q : ℕ} {x : A.Adrp} (apart : meets31 (a ∷ b ∷ []) ≡ false) (fair : FairWords (placed a p ∷ placed b q ∷ []))
-    (hp : p < 2 ^ 64) (hq : q < 2 ^ 64) (ea : adrp_of a ≡ AdrpWord.Adrp x) where
+    (hp : p < 2 ^ 64) (hq : q < 2 ^ 64) (ea : adrp_of a ≡ Some x) where
   -- the load becomes a literal load
-  pub literal-second : {l : L.LoadStore} (to : ℕ) → load_store_of b ≡ LoadStoreWord.LoadStore l → l.base ≡ x.rd → has_literal_form l ≡ true
+  pub literal-second : {l : L.LoadStore} (to : ℕ) → load_store_of b ≡ Some l → l.base ≡ x.rd → has_literal_form l ≡ true
       → to ≡ adrp_page x.imm p + l.offset → to < 2 ^ 64 → to % 4 ≡ 0 → within1mb q to ≡ true
       → CloseRun (placed a p ∷ placed b q ∷ []) (placed nop_word p ∷ placed (literal_word l to q) q ∷ [])
   literal-second {l = l} to eb r f e lt four near =
@@ -92,7 +90,7 @@ module _ {a b p q : ℕ} {x : A.Adrp} (apart : meets31 (a ∷ b ∷ []) ≡ fals
       (y.address _ ∙ z ∙ sym (literal-means to q lt hq near four fair.aligned.1.0))
 
   -- the two make an address, and ADR makes it at once
-  pub adr-first : {d : D.Add} (to : ℕ) → add_of b ≡ AddWord.Add d → d.rn ≡ x.rd → to ≡ adrp_page x.imm p + d.imm → to < 2 ^ 64
+  pub adr-first : {d : D.Add} (to : ℕ) → add_of b ≡ Some d → d.rn ≡ x.rd → to ≡ adrp_page x.imm p + d.imm → to < 2 ^ 64
       → within1mb p to ≡ true → CloseRun (placed a p ∷ placed b q ∷ []) (placed (adr_word d.rd to p) p ∷ placed nop_word q ∷ [])
   adr-first {d = d} to eb r e lt near =
       let w = add-does b eb in
@@ -104,7 +102,7 @@ module _ {a b p q : ℕ} {x : A.Adrp} (apart : meets31 (a ∷ b ∷ []) ≡ fals
 -- three words: ADRP, ADD on what it made, and an access through what ADD made
 module _ {a b c p q r : ℕ} {x : A.Adrp} {d : D.Add} {l : L.LoadStore} (apart : meets31 (a ∷ b ∷ c ∷ []) ≡ false)
     (fair : FairWords (placed a p ∷ placed b q ∷ placed c r ∷ []))
-    (ea : adrp_of a ≡ AdrpWord.Adrp x) (eb : add_of b ≡ AddWord.Add d) (ec : load_store_of c ≡ LoadStoreWord.LoadStore l)
+    (ea : adrp_of a ≡ Some x) (eb : add_of b ≡ Some d) (ec : load_store_of c ≡ Some l)
     (first : d.rn ≡ x.rd) (second : l.base ≡ d.rd) where
   third : Accessed c l
   third = accessed c ec
@@ -174,7 +172,7 @@ module _ {a b c p q r : ℕ} {x : A.Adrp} {d : D.Add} {l : L.LoadStore} (apart :
 -- three words: ADRP, a load of a GOT slot, and an access through what it loaded
 pub slot-second : {a b c p q r : ℕ} {x : A.Adrp} {g l : L.LoadStore} (slot : ℕ) → meets31 (a ∷ b ∷ c ∷ []) ≡ false
     → FairWords (placed a p ∷ placed b q ∷ placed c r ∷ [])
-    → adrp_of a ≡ AdrpWord.Adrp x → load_store_of b ≡ LoadStoreWord.LoadStore g → load_store_of c ≡ LoadStoreWord.LoadStore l
+    → adrp_of a ≡ Some x → load_store_of b ≡ Some g → load_store_of c ≡ Some l
     → g.base ≡ x.rd → l.base ≡ g.reg → g.is_store ≡ false → g.is_float ≡ false → has_literal_form g ≡ true
     → slot ≡ adrp_page x.imm p + g.offset → slot < 2 ^ 64 → slot % 4 ≡ 0 → q < 2 ^ 64 → within1mb q slot ≡ true
     → CloseRun (placed a p ∷ placed b q ∷ placed c r ∷ []) (placed nop_word p ∷ placed (literal_word g slot q) q ∷ placed c r ∷ [])

@@ -1,5 +1,6 @@
 -- An own record that passes its check has a form of its type: an authenticated pointer is 8 bytes of a symbol, and no type after it has a form, each by
 -- one test of every type and form. What it reads to, by the tests on the way.
+use Rattle.std.specs.Prelude.{Result, Ok, Err, ⊤}
 use mathlib.Core.Path.{◌≡◌, refl, sym, ap, subst, ◌∙◌}
 use mathlib.Core.Bool.{Bool, true, false, not, ◌||◌}
 use mathlib.Core.List.{List}
@@ -21,19 +22,11 @@ use Rattle.macho.specs.declared.mach_rel.MachRel.{MachRel}
 use Rattle.macho.specs.declared.reloc.Reloc.{Reloc}
 use Rattle.macho.specs.declared.refusal.Refusal.{Refusal}
 use Rattle.macho.specs.declared.refusal.Refusal.TheVariants.{Unsupported, NotAuthenticated}
-use Rattle.macho.specs.declared.refusal.Check.{Check}
-use Rattle.macho.specs.declared.refusal.Check.TheVariants as C
 use Rattle.arch.specs.Entry.{entry_of, enter, targeted}
 use Rattle.arch.specs.Form.{form, form_in, same_form, member}
 use Rattle.arch.specs.Target.{target_of}
 use Rattle.arch.specs.Walk.{passing}
-use Rattle.arch.specs.declared.target.Target.{Target}
-use Rattle.arch.specs.declared.target.Target.TheVariants as T
-use Rattle.arch.specs.declared.step.Step.{Step}
-use Rattle.arch.specs.declared.step.Step.TheVariants as S
 use Rattle.arch.proofs.Forms.{each-form, implied}
-use Rattle.arm64_reader.specs.declared.record.Addend.{Addend}
-use Rattle.arm64_reader.specs.declared.record.Addend.TheVariants.{Held, Refused}
 use Rattle.arm64_reader.specs.Support.{forms_of, supported_of}
 use Rattle.arm64_reader.specs.Check.{pointer32, check_reloc}
 use Rattle.arm64_reader.specs.Record.{addend_of, adding, authenticated_record, entered, record_of}
@@ -72,25 +65,25 @@ authenticated-symbol r h t = (authenticated-fields r h (eqb-true (type_of r.bits
 
 module _ (loc : List ℕ) (r : MachRel) (subtracted : Bool) where
   -- what holds of each refusal, and of a step where the record has a form of its type, holds of that step after the check
-  pub check-passing : (P : Step → Type 0) (s : Step) → ((x : Refusal) → P (S.Refused x)) → (supported_of r ≡ true → P s)
+  pub check-passing : (P : Result (Reloc × ℕ) Refusal → Type 0) (s : Result (Reloc × ℕ) Refusal) → ((x : Refusal) → P (Err x)) → (supported_of r ≡ true → P s)
       → P (passing (check_reloc r subtracted loc) s)
   unfolding check_reloc
   check-passing P s refuses reads = go (supported_of r) refl
     where
-      any : (c : Check) → P s → P (passing c s)
-      any C.Fit p = p
-      any (C.Refused x) p = refuses x
+      any : (c : Result ⊤ Refusal) → P s → P (passing c s)
+      any (Ok tt) p = p
+      any (Err x) p = refuses x
 
       go : (b : Bool) → supported_of r ≡ b → P (passing (check_reloc r subtracted loc) s)
       go true e = any (check_reloc r subtracted loc) (reads e)
-      go false e = subst (λ (c : Check). P (passing c s)) (sym (choose-false _ _ _ e)) (refuses Unsupported)
+      go false e = subst (λ (c : Result ⊤ Refusal). P (passing c s)) (sym (choose-false _ _ _ e)) (refuses Unsupported)
 
   -- a form that its type does not take is 5, whatever stands at the place
   pub other-form : supported_of r ≡ false → (sections : List ℕ) (offset given next : ℕ)
-      → record_of loc sections r subtracted offset given next ≡ S.Refused Unsupported
+      → record_of loc sections r subtracted offset given next ≡ Err Unsupported
   unfolding record_of check_reloc
   other-form h sections offset given next =
-      ap (λ (c : Check). passing c (entered loc sections r subtracted offset given next)) (choose-false _ _ _ h)
+      ap (λ (c : Result ⊤ Refusal). passing c (entered loc sections r subtracted offset given next)) (choose-false _ _ _ h)
 
 -- an authenticated pointer of its form, with 8 bytes at its place, by its stored word alone: the entry, or 15
 pub authenticated-reads : (loc sections : List ℕ) (r : MachRel) (subtracted : Bool) (offset given next : ℕ)
@@ -98,7 +91,7 @@ pub authenticated-reads : (loc sections : List ℕ) (r : MachRel) (subtracted : 
     → let word = le 8 loc 0 in
     record_of loc sections r subtracted offset given next
     ≡ choose (matches authenticated word)
-    (S.Read (with_signing (entry_of r subtracted offset (idx_of r.bits) (extend word 32)) (signing_in word)) next) (S.Refused NotAuthenticated)
+    (Ok (with_signing (entry_of r subtracted offset (idx_of r.bits) (extend word 32)) (signing_in word), next)) (Err NotAuthenticated)
 unfolding record_of check_reloc pointer32 authenticated_record choose
 authenticated-reads loc sections r subtracted offset given next t h l = rw (h, t, le-ltb (length loc) 8 l)
 
@@ -114,9 +107,9 @@ module _ (loc : List ℕ) (offset : ℕ) (e : Reloc) where
     pub other : (e.ty ≡ ARM64_RELOC_AUTHENTICATED_POINTER → ⊥) → e.signing ≡ 0
 
 -- a step that reads such an entry, if it reads
-unfoldable pub StepSigns : List ℕ → ℕ → Step → Type 0
-StepSigns loc offset (S.Refused x) = Unit {0}
-StepSigns loc offset (S.Read e m) = Signs loc offset e
+unfoldable pub StepSigns : List ℕ → ℕ → Result (Reloc × ℕ) Refusal → Type 0
+StepSigns loc offset (Err x) = Unit {0}
+StepSigns loc offset (Ok (e, m)) = Signs loc offset e
 
 module _ (loc sections : List ℕ) (r : MachRel) (subtracted : Bool) (offset given next : ℕ) where
   authenticated-signs : type_of r.bits ≡ ARM64_RELOC_AUTHENTICATED_POINTER → StepSigns loc offset (authenticated_record loc r subtracted offset next)
@@ -127,15 +120,15 @@ module _ (loc sections : List ℕ) (r : MachRel) (subtracted : Bool) (offset giv
       split (StepSigns loc offset) (matches authenticated (le 8 loc 0)) _ _
       (λ m. record { place = refl; word = λ _. (ltb-false (length loc) 8 l, m, refl, refl); other = λ n. absurd (n t) }) (λ _. tt))
 
-  enter-signs : (type_of r.bits ≡ ARM64_RELOC_AUTHENTICATED_POINTER → ⊥) → (t : Target) → StepSigns loc offset (enter r subtracted offset next t)
+  enter-signs : (type_of r.bits ≡ ARM64_RELOC_AUTHENTICATED_POINTER → ⊥) → (t : Result (ℕ × ℕ) Refusal) → StepSigns loc offset (enter r subtracted offset next t)
   unfolding StepSigns
-  enter-signs n (T.Named target addend) = record { place = refl; word = λ t. absurd (n t); other = λ _. refl }
-  enter-signs n (T.Refused x) = tt
+  enter-signs n (Ok (target, addend)) = record { place = refl; word = λ t. absurd (n t); other = λ _. refl }
+  enter-signs n (Err x) = tt
 
-  adding-signs : (type_of r.bits ≡ ARM64_RELOC_AUTHENTICATED_POINTER → ⊥) → (a : Addend) → StepSigns loc offset (adding sections r subtracted offset next a)
+  adding-signs : (type_of r.bits ≡ ARM64_RELOC_AUTHENTICATED_POINTER → ⊥) → (a : Result ℕ Refusal) → StepSigns loc offset (adding sections r subtracted offset next a)
   unfolding StepSigns targeted
-  adding-signs n (Held a) = enter-signs n (target_of sections r a)
-  adding-signs n (Refused x) = tt
+  adding-signs n (Ok a) = enter-signs n (target_of sections r a)
+  adding-signs n (Err x) = tt
 
   pub record-signs : StepSigns loc offset (record_of loc sections r subtracted offset given next)
   unfolding record_of StepSigns

@@ -1,4 +1,5 @@
 -- How the entries of any table are signed: each step reads such an entry (`record-signs`), so each entry of the walk is one (`each_from`).
+use Rattle.std.specs.Prelude.{Result, Ok, Err}
 use mathlib.Core.Path.{◌≡◌, sym, ap, subst, ◌∙◌}
 use mathlib.Core.Bool.{Bool, true}
 use mathlib.Core.List.{List}
@@ -19,8 +20,7 @@ use Rattle.macho.specs.declared.refusal.Refusal.TheVariants.{Bounds, LoneAddend}
 use Rattle.arch.specs.Table.{record_at, subtracted_at}
 use Rattle.arch.specs.Walk.{entries, read_all}
 use Rattle.arch.proofs.Walk.{Gives, gives-refused, Each, each_from}
-use Rattle.arch.specs.declared.step.Step.{Step}
-use Rattle.arch.specs.declared.step.Step.TheVariants as S
+use Rattle.macho.specs.declared.refusal.Refusal.{Refusal}
 use Rattle.arm64_reader.specs.Record.{own_at, step_at}
 use Rattle.arm64_reader.specs.Read.{read_records}
 use Rattle.arm64_reader.proofs.AuthenticatedRecords.{Signs, StepSigns, record-signs}
@@ -54,9 +54,9 @@ module _ (contents sections : List ℕ) (first : Bool) (rs : List MachRel) where
         carry (own_at contents sections first rs j offset given)
         (record-signs (drop offset contents) sections (record_at rs j) (subtracted_at ARM64_RELOC_SUBTRACTOR first rs j) offset given (j + 1))
       where
-        carry : (s : Step) → StepSigns (drop offset contents) offset s → Gives Stored none s
-        carry (S.Refused x) p = tt
-        carry (S.Read e m) p = stored offset e p
+        carry : (s : Result (Reloc × ℕ) Refusal) → StepSigns (drop offset contents) offset s → Gives Stored none s
+        carry (Err x) p = tt
+        carry (Ok (e, m)) p = stored offset e p
 
     step_gives : (i : ℕ) → Gives Stored none (step_at contents sections first rs i)
     unfolding step_at

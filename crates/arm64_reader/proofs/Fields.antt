@@ -1,5 +1,6 @@
 -- An entry's fields as functions of its records, and how many entries there are: each step reads the entry of its records, and the walk goes
 -- over the records at which entries start.
+use Rattle.std.specs.Prelude.{Result, Ok, Err}
 use mathlib.Core.Path.{◌≡◌, refl, sym, ap, ap₂, subst, ◌∙◌}
 use mathlib.Core.Bool.{Bool, true, false}
 use mathlib.Core.List.{List, [], ◌∷◌, map}
@@ -25,35 +26,31 @@ use Rattle.arch.specs.Entry.{entry_of, enter, targeted}
 use Rattle.arch.specs.Table.{record_at}
 use Rattle.arch.specs.Target.{target_of, is_there, target_in, addend_in}
 use Rattle.arch.proofs.Targets.{target_is}
-use Rattle.arch.specs.Walk.{Reading, refused, entries, before, after, read_from, read_all}
-use Rattle.arch.specs.declared.target.Target.{Target}
-use Rattle.arch.specs.declared.target.Target.TheVariants as T
-use Rattle.arch.specs.declared.step.Step.{Step}
-use Rattle.arch.specs.declared.step.Step.TheVariants as S
-use Rattle.arm64_reader.specs.declared.record.Addend.{Addend}
-use Rattle.arm64_reader.specs.declared.record.Addend.TheVariants.{Held, Refused}
+use Rattle.arch.specs.Walk.{Reading, refused, entries, before, after, read_from, read_all, Later}
+use Rattle.macho.specs.declared.refusal.Refusal.{Refusal}
 use Rattle.arm64_reader.specs.Record.{addend_of, adding, authenticated_record, entered, record_of, step_at}
 use Rattle.arm64_reader.specs.Read.{read_records}
-use Rattle.arch.proofs.Walk.{Within, Later, done-any, turn_suc}
+use Rattle.arch.proofs.Walk.{Within, done-any, turn_suc}
 use Rattle.arm64_reader.proofs.AuthenticatedRecords.{authenticated-symbol, check-passing}
-use Rattle.arm64_reader.proofs.Steps.{step-within, step-onward}
+use Rattle.arm64_reader.specs.Onward.{step-onward}
+use Rattle.arm64_reader.proofs.Steps.{step-within}
 use Rattle.arm64_reader.specs.Fields.{is_addend, starts, pairs, own_of, held_in, signed_by, entry_from}
 
 -- ---- one step
 
 -- a step that reads this entry and ends at this record, if it reads
-unfoldable pub Says : Reloc → ℕ → Step → Type 0
-Says e m (S.Refused x) = Unit {0}
-Says e m (S.Read f next) = (f ≡ e) × (next ≡ m)
+unfoldable pub Says : Reloc → ℕ → Result (Reloc × ℕ) Refusal → Type 0
+Says e m (Err x) = Unit {0}
+Says e m (Ok (f, next)) = (f ≡ e) × (next ≡ m)
 
 -- an addend that is this, if it is one; a target that is these
-Holds : ℕ → Addend → Type 0
-Holds v (Held a) = a ≡ v
-Holds v (Refused x) = Unit {0}
+Holds : ℕ → Result ℕ Refusal → Type 0
+Holds v (Ok a) = a ≡ v
+Holds v (Err x) = Unit {0}
 
-Names : ℕ → ℕ → Target → Type 0
-Names t a (T.Named u b) = (u ≡ t) × (b ≡ a)
-Names t a (T.Refused x) = Unit {0}
+Names : ℕ → ℕ → Result (ℕ × ℕ) Refusal → Type 0
+Names t a (Ok (u, b)) = (u ≡ t) × (b ≡ a)
+Names t a (Err x) = Unit {0}
 
 addend-holds : (r : MachRel) (loc : List ℕ) (given : ℕ) → eqb (type_of r.bits) ARM64_RELOC_AUTHENTICATED_POINTER ≡ false
     → Holds (held_in r (le 4 loc 0) (le 8 loc 0) given) (addend_of r loc given)
@@ -66,7 +63,7 @@ addend-holds r loc given n =
     (λ f. chosen P (ltb (length loc) 8) _ _ tt (rw (e, f))))
     (λ e. rw (e, n))
   where
-    P : Addend → Type 0
+    P : Result ℕ Refusal → Type 0
     P = Holds (held_in r (le 4 loc 0) (le 8 loc 0) given)
 
 target-names : (sections : List ℕ) (r : MachRel) (held : ℕ) → Names (target_in r) (addend_in sections r held) (target_of sections r held)
@@ -80,17 +77,17 @@ module _ (sections : List ℕ) (r : MachRel) (subtracted : Bool) (offset next : 
   abbrev pub entry : ℕ → ℕ → Reloc
   entry held signing = with_signing (entry_of r subtracted offset (target_in r) (addend_in sections r held)) signing
 
-  enter-says : (held : ℕ) (t : Target) → Names (target_in r) (addend_in sections r held) t → Says (entry held 0) next (enter r subtracted offset next t)
+  enter-says : (held : ℕ) (t : Result (ℕ × ℕ) Refusal) → Names (target_in r) (addend_in sections r held) t → Says (entry held 0) next (enter r subtracted offset next t)
   unfolding Says Names
-  enter-says held (T.Named u b) n = (ap₂ (entry_of r subtracted offset) n.0 n.1, refl)
-  enter-says held (T.Refused x) n = tt
+  enter-says held (Ok (u, b)) n = (ap₂ (entry_of r subtracted offset) n.0 n.1, refl)
+  enter-says held (Err x) n = tt
 
-  adding-says : (held : ℕ) (a : Addend) → Holds held a → Says (entry held 0) next (adding sections r subtracted offset next a)
+  adding-says : (held : ℕ) (a : Result ℕ Refusal) → Holds held a → Says (entry held 0) next (adding sections r subtracted offset next a)
   unfolding Says Holds targeted
-  adding-says held (Held a) h =
+  adding-says held (Ok a) h =
       subst (λ (v : ℕ). Says (entry v 0) next (targeted sections r subtracted offset a next)) h
       (enter-says a (target_of sections r a) (target-names sections r a))
-  adding-says held (Refused x) h = tt
+  adding-says held (Err x) h = tt
 
   authenticated-says : (loc : List ℕ) (given : ℕ) → eqb (type_of r.bits) ARM64_RELOC_AUTHENTICATED_POINTER ≡ true → eqb (extern_of r.bits) 1 ≡ true
       → Says (entry (held_in r (le 4 loc 0) (le 8 loc 0) given) (signed_by r (le 8 loc 0))) next (authenticated_record loc r subtracted offset next)
@@ -100,7 +97,7 @@ module _ (sections : List ℕ) (r : MachRel) (subtracted : Bool) (offset next : 
       let u : eqb (type_of r.bits) ARM64_RELOC_UNSIGNED ≡ false = ne_eqb (type_of r.bits) ARM64_RELOC_UNSIGNED (λ e. omega (arith, ty)) in
       chosen P (ltb (length loc) 8) _ _ tt (chosen P (matches authenticated (le 8 loc 0)) _ _ (rw (t, x, u), refl) tt)
     where
-      P : Step → Type 0
+      P : Result (Reloc × ℕ) Refusal → Type 0
       P = Says (entry (held_in r (le 4 loc 0) (le 8 loc 0) given) (signed_by r (le 8 loc 0))) next
 
   other-says : (loc : List ℕ) (given : ℕ) → eqb (type_of r.bits) ARM64_RELOC_AUTHENTICATED_POINTER ≡ false
@@ -118,7 +115,7 @@ module _ (sections : List ℕ) (r : MachRel) (subtracted : Bool) (offset next : 
       split P (eqb (type_of r.bits) ARM64_RELOC_AUTHENTICATED_POINTER) _ _ (λ t. authenticated-says loc given t (authenticated-symbol r s t))
       (λ n. other-says loc given n)))
     where
-      P : Step → Type 0
+      P : Result (Reloc × ℕ) Refusal → Type 0
       P = Says (entry (held_in r (le 4 loc 0) (le 8 loc 0) given) (signed_by r (le 8 loc 0))) next
 
 -- a step reads the entry that starts at its record, and ends after that entry's own record
@@ -135,7 +132,7 @@ step-says contents sections first rs i =
     off : ℕ
     off = (record_at rs i).offset
 
-    P : Step → Type 0
+    P : Result (Reloc × ℕ) Refusal → Type 0
     P = Says (entry_from contents sections first rs i) (own_of rs i + 1)
 
     word : (n : ℕ) → le n (drop off contents) 0 ≡ le n contents off
@@ -177,11 +174,11 @@ module _ (contents sections : List ℕ) (first : Bool) (rs : List MachRel) where
   reads_before i h l (refused x) p = tt
   reads_before i h l (entries es) p = ap (λ (fs : List Reloc). E i ∷ fs) p ∙ ap (map E) (sym (starts-on rs i h l))
 
-  reads-after : (i : ℕ) (s : Step) (rest : ℕ → Reading) → i < length rs → Says (E i) (own_of rs i + 1) s → Within (length rs) s
+  reads-after : (i : ℕ) (s : Result (Reloc × ℕ) Refusal) (rest : ℕ → Reading) → i < length rs → Says (E i) (own_of rs i + 1) s → Within (length rs) s
       → ((next : ℕ) → i < next → Reads next (rest next)) → Later i s → Reads i (after s rest)
   unfolding Reads Says Within Later
-  reads-after i (S.Refused x) rest h p w f g = tt
-  reads-after i (S.Read e next) rest h p w f g =
+  reads-after i (Err x) rest h p w f g = tt
+  reads-after i (Ok (e, next)) rest h p w f g =
       subst (λ (e : Reloc). Reads i (before e (rest next))) (sym p.0)
       (reads_before i h (omega arith) (rest next) (subst (λ (m : ℕ). Reads m (rest next)) p.1 (f next g)))
 
@@ -189,7 +186,7 @@ module _ (contents sections : List ℕ) (first : Bool) (rs : List MachRel) where
   walk-reads zero i h = subst (Reads i) (sym (done-any _ _ zero i (omega arith))) (reads_none i (omega arith))
   walk-reads (suc k) i h = go (ltb i (length rs)) refl (λ next l. walk-reads k next (omega arith))
     where
-      step : ℕ → Step
+      step : ℕ → Result (Reloc × ℕ) Refusal
       step = step_at contents sections first rs
 
       go : (t : Bool) → ltb i (length rs) ≡ t → ((next : ℕ) → i < next → Reads next (read_from step (length rs) k next))

@@ -1,4 +1,5 @@
 -- One record read, against what it means: what its entry says, and the refusals that are left where it is defined.
+use Rattle.std.specs.Prelude.{Result, Ok, Err, ⊤}
 use mathlib.Core.Path.{◌≡◌, refl, sym, ap, ap₂, subst, ◌∙◌}
 use mathlib.Core.Logic.{◌⊎◌, inl, inr}
 use mathlib.Core.Bool.{Bool, true, false, true≢false}
@@ -26,14 +27,6 @@ use Rattle.macho.specs.declared.refusal.Refusal.{Refusal}
 use Rattle.macho.specs.declared.refusal.Refusal.TheVariants.{Unsupported, Unfit}
 use Rattle.arch.specs.Entry.{entry_of, enter, targeted}
 use Rattle.arch.specs.Target.{section_target, target_of}
-use Rattle.arch.specs.declared.target.Target.{Target}
-use Rattle.arch.specs.declared.target.Target.TheVariants as T
-use Rattle.macho.specs.declared.refusal.Check.{Check}
-use Rattle.macho.specs.declared.refusal.Check.TheVariants as C
-use Rattle.arch.specs.declared.step.Step.{Step}
-use Rattle.arch.specs.declared.step.Step.TheVariants as S
-use Rattle.arm64_reader.specs.declared.record.Addend.{Addend}
-use Rattle.arm64_reader.specs.declared.record.Addend.TheVariants.{Held, Refused}
 use Rattle.arm64_reader.specs.Support.{supported_of}
 use Rattle.arm64_reader.specs.Check.{pointer32, word_check, check_reloc}
 use Rattle.arch.specs.Walk.{passing}
@@ -50,22 +43,22 @@ use Rattle.arm64_reader.proofs.HeaderForms.{supported-is, size-at-least}
 -- ---- a record that reads
 
 module _ (loc sections : List ℕ) (r : MachRel) (subtracted : Bool) (offset given next : ℕ) where
-  abbrev Step-of : Step
+  abbrev Step-of : Result (Reloc × ℕ) Refusal
   Step-of = record_of loc sections r subtracted offset given next
 
   -- its entry
-  pub read-entry : {e : Reloc} {m : ℕ} → Step-of ≡ S.Read e m
+  pub read-entry : {e : Reloc} {m : ℕ} → Step-of ≡ Ok (e, m)
       → e
       ≡ with_signing (entry_of r subtracted offset (target_in r) (addend_in sections r (held_in r (le 4 loc 0) (le 8 loc 0) given))) (signed_by r (le 8 loc 0))
   unfolding Says
   read-entry e = (subst (Says _ next) e (record-says sections r subtracted offset next loc given _ _ refl refl)).0
 
   -- it is defined
-  Supported : Step → Type 0
-  Supported (S.Refused x) = Unit {0}
-  Supported (S.Read e m) = supported_of r ≡ true
+  Supported : Result (Reloc × ℕ) Refusal → Type 0
+  Supported (Err x) = Unit {0}
+  Supported (Ok (e, m)) = supported_of r ≡ true
 
-  pub read-formed : {e : Reloc} {m : ℕ} → Step-of ≡ S.Read e m → is_defined r ≡ true
+  pub read-formed : {e : Reloc} {m : ℕ} → Step-of ≡ Ok (e, m) → is_defined r ≡ true
   unfolding record_of Supported
   read-formed e =
       sym (supported-is r)
@@ -73,14 +66,14 @@ module _ (loc sections : List ℕ) (r : MachRel) (subtracted : Bool) (offset giv
       (check-passing loc r subtracted Supported (entered loc sections r subtracted offset given next) (λ _. tt)
       (λ h. within h (entered loc sections r subtracted offset given next)))
     where
-      within : supported_of r ≡ true → (s : Step) → Supported s
-      within h (S.Refused x) = tt
-      within h (S.Read e m) = h
+      within : supported_of r ≡ true → (s : Result (Reloc × ℕ) Refusal) → Supported s
+      within h (Err x) = tt
+      within h (Ok (e, m)) = h
 
   -- it names a symbol, or a section by an ordinal from 1 on
-  Refuses : Step → Type 0
-  Refuses (S.Refused x) = Unit {0}
-  Refuses (S.Read e m) = ⊥
+  Refuses : Result (Reloc × ℕ) Refusal → Type 0
+  Refuses (Err x) = Unit {0}
+  Refuses (Ok (e, m)) = ⊥
 
   no-ordinal : eqb (extern_of r.bits) 1 ≡ false → idx_of r.bits ≡ 0 → Refuses Step-of
   unfolding record_of Refuses targeted target_of section_target choose
@@ -90,16 +83,16 @@ module _ (loc sections : List ℕ) (r : MachRel) (subtracted : Bool) (offset giv
       split Refuses (eqb (type_of r.bits) ARM64_RELOC_AUTHENTICATED_POINTER) _ _ (λ t. absurd (true≢false (sym (authenticated-symbol r s t) ∙ x)))
       (λ _. adds (addend_of r loc given)))
     where
-      adds : (a : Addend) → Refuses (adding sections r subtracted offset next a)
-      adds (Refused y) = tt
-      adds (Held a) = rw (x, z) tt
+      adds : (a : Result ℕ Refusal) → Refuses (adding sections r subtracted offset next a)
+      adds (Err y) = tt
+      adds (Ok a) = rw (x, z) tt
 
-  pub read_named : {e : Reloc} {m : ℕ} → Step-of ≡ S.Read e m → (eqb (extern_of r.bits) 1 ≡ false) → idx_of r.bits ≡ 0 → ⊥
+  pub read_named : {e : Reloc} {m : ℕ} → Step-of ≡ Ok (e, m) → (eqb (extern_of r.bits) 1 ≡ false) → idx_of r.bits ≡ 0 → ⊥
   unfolding Refuses
   read_named e x z = subst Refuses e (no-ordinal x z)
 
   -- an authenticated pointer has the word of one
-  pub read-authenticated : {e : Reloc} {m : ℕ} → Step-of ≡ S.Read e m → type_of r.bits ≡ ARM64_RELOC_AUTHENTICATED_POINTER
+  pub read-authenticated : {e : Reloc} {m : ℕ} → Step-of ≡ Ok (e, m) → type_of r.bits ≡ ARM64_RELOC_AUTHENTICATED_POINTER
       → matches authenticated (le 8 loc 0) ≡ true
   unfolding StepSigns
   read-authenticated e t =
@@ -125,9 +118,9 @@ module _ (loc sections : List ℕ) (r : MachRel) (subtracted : Bool) (offset giv
       rw q at room
 
   -- of a check
-  CheckLeft : Check → Type 0
-  CheckLeft C.Fit = Unit {0}
-  CheckLeft (C.Refused x) = Left r subtracted x
+  CheckLeft : Result ⊤ Refusal → Type 0
+  CheckLeft (Ok tt) = Unit {0}
+  CheckLeft (Err x) = Left r subtracted x
 
   word-left : (ty : ℕ) → CheckLeft (word_check ty loc)
   unfolding word_check CheckLeft
@@ -141,9 +134,9 @@ module _ (loc sections : List ℕ) (r : MachRel) (subtracted : Bool) (offset giv
       (λ _. chosen CheckLeft _ _ _ (word-left (type_of r.bits)) (chosen CheckLeft _ _ _ (word-left (type_of r.bits)) tt)))
 
   -- the addend and the target are there
-  IsHeld : Addend → Type 0
-  IsHeld (Held a) = Unit {0}
-  IsHeld (Refused x) = ⊥
+  IsHeld : Result ℕ Refusal → Type 0
+  IsHeld (Ok a) = Unit {0}
+  IsHeld (Err x) = ⊥
 
   addend-held : IsHeld (addend_of r loc given)
   unfolding addend_of IsHeld choose
@@ -151,9 +144,9 @@ module _ (loc sections : List ℕ) (r : MachRel) (subtracted : Bool) (offset giv
       chosen IsHeld (eqb (type_of r.bits) ARM64_RELOC_UNSIGNED) _ _
       (split IsHeld (eqb (p2size_of r.bits) 2) _ _ (λ _. rw (le-ltb (length loc) 4 four) tt) (λ e. rw (le-ltb (length loc) 8 (eight e)) tt)) tt
 
-  IsNamed : Target → Type 0
-  IsNamed (T.Named t a) = Unit {0}
-  IsNamed (T.Refused x) = ⊥
+  IsNamed : Result (ℕ × ℕ) Refusal → Type 0
+  IsNamed (Ok (t, a)) = Unit {0}
+  IsNamed (Err x) = ⊥
 
   section-named : (k held : ℕ) → 0 < k → k ≤ length sections → IsNamed (section_target sections k held)
   unfolding section_target IsNamed choose
@@ -171,19 +164,19 @@ module _ (loc sections : List ℕ) (r : MachRel) (subtracted : Bool) (offset giv
           rw e (section-named (idx_of r.bits) held k.0 k.1)
 
   -- of the step
-  pub StepLeft : Step → Type 0
-  StepLeft (S.Read e m) = Unit {0}
-  StepLeft (S.Refused x) = Left r subtracted x
+  pub StepLeft : Result (Reloc × ℕ) Refusal → Type 0
+  StepLeft (Ok (e, m)) = Unit {0}
+  StepLeft (Err x) = Left r subtracted x
 
-  enter-left : (t : Target) → IsNamed t → StepLeft (enter r subtracted offset next t)
+  enter-left : (t : Result (ℕ × ℕ) Refusal) → IsNamed t → StepLeft (enter r subtracted offset next t)
   unfolding IsNamed StepLeft
-  enter-left (T.Named t a) h = tt
-  enter-left (T.Refused x) h = absurd h
+  enter-left (Ok (t, a)) h = tt
+  enter-left (Err x) h = absurd h
 
-  adding-left : (a : Addend) → IsHeld a → StepLeft (adding sections r subtracted offset next a)
+  adding-left : (a : Result ℕ Refusal) → IsHeld a → StepLeft (adding sections r subtracted offset next a)
   unfolding IsHeld targeted
-  adding-left (Held a) h = enter-left (target_of sections r a) (target-named a)
-  adding-left (Refused x) h = absurd h
+  adding-left (Ok a) h = enter-left (target_of sections r a) (target-named a)
+  adding-left (Err x) h = absurd h
 
   authenticated-left : type_of r.bits ≡ ARM64_RELOC_AUTHENTICATED_POINTER → StepLeft (authenticated_record loc r subtracted offset next)
   unfolding authenticated_record StepLeft
@@ -197,12 +190,12 @@ module _ (loc sections : List ℕ) (r : MachRel) (subtracted : Bool) (offset giv
       split StepLeft (eqb (type_of r.bits) ARM64_RELOC_AUTHENTICATED_POINTER) _ _
       (λ t. authenticated-left (eqb-true (type_of r.bits) ARM64_RELOC_AUTHENTICATED_POINTER t)) (λ _. adding-left (addend_of r loc given) addend-held)
 
-  passing-left : (c : Check) (s : Step) → CheckLeft c → StepLeft s → StepLeft (passing c s)
+  passing-left : (c : Result ⊤ Refusal) (s : Result (Reloc × ℕ) Refusal) → CheckLeft c → StepLeft s → StepLeft (passing c s)
   unfolding CheckLeft StepLeft
-  passing-left C.Fit s h g = g
-  passing-left (C.Refused x) s h g = h
+  passing-left (Ok tt) s h g = g
+  passing-left (Err x) s h g = h
 
-  pub refused-left : {x : Refusal} → record_of loc sections r subtracted offset given next ≡ S.Refused x → Left r subtracted x
+  pub refused-left : {x : Refusal} → record_of loc sections r subtracted offset given next ≡ Err x → Left r subtracted x
   unfolding record_of StepLeft
   refused-left e = subst StepLeft e (passing-left (check_reloc r subtracted loc) _ check-left entered-left)
 

@@ -1,6 +1,7 @@
 -- What a table means against what is read, for every table: where it is defined and read, the entries say what it means; where it is defined, its bytes and
 -- sections are there and it is refused, the word is unfit or a 4-byte pointer stands alone; where it is read and not defined, the reason is one of those
 -- listed. One induction over the records, by the cases of a turn.
+use Rattle.std.specs.Prelude.{Result}
 use mathlib.Core.Path.{◌≡◌, refl, sym, ap, ap₂, subst, subst₂, ◌∙◌}
 use mathlib.Core.Logic.{◌⊎◌, inl, inr, ⊎_elim}
 use mathlib.Core.Bool.{Bool, true, false, ◌||◌, or-true, true≢false, false≢true}
@@ -25,7 +26,6 @@ use Rattle.macho.specs.declared.refusal.Refusal.{Refusal}
 use Rattle.macho.specs.declared.refusal.Refusal.TheVariants.{Bounds, LoneAddend, Unsupported, Unfit}
 use Rattle.arch.specs.Table.{records_of}
 use Rattle.arch.specs.Walk.{Reading, refused, entries, before}
-use Rattle.arch.specs.declared.step.Step.{Step}
 use Rattle.arm64_reader.specs.Check.{pointer32}
 use Rattle.arm64_reader.specs.Record.{record_of}
 use Rattle.arm64_reader.specs.Read.{read_records, read_relocs}
@@ -126,8 +126,8 @@ not-lone r h =
 -- ---- one record
 
 module _ (contents sections : List ℕ) where
-  abbrev Ok : Less → Meaning → Reading → Type 0
-  Ok = Consistent (length contents) (length sections)
+  abbrev Read-so : Less → Meaning → Reading → Type 0
+  Read-so = Consistent (length contents) (length sections)
 
   -- the 8 bytes at a record's place, from there on
   stored_at : (r : MachRel) → le 8 (drop r.offset contents) 0 ≡ le 8 contents r.offset
@@ -140,9 +140,9 @@ module _ (contents sections : List ℕ) where
       → ((o : eqb (extern_of r.bits) 1 ≡ false → idx_of r.bits ≡ 0 → ⊥) → say_one m (own contents sections r b 0 m o) ≡ g)
       → (pointer32 r b ≡ true → is_lone_pointer32 g ≡ true)
       → (type_of r.bits ≡ ARM64_RELOC_AUTHENTICATED_POINTER → matches authenticated (le 8 contents r.offset) ≡ true)
-      → Ok nothing w (read_records contents sections false rs) → Ok m (with_first g w) (read_records contents sections b (r ∷ rs))
+      → Read-so nothing w (read_records contents sections false rs) → Read-so m (with_first g w) (read_records contents sections b (r ∷ rs))
   single m b r rs g w na ns f gp gs gt says lone stored rest =
-      plain-cases contents sections b (Ok m (with_first g w)) r rs na
+      plain-cases contents sections b (Read-so m (with_first g w)) r rs na
       (λ h. give-refused _ _ m g w Bounds (λ i. absurd (past h i.0)))
       (λ h x e. give-refused _ _ m g w x (λ i. ⊎_elim (λ u. inl u) (λ u. inr (u.0, lone u.1))
       (refused-left (drop r.offset contents) sections r b r.offset 0 1 f (room i.0) (subst (Known (length sections)) gt i.1)
@@ -160,10 +160,10 @@ module _ (contents sections : List ℕ) where
 
   -- an ADDEND record and one that gives a relocation with its addend
   summed : (a r : MachRel) (rs : List MachRel) (w : Meaning) → type_of a.bits ≡ ARM64_RELOC_ADDEND → takes_addend (type_of r.bits) ≡ true
-      → is_defined r ≡ true → r.offset ≡ a.offset → Ok nothing w (read_records contents sections false rs)
-      → Ok nothing (with_first (word_of r (extend (idx_of a.bits) 24)) w) (read_records contents sections false (a ∷ (r ∷ rs)))
+      → is_defined r ≡ true → r.offset ≡ a.offset → Read-so nothing w (read_records contents sections false rs)
+      → Read-so nothing (with_first (word_of r (extend (idx_of a.bits) 24)) w) (read_records contents sections false (a ∷ (r ∷ rs)))
   summed a r rs w t takes f o rest =
-      pair-cases contents sections false (Ok nothing (with_first g w)) a r rs t
+      pair-cases contents sections false (Read-so nothing (with_first g w)) a r rs t
       (λ h. give-refused _ _ nothing g w Bounds (λ i. absurd (past h i.0)))
       (λ h x e. give-refused _ _ nothing g w x (λ i. ⊎_elim (λ u. inl u) (λ u. absurd (none_of 0 refl (lone-type r false u.1)))
       (refused-left (drop r.offset contents) sections r false r.offset given 2 f (room i.0) i.1 (λ t. absurd (none_of 11 refl t)) (here e))))
@@ -183,7 +183,7 @@ module _ (contents sections : List ℕ) where
       none_of : (k : ℕ) → takes_addend k ≡ false → type_of r.bits ≡ k → ⊥
       none_of k n e = true≢false (sym takes ∙ ap takes_addend e ∙ n)
 
-      here : {s : Step} → record_of (drop a.offset contents) sections r false a.offset given 2 ≡ s
+      here : {s : Result (Reloc × ℕ) Refusal} → record_of (drop a.offset contents) sections r false a.offset given 2 ≡ s
           → record_of (drop r.offset contents) sections r false r.offset given 2 ≡ s
       here e = ap (λ (k : ℕ). record_of (drop k contents) sections r false k given 2) o ∙ e
 
@@ -195,27 +195,27 @@ module _ (contents sections : List ℕ) where
 
   -- a record that is not defined is refused
   unformed : (m : Less) (b : Bool) (r : MachRel) (rs : List MachRel) → (type_of r.bits ≡ ARM64_RELOC_ADDEND → ⊥) → is_defined r ≡ false
-      → Ok m (undefined (lack_of r)) (read_records contents sections b (r ∷ rs))
+      → Read-so m (undefined (lack_of r)) (read_records contents sections b (r ∷ rs))
   unformed m b r rs na f =
-      plain-cases contents sections b (Ok m (undefined (lack_of r))) r rs na
+      plain-cases contents sections b (Read-so m (undefined (lack_of r))) r rs na
       (λ h. turned_down _ _ m (lack_of r) Bounds)
       (λ h x e. turned_down _ _ m (lack_of r) x)
       (λ h e k q. absurd (true≢false (sym (read-formed _ sections r b _ 0 1 q) ∙ f)))
 
   -- an authenticated pointer whose stored word is none is refused
   unauthentic : (r : MachRel) (rs : List MachRel) → type_of r.bits ≡ ARM64_RELOC_AUTHENTICATED_POINTER
-      → matches authenticated (le 8 contents r.offset) ≡ false → Ok nothing (undefined not-authenticated) (read_records contents sections false (r ∷ rs))
+      → matches authenticated (le 8 contents r.offset) ≡ false → Read-so nothing (undefined not-authenticated) (read_records contents sections false (r ∷ rs))
   unauthentic r rs t f =
-      plain-cases contents sections false (Ok nothing (undefined not-authenticated)) r rs (λ a. omega arith)
+      plain-cases contents sections false (Read-so nothing (undefined not-authenticated)) r rs (λ a. omega arith)
       (λ h. turned_down _ _ nothing not-authenticated Bounds)
       (λ h x e. turned_down _ _ nothing not-authenticated x)
       (λ h e k q.
       absurd (true≢false (sym (read-authenticated _ sections r false _ 0 1 q t) ∙ ap (matches authenticated) (stored_at r) ∙ f)))
 
   unformed-pair : (a r : MachRel) (rs : List MachRel) → type_of a.bits ≡ ARM64_RELOC_ADDEND → is_defined r ≡ false
-      → Ok nothing (undefined (lack_of r)) (read_records contents sections false (a ∷ (r ∷ rs)))
+      → Read-so nothing (undefined (lack_of r)) (read_records contents sections false (a ∷ (r ∷ rs)))
   unformed-pair a r rs t f =
-      pair-cases contents sections false (Ok nothing (undefined (lack_of r))) a r rs t
+      pair-cases contents sections false (Read-so nothing (undefined (lack_of r))) a r rs t
       (λ h. turned_down _ _ nothing (lack_of r) Bounds)
       (λ h x e. turned_down _ _ nothing (lack_of r) x)
       (λ h e k q. absurd (true≢false (sym (read-formed _ sections r false _ (extend (idx_of a.bits) 24) 2 q) ∙ f)))
@@ -251,10 +251,10 @@ module _ (contents sections : List ℕ) where
 
   -- a SUBTRACTOR before what follows it
   subtracted : (r : MachRel) (rs : List MachRel) → type_of r.bits ≡ ARM64_RELOC_SUBTRACTOR → is_defined r ≡ true
-      → Ok (less (referent_of r)) (meaning_from contents sections (minus r) rs) (read_records contents sections true rs)
-      → Ok nothing (meaning_from contents sections (minus r) rs) (read_records contents sections false (r ∷ rs))
+      → Read-so (less (referent_of r)) (meaning_from contents sections (minus r) rs) (read_records contents sections true rs)
+      → Read-so nothing (meaning_from contents sections (minus r) rs) (read_records contents sections false (r ∷ rs))
   subtracted r rs t f rest =
-      plain-cases contents sections false (Ok nothing w) r rs (λ a. omega arith)
+      plain-cases contents sections false (Read-so nothing w) r rs (λ a. omega arith)
       (λ h. minus-refused _ _ w Bounds (λ ms e i. absurd (past h (minus-inside r rs ms e i))))
       (λ h x e. minus-refused _ _ w x (λ ms d i. ⊎_elim (λ u. inl u) (λ u. absurd (not-unsigned (lone-type r false u.1)))
       (refused-left (drop r.offset contents) sections r false r.offset 0 1 f (room (minus-inside r rs ms d i)) known (λ a. absurd (other-type a)) e)))
@@ -285,10 +285,10 @@ module _ (contents sections : List ℕ) where
 
   -- after what is pending
   Good : Pending → List MachRel → Type 0
-  Good none rs = Ok nothing (meaning_from contents sections none rs) (read_records contents sections false rs)
-  Good (minus q) rs = Ok (less (referent_of q)) (meaning_from contents sections (minus q) rs) (read_records contents sections true rs)
+  Good none rs = Read-so nothing (meaning_from contents sections none rs) (read_records contents sections false rs)
+  Good (minus q) rs = Read-so (less (referent_of q)) (meaning_from contents sections (minus q) rs) (read_records contents sections true rs)
   Good (plus a) rs =
-      type_of a.bits ≡ ARM64_RELOC_ADDEND → Ok nothing (meaning_from contents sections (plus a) rs) (read_records contents sections false (a ∷ rs))
+      type_of a.bits ≡ ARM64_RELOC_ADDEND → Read-so nothing (meaning_from contents sections (plus a) rs) (read_records contents sections false (a ∷ rs))
 
   good-end : (p : Pending) → Good p []
   unfolding Good meaning_from
@@ -297,7 +297,7 @@ module _ (contents sections : List ℕ) where
   good-end (plus a) = λ t. lone a t (ltb (length contents) a.offset) refl
     where
       lone : (a : MachRel) → type_of a.bits ≡ ARM64_RELOC_ADDEND → (b : Bool) → ltb (length contents) a.offset ≡ b
-          → Ok nothing (undefined addend-last) (read_records contents sections false (a ∷ []))
+          → Read-so nothing (undefined addend-last) (read_records contents sections false (a ∷ []))
       lone a t true e = rw (read_past contents sections false a [] (ltb-true _ _ e)) (turned_down _ _ nothing addend-last Bounds)
       lone a t false e = rw (read-lone contents sections false a (ltb-false _ _ e) t) (turned_down _ _ nothing addend-last LoneAddend)
 
@@ -310,7 +310,7 @@ module _ (contents sections : List ℕ) where
       A = read_records contents sections false (r ∷ rs)
 
       go : {t : Turn} → View.Alone contents sections r t → Good none rs → Good (minus r) rs → Good (plus r) rs
-          → Ok nothing (follow t (λ q. meaning_from contents sections q rs)) A
+          → Read-so nothing (follow t (λ q. meaning_from contents sections q rs)) A
       go (View.odd-addend t) n m p = tolerated _ _ nothing addend-form refl A
       go (View.addend t) n m p = p t
       go (View.unknown a f) n m p = unformed nothing false r rs a f
@@ -333,7 +333,7 @@ module _ (contents sections : List ℕ) where
       A = read_records contents sections true (r ∷ rs)
 
       go : {t : Turn} → View.AfterMinus contents sections q r t → Good none rs
-          → Ok (less (referent_of q)) (follow t (λ p. meaning_from contents sections p rs)) A
+          → Read-so (less (referent_of q)) (follow t (λ p. meaning_from contents sections p rs)) A
       go View.other-type n = tolerated _ _ (less (referent_of q)) subtractor-type refl A
       go (View.unknown u f) n = unformed (less (referent_of q)) true r rs (λ a. omega arith) f
       go View.other_place n = tolerated _ _ (less (referent_of q)) subtractor-place refl A
@@ -347,7 +347,7 @@ module _ (contents sections : List ℕ) where
       A = read_records contents sections false (a ∷ (r ∷ rs))
 
       go : {t : Turn} → type_of a.bits ≡ ARM64_RELOC_ADDEND → View.AfterPlus a r t → Good none rs
-          → Ok nothing (follow t (λ p. meaning_from contents sections p rs)) A
+          → Read-so nothing (follow t (λ p. meaning_from contents sections p rs)) A
       go t View.other-type n = tolerated _ _ nothing addend-type refl A
       go t (View.unknown f) n = unformed-pair a r rs t f
       go t View.other_place n = tolerated _ _ nothing addend-place refl A

@@ -1,5 +1,6 @@
 -- What is ignored changes nothing: the slots' bytes, contents outside the words that records are read against, addresses of sections that no record
 -- names, an ADDEND record's form, and the offset of the record after it. Steps that agree walk alike.
+use Rattle.std.specs.Prelude.{Result, Ok, Err}
 use mathlib.Core.Path.{◌≡◌, refl, sym, ap, subst, ◌∙◌}
 use mathlib.Core.Logic.{◌⊎◌}
 use mathlib.Core.Bool.{Bool, true, false}
@@ -24,18 +25,16 @@ use Rattle.arch.specs.Join.{joined}
 use Rattle.arch.specs.Table.{record_at, subtracted_at}
 use Rattle.arch.specs.Target.{section_target, target_of}
 use Rattle.arch.specs.Walk.{Reading, before, after, read_from, read_all, Fills}
-use Rattle.arch.specs.declared.step.Step.{Step}
-use Rattle.arch.specs.declared.step.Step.TheVariants as S
+use Rattle.macho.specs.declared.refusal.Refusal.{Refusal}
 use Rattle.arch.proofs.Walk.{Ends, turn_suc}
 use Rattle.arch.proofs.Fuel.{same_from}
-use Rattle.arm64_reader.specs.declared.record.Addend.{Addend}
-use Rattle.arm64_reader.specs.declared.record.Addend.TheVariants.{Held, Refused}
 use Rattle.arm64_reader.specs.Check.{word_check, check_reloc}
 use Rattle.arch.specs.Walk.{passing}
 use Rattle.arm64_reader.specs.Record.{addend_of, adding, authenticated_record, entered, record_of, own_at, step_at}
 use Rattle.arm64_reader.specs.Read.{read_records, ends_in, NoLastAddend, read_relocs}
 use Rattle.arm64_reader.specs.Fields.{is_addend, own_of, looked_at}
-use Rattle.arm64_reader.proofs.Steps.{past_is, pair_is, pair_ends, step-onward}
+use Rattle.arm64_reader.specs.Onward.{step-onward}
+use Rattle.arm64_reader.proofs.Steps.{past_is, pair_is, pair_ends}
 use Rattle.arm64_reader.proofs.Moves.{same-record, step-moved}
 use Rattle.arch.proofs.Append.{moved_none}
 use Rattle.arm64_reader.proofs.Tables.{read-append}
@@ -126,11 +125,11 @@ module _ (loc lac sections others : List ℕ) (r : MachRel) where
       go true x = rw x
       go false x = rw (x, section-same held (idx_of r.bits) refl x m)
 
-  adding-same : (subtracted : Bool) (offset next : ℕ) (a : Addend) → Same
+  adding-same : (subtracted : Bool) (offset next : ℕ) (a : Result ℕ Refusal) → Same
       → adding sections r subtracted offset next a ≡ adding others r subtracted offset next a
   unfolding targeted
-  adding-same subtracted offset next (Held a) m = ap (enter r subtracted offset next) (target-same a m)
-  adding-same subtracted offset next (Refused x) m = refl
+  adding-same subtracted offset next (Ok a) m = ap (enter r subtracted offset next) (target-same a m)
+  adding-same subtracted offset next (Err x) m = refl
 
   authenticated-same : (subtracted : Bool) (offset next : ℕ) → type_of r.bits ≡ ARM64_RELOC_AUTHENTICATED_POINTER → Same
       → authenticated_record loc r subtracted offset next ≡ authenticated_record lac r subtracted offset next
@@ -212,10 +211,10 @@ module _ (contents others sections addresses : List ℕ) (first : Bool) (rs : Li
 
 -- ---- an ADDEND record's form, and the offset of the record after it
 
-after-ends : (m : ℕ) (s : Step) (p q : ℕ → Reading) → Ends m s → p m ≡ q m → after s p ≡ after s q
+after-ends : (m : ℕ) (s : Result (Reloc × ℕ) Refusal) (p q : ℕ → Reading) → Ends m s → p m ≡ q m → after s p ≡ after s q
 unfolding Ends
-after-ends m (S.Refused x) p q h e = refl
-after-ends m (S.Read r next) p q h e = rw h (ap (before r) e)
+after-ends m (Err x) p q h e = refl
+after-ends m (Ok (r, next)) p q h e = rw h (ap (before r) e)
 
 -- an ADDEND record a with a record r after it, and another such pair
 module _ (contents sections : List ℕ) (first : Bool) (ys : List MachRel) (a b r q : MachRel)
@@ -282,7 +281,7 @@ module _ (contents sections : List ℕ) (first : Bool) (ys : List MachRel) (a b 
       (read_from (step_at contents sections first qs) (length rs) (suc (length ys))) (pair_ends contents sections first rs 0 ta)
       (same_from (step_at contents sections first rs) (step_at contents sections first qs) (length rs) 2 (step-onward contents sections first rs) later_same
       (suc (length ys)) 2 (omega arith))
-      ∙ ap (λ (s : Step). after s (read_from (step_at contents sections first qs) (length rs) (suc (length ys)))) head-same
+      ∙ ap (λ (s : Result (Reloc × ℕ) Refusal). after s (read_from (step_at contents sections first qs) (length rs) (suc (length ys)))) head-same
       ∙ sym (turn_suc (step_at contents sections first qs) (length qs) (suc (length ys)) 0 (omega arith))
 
 -- an ADDEND record that heads a pair counts by its offset, its index and its type, and the record after it by its bits

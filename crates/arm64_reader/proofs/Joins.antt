@@ -1,5 +1,6 @@
 -- Two sections one after the other, with their records: a record that reads, reads alike where more contents follow, and moved where contents stand
 -- before. Only the steps that are taken need agree, since the offset of a record after ADDEND is not looked at and may wrap.
+use Rattle.std.specs.Prelude.{Result, Ok, Err, ⊤}
 use mathlib.Core.Path.{◌≡◌, refl, sym, ap, subst, ◌∙◌}
 use mathlib.Core.Logic.{inr}
 use mathlib.Core.Bool.{Bool, true, false}
@@ -22,14 +23,9 @@ use Rattle.arch.specs.Entry.{entry_of}
 use Rattle.arch.specs.Join.{joined, mapped, moved, record_later, entry_later}
 use Rattle.arch.specs.Table.{record_at, subtracted_at}
 use Rattle.arch.specs.Walk.{read_all, Fills}
-use Rattle.macho.specs.declared.refusal.Check.{Check}
-use Rattle.macho.specs.declared.refusal.Check.TheVariants as C
-use Rattle.arch.specs.declared.step.Step.{Step}
-use Rattle.arch.specs.declared.step.Step.TheVariants as S
+use Rattle.macho.specs.declared.refusal.Refusal.{Refusal}
 use Rattle.arch.proofs.Walk.{Within}
 use Rattle.arch.proofs.Append.{Carries, carries_same, Follows, append}
-use Rattle.arm64_reader.specs.declared.record.Addend.{Addend}
-use Rattle.arm64_reader.specs.declared.record.Addend.TheVariants.{Held, Refused}
 use Rattle.arm64_reader.specs.Check.{check_reloc, word_check, pointer32}
 use Rattle.arch.specs.Entry.{targeted}
 use Rattle.arch.specs.Target.{target_of}
@@ -37,7 +33,8 @@ use Rattle.arm64_reader.specs.Support.{supported_of, forms_of}
 use Rattle.arch.specs.Walk.{passing, Reads}
 use Rattle.arm64_reader.specs.Record.{addend_of, adding, authenticated_record, entered, record_of, step_at}
 use Rattle.arm64_reader.specs.Read.{read_records, ends_in}
-use Rattle.arm64_reader.proofs.Steps.{past_is, lone_is, pair_is, other-is, step-onward, step-within}
+use Rattle.arm64_reader.specs.Onward.{step-onward}
+use Rattle.arm64_reader.proofs.Steps.{past_is, lone_is, pair_is, other-is, step-within}
 use Rattle.arm64_reader.proofs.Moves.{step-moved}
 use Rattle.arm64_reader.proofs.Tables.{left-alike, right-alike}
 
@@ -55,23 +52,23 @@ drop-after (x ∷ xs) ys o (suc k) e = drop-after xs ys o k (omega arith)
 
 -- ---- more contents after a record that reads
 
-Passed : Check → Type 0
-Passed C.Fit = Unit {0}
-Passed (C.Refused x) = ⊥
+Passed : Result ⊤ Refusal → Type 0
+Passed (Ok tt) = Unit {0}
+Passed (Err x) = ⊥
 
-Kept : Addend → Type 0
-Kept (Held a) = Unit {0}
-Kept (Refused x) = ⊥
+Kept : Result ℕ Refusal → Type 0
+Kept (Ok a) = Unit {0}
+Kept (Err x) = ⊥
 
-reads-passed : (c : Check) (s : Step) → Reads (passing c s) → Passed c × Reads s
+reads-passed : (c : Result ⊤ Refusal) (s : Result (Reloc × ℕ) Refusal) → Reads (passing c s) → Passed c × Reads s
 unfolding Passed
-reads-passed C.Fit s h = (tt, h)
-reads-passed (C.Refused x) s h = absurd h
+reads-passed (Ok tt) s h = (tt, h)
+reads-passed (Err x) s h = absurd h
 
-reads_kept : (sections : List ℕ) (r : MachRel) (subtracted : Bool) (offset next : ℕ) (a : Addend) → Reads (adding sections r subtracted offset next a) → Kept a
+reads_kept : (sections : List ℕ) (r : MachRel) (subtracted : Bool) (offset next : ℕ) (a : Result ℕ Refusal) → Reads (adding sections r subtracted offset next a) → Kept a
 unfolding Kept
-reads_kept sections r subtracted offset next (Held a) h = tt
-reads_kept sections r subtracted offset next (Refused x) h = absurd h
+reads_kept sections r subtracted offset next (Ok a) h = tt
+reads_kept sections r subtracted offset next (Err x) h = absurd h
 
 module _ (loc more : List ℕ) where
   longer : (n : ℕ) → n ≤ length loc → n ≤ length (loc ++ more)
@@ -156,7 +153,7 @@ module _ (c more sections : List ℕ) (first : Bool) (rs : List MachRel) (i : �
   inside-reads h = go (ltb (length c) off) refl
     where
       go : (t : Bool) → ltb (length c) off ≡ t → off ≤ length c
-      go true e = absurd (subst (λ (s : Step). Reads s) (past_is c sections first rs i (ltb-true _ _ e)) h)
+      go true e = absurd (subst (λ (s : Result (Reloc × ℕ) Refusal). Reads s) (past_is c sections first rs i (ltb-true _ _ e)) h)
       go false e = ltb-false _ _ e
 
   pair_reads : Reads (step_at c sections first rs i) → type_of (record_at rs i).bits ≡ ARM64_RELOC_ADDEND → i + 1 < length rs
@@ -164,7 +161,7 @@ module _ (c more sections : List ℕ) (first : Bool) (rs : List MachRel) (i : �
     where
       go : (b : Bool) → ltb (i + 1) (length rs) ≡ b → i + 1 < length rs
       go true e = ltb-true _ _ e
-      go false e = absurd (subst (λ (s : Step). Reads s) (lone_is c sections first rs i (inside-reads h) t (ltb-false _ _ e)) h)
+      go false e = absurd (subst (λ (s : Result (Reloc × ℕ) Refusal). Reads s) (lone_is c sections first rs i (inside-reads h) t (ltb-false _ _ e)) h)
 
   step-longer : Reads (step_at c sections first rs i) → step_at (c ++ more) sections first rs i ≡ step_at c sections first rs i
   step-longer h = go (eqb (type_of (record_at rs i).bits) ARM64_RELOC_ADDEND) refl
@@ -186,11 +183,11 @@ module _ (c more sections : List ℕ) (first : Bool) (rs : List MachRel) (i : �
           let t = eqb-true _ _ e in
           let l = pair_reads h t in
           let p = pair_is c sections first rs i here t l in
-          pair_is (c ++ more) sections first rs i there t l ∙ same _ _ _ _ (subst (λ (s : Step). Reads s) p h) ∙ sym p
+          pair_is (c ++ more) sections first rs i there t l ∙ same _ _ _ _ (subst (λ (s : Result (Reloc × ℕ) Refusal). Reads s) p h) ∙ sym p
       go false e =
           let t = eqb-false _ _ e in
           let p = other-is c sections first rs i here t in
-          other-is (c ++ more) sections first rs i there t ∙ same _ _ _ _ (subst (λ (s : Step). Reads s) p h) ∙ sym p
+          other-is (c ++ more) sections first rs i there t ∙ same _ _ _ _ (subst (λ (s : Result (Reloc × ℕ) Refusal). Reads s) p h) ∙ sym p
 
 -- ---- records moved
 
@@ -232,11 +229,11 @@ module _ (c pad e sections : List ℕ) (first : Bool) (xs ys : List MachRel) (fi
   first_step : (i : ℕ) → i < length xs → Carries ⊥ (length xs) (step_at c sections first xs i) (step_at whole sections first (xs ++ zs) i)
   first_step i h = go (step_at c sections first xs i) refl
     where
-      go : (t : Step) → step_at c sections first xs i ≡ t → Carries ⊥ (length xs) t (step_at whole sections first (xs ++ zs) i)
-      go (S.Refused x) q = unfold Carries in λ (b : ⊥). absurd b
-      go (S.Read f next) q =
-          let p : Reads (step_at c sections first xs i) = subst (λ (s : Step). Reads s) (sym q) tt in
-          carries_same ⊥ (length xs) (S.Read f next) _
+      go : (t : Result (Reloc × ℕ) Refusal) → step_at c sections first xs i ≡ t → Carries ⊥ (length xs) t (step_at whole sections first (xs ++ zs) i)
+      go (Err x) q = unfold Carries in λ (b : ⊥). absurd b
+      go (Ok (f, next)) q =
+          let p : Reads (step_at c sections first xs i) = subst (λ (s : Result (Reloc × ℕ) Refusal). Reads s) (sym q) tt in
+          carries_same ⊥ (length xs) (Ok (f, next)) _
           (left-alike whole sections first xs zs i h (pair_reads c (pad ++ e) sections first xs i p) ∙ step-longer c (pad ++ e) sections first xs i p ∙ q)
           (subst (Within (length xs)) q (step-within c sections first xs i h))
 
@@ -264,22 +261,22 @@ module _ (c pad e sections : List ℕ) (first : Bool) (xs ys : List MachRel) (fi
           drop-after c (pad ++ e) (length pad + (record_at ys j).offset) (record_at zs j).offset (omega arith)
           ∙ drop-after pad e (record_at ys j).offset (length pad + (record_at ys j).offset) refl
 
-  second_reads : (j : ℕ) (f : Reloc) (next : ℕ) → j < length ys → step_at e sections last ys j ≡ S.Read f next
-      → step_at whole sections first (xs ++ zs) (length xs + j) ≡ S.Read (entry_later d f) (length xs + next)
+  second_reads : (j : ℕ) (f : Reloc) (next : ℕ) → j < length ys → step_at e sections last ys j ≡ Ok (f, next)
+      → step_at whole sections first (xs ++ zs) (length xs + j) ≡ Ok (entry_later d f, length xs + next)
   second_reads j f next h q =
-      let p : Reads (step_at e sections last ys j) = subst (λ (s : Step). Reads s) (sym q) tt in
+      let p : Reads (step_at e sections last ys j) = subst (λ (s : Result (Reloc × ℕ) Refusal). Reads s) (sym q) tt in
       right-alike whole sections first xs zs j (subst (λ (n : ℕ). j < n) (sym zs-length) h)
       ∙ ap (moved (length xs) (λ (x : Reloc). x))
       (second_alike j h p ∙ ap (moved 0 (entry_later d)) q)
-      ∙ ap (λ (n : ℕ). S.Read (entry_later d f) n) {x = length xs + (0 + next)} {y = length xs + next} (omega arith)
+      ∙ ap (λ (n : ℕ). Ok (entry_later d f, n)) {x = length xs + (0 + next)} {y = length xs + next} (omega arith)
 
   second-step : (j : ℕ) → j < length ys
       → Follows ⊥ (length xs) (entry_later d) (step_at e sections last ys j) (step_at whole sections first (xs ++ zs) (length xs + j))
   second-step j h = go (step_at e sections last ys j) refl
     where
-      go : (t : Step) → step_at e sections last ys j ≡ t → Follows ⊥ (length xs) (entry_later d) t (step_at whole sections first (xs ++ zs) (length xs + j))
-      go (S.Refused x) q = unfold Follows in λ (b : ⊥). absurd b
-      go (S.Read f next) q = unfold Follows in second_reads j f next h q
+      go : (t : Result (Reloc × ℕ) Refusal) → step_at e sections last ys j ≡ t → Follows ⊥ (length xs) (entry_later d) t (step_at whole sections first (xs ++ zs) (length xs + j))
+      go (Err x) q = unfold Follows in λ (b : ⊥). absurd b
+      go (Ok (f, next)) q = unfold Follows in second_reads j f next h q
 
   -- the entries of the first section, then those of the second with their offsets moved and nothing else changed
   pub join-reads : Fills (read_records c sections first xs) → Fills (read_records e sections last ys)
@@ -305,8 +302,8 @@ wrapping = record { offset = 0; bits = 0xa4000001 } ∷ (record { offset = 0xfff
 
 -- by itself the second of them is past 4 bytes of contents; 4 bytes further on its offset is 3, and it would read: no walk takes that step, and a law
 -- that asked for agreement there would not speak of this table
-pub untaken : (step_at (replicate 4 0) [] false wrapping 1 ≡ S.Refused Bounds)
+pub untaken : (step_at (replicate 4 0) [] false wrapping 1 ≡ Err Bounds)
     × (step_at (replicate 8 0) [] false (map (record_later 4) wrapping) 1
-    ≡ S.Read (record { offset = 3; ty = 3; size = 4; is_pcrel = 1; is_subtracted = 0; target = 5; signing = 0; addend = 0 }) 2)
+    ≡ Ok (record { offset = 3; ty = 3; size = 4; is_pcrel = 1; is_subtracted = 0; target = 5; signing = 0; addend = 0 }, 2))
 unfolding step_at record_of check_reloc word_check supported_of forms_of pointer32 addend_of targeted target_of subtracted_at choose
 untaken = (refl, refl)

@@ -1,4 +1,5 @@
 -- A step depends on its records' bits, on the contents from its offset on and on where the list stands: what agrees in these reads alike.
+use Rattle.std.specs.Prelude.{Result, Ok, Err, ⊤}
 use mathlib.Core.Path.{◌≡◌, refl, sym, ap, ap₂, ◌∙◌}
 use mathlib.Core.Bool.{Bool, true, false}
 use mathlib.Core.List.{List}
@@ -23,14 +24,7 @@ use Rattle.arch.specs.Entry.{entry_of, enter, targeted}
 use Rattle.arch.specs.Join.{moved}
 use Rattle.arch.specs.Table.{record_at, subtracted_at}
 use Rattle.arch.specs.Target.{target_of}
-use Rattle.arch.specs.declared.target.Target.{Target}
-use Rattle.arch.specs.declared.target.Target.TheVariants as T
-use Rattle.macho.specs.declared.refusal.Check.{Check}
-use Rattle.macho.specs.declared.refusal.Check.TheVariants as C
-use Rattle.arch.specs.declared.step.Step.{Step}
-use Rattle.arch.specs.declared.step.Step.TheVariants as S
-use Rattle.arm64_reader.specs.declared.record.Addend.{Addend}
-use Rattle.arm64_reader.specs.declared.record.Addend.TheVariants.{Held, Refused}
+use Rattle.macho.specs.declared.refusal.Refusal.{Refusal}
 use Rattle.arm64_reader.specs.Support.{supported_of}
 use Rattle.arm64_reader.specs.Check.{pointer32, check_reloc}
 use Rattle.arch.specs.Walk.{passing}
@@ -42,20 +36,20 @@ abbrev bare : ℕ → MachRel
 bare bits = record { offset = 0; bits = bits }
 
 module _ (sections : List ℕ) (r : MachRel) (subtracted : Bool) (offset next : ℕ) where
-  target-bits : (t : Target) → enter r subtracted offset next t ≡ enter (bare r.bits) subtracted offset next t
-  target-bits (T.Named target addend) = refl
-  target-bits (T.Refused x) = refl
+  target-bits : (t : Result (ℕ × ℕ) Refusal) → enter r subtracted offset next t ≡ enter (bare r.bits) subtracted offset next t
+  target-bits (Ok (target, addend)) = refl
+  target-bits (Err x) = refl
 
-  addend-bits : (a : Addend) → adding sections r subtracted offset next a ≡ adding sections (bare r.bits) subtracted offset next a
+  addend-bits : (a : Result ℕ Refusal) → adding sections r subtracted offset next a ≡ adding sections (bare r.bits) subtracted offset next a
   unfolding targeted target_of
-  addend-bits (Held addend) = target-bits (target_of sections r addend)
-  addend-bits (Refused x) = refl
+  addend-bits (Ok addend) = target-bits (target_of sections r addend)
+  addend-bits (Err x) = refl
 
   by_bits : (loc : List ℕ) (addend : ℕ)
       → record_of loc sections r subtracted offset addend next ≡ record_of loc sections (bare r.bits) subtracted offset addend next
   unfolding record_of check_reloc supported_of pointer32 addend_of authenticated_record
   by_bits loc addend =
-      ap (λ (s : Step). passing (check_reloc r subtracted loc)
+      ap (λ (s : Result (Reloc × ℕ) Refusal). passing (check_reloc r subtracted loc)
       (choose (eqb (type_of r.bits) ARM64_RELOC_AUTHENTICATED_POINTER) (authenticated_record loc r subtracted offset next) s))
       (addend-bits (addend_of r loc addend))
 
@@ -66,23 +60,23 @@ Shifts f from to =
     → f (with_signing (entry_of r subtracted from target addend) signing) ≡ with_signing (entry_of r subtracted to target addend) signing
 
 module _ (d : ℕ) (f : Reloc → Reloc) (from to : ℕ) (shifts : Shifts f from to) where
-  target-moved : (r : MachRel) (subtracted : Bool) (next : ℕ) (t : Target) → enter r subtracted to (d + next) t ≡ moved d f (enter r subtracted from next t)
-  target-moved r subtracted next (T.Named target addend) = ap (λ (e : Reloc). S.Read e (d + next)) (sym (shifts r subtracted target addend 0))
-  target-moved r subtracted next (T.Refused x) = refl
+  target-moved : (r : MachRel) (subtracted : Bool) (next : ℕ) (t : Result (ℕ × ℕ) Refusal) → enter r subtracted to (d + next) t ≡ moved d f (enter r subtracted from next t)
+  target-moved r subtracted next (Ok (target, addend)) = ap (λ (e : Reloc). Ok (e, d + next)) (sym (shifts r subtracted target addend 0))
+  target-moved r subtracted next (Err x) = refl
 
-  addend-moved : (sections : List ℕ) (r : MachRel) (subtracted : Bool) (next : ℕ) (a : Addend)
+  addend-moved : (sections : List ℕ) (r : MachRel) (subtracted : Bool) (next : ℕ) (a : Result ℕ Refusal)
       → adding sections r subtracted to (d + next) a ≡ moved d f (adding sections r subtracted from next a)
   unfolding targeted
-  addend-moved sections r subtracted next (Held addend) = target-moved r subtracted next (target_of sections r addend)
-  addend-moved sections r subtracted next (Refused x) = refl
+  addend-moved sections r subtracted next (Ok addend) = target-moved r subtracted next (target_of sections r addend)
+  addend-moved sections r subtracted next (Err x) = refl
 
   authenticated-moved : (loc : List ℕ) (r : MachRel) (subtracted : Bool) (next : ℕ)
       → authenticated_record loc r subtracted to (d + next) ≡ moved d f (authenticated_record loc r subtracted from next)
   unfolding authenticated_record
   authenticated-moved loc r subtracted next =
       let word = le 8 loc 0 in
-      ap (choose (ltb (length loc) 8) (S.Refused Bounds))
-      (ap (λ (e : Reloc). choose (matches authenticated word) (S.Read e (d + next)) (S.Refused NotAuthenticated))
+      ap (choose (ltb (length loc) 8) (Err Bounds))
+      (ap (λ (e : Reloc). choose (matches authenticated word) (Ok (e, d + next)) (Err NotAuthenticated))
       (sym (shifts r subtracted (idx_of r.bits) (extend word 32) (signing_in word)))
       ∙ sym (choose-ap (moved d f) (matches authenticated word) _ _))
       ∙ sym (choose-ap (moved d f) (ltb (length loc) 8) _ _)
@@ -94,9 +88,9 @@ module _ (d : ℕ) (f : Reloc → Reloc) (from to : ℕ) (shifts : Shifts f from
       (addend-moved sections r subtracted next (addend_of r loc addend))
       ∙ sym (choose-ap (moved d f) (eqb (type_of r.bits) ARM64_RELOC_AUTHENTICATED_POINTER) _ _)
 
-  check-moved : (c : Check) (s t : Step) → s ≡ moved d f t → passing c s ≡ moved d f (passing c t)
-  check-moved C.Fit s t e = e
-  check-moved (C.Refused x) s t e = refl
+  check-moved : (c : Result ⊤ Refusal) (s t : Result (Reloc × ℕ) Refusal) → s ≡ moved d f t → passing c s ≡ moved d f (passing c t)
+  check-moved (Ok tt) s t e = e
+  check-moved (Err x) s t e = refl
 
   -- the same record at another offset of contents that are the same from there on, d records further on
   pub record-moved : (loc sections : List ℕ) (r : MachRel) (subtracted : Bool) (addend next : ℕ)

@@ -1,5 +1,6 @@
 -- A plain record reads whatever stands at its place: its form is one that its type takes, it names a symbol, and its type is none of those whose bytes
 -- are looked at. Each by one test of every type and form.
+use Rattle.std.specs.Prelude.{Ok}
 use mathlib.Core.Path.{◌≡◌, refl, sym, ap, ◌∙◌}
 use mathlib.Core.Bool.{Bool, true, false, not, ◌&&◌, ◌||◌}
 use mathlib.Core.List.{List}
@@ -18,7 +19,6 @@ use Rattle.macho.specs.declared.mach_rel.MachRel.{MachRel}
 use Rattle.arch.specs.Entry.{entry_of, targeted}
 use Rattle.arch.specs.Form.{form, member}
 use Rattle.arch.specs.Target.{target_of}
-use Rattle.arch.specs.declared.step.Step.TheVariants as S
 use Rattle.arch.proofs.Forms.{each-form, implied}
 use Rattle.arm64_reader.specs.Support.{forms_of, supported_of}
 use Rattle.arm64_reader.specs.Plain.{plain_forms, plain_of}
@@ -30,7 +30,7 @@ abbrev pub Plain : MachRel → Type 0
 Plain r =
     (type_of r.bits ≡ ARM64_RELOC_ADDEND → ⊥)
     × ((loc sections : List ℕ) (subtracted : Bool) (offset next : ℕ)
-    → record_of loc sections r subtracted offset 0 next ≡ S.Read (entry_of r subtracted offset (idx_of r.bits) 0) next)
+    → record_of loc sections r subtracted offset 0 next ≡ Ok (entry_of r subtracted offset (idx_of r.bits) 0, next))
 
 -- what is needed of a record
 module _ (r : MachRel) where

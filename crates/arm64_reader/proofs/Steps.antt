@@ -1,4 +1,5 @@
 -- The step at a record in each of its cases: past the contents, an ADDEND record with and without a record after it, any other record.
+use Rattle.std.specs.Prelude.{Result, Ok, Err}
 use mathlib.Core.Path.{◌≡◌, refl, sym, ap, subst, ◌∙◌}
 use mathlib.Core.Bool.{Bool, true, false}
 use mathlib.Core.List.{List}
@@ -19,16 +20,14 @@ use Rattle.macho.specs.declared.refusal.Refusal.TheVariants.{Bounds, LoneAddend}
 use Rattle.arch.specs.Entry.{entry_of}
 use Rattle.arch.specs.Table.{records_of, record_at, subtracted_at}
 use Rattle.arch.specs.Walk.{read_all}
-use Rattle.arch.specs.declared.step.Step.{Step}
-use Rattle.arch.specs.declared.step.Step.TheVariants as S
+use Rattle.macho.specs.declared.refusal.Refusal.{Refusal}
 use Rattle.arch.proofs.Records.{length-records}
-use Rattle.arch.proofs.Walk.{Later, Within, Ends, Onward, refused-later, refused-within, ends-later, ends-within, targeted-ends, onward}
-use Rattle.arch.proofs.Walk.{passing-ends, passing-reads}
-use Rattle.arm64_reader.specs.declared.record.Addend.{Addend}
-use Rattle.arm64_reader.specs.declared.record.Addend.TheVariants.{Held, Refused}
+use Rattle.arch.proofs.Walk.{Within, Ends, refused-within, ends-within}
+use Rattle.arch.proofs.Walk.{passing-reads}
 use Rattle.arm64_reader.specs.Check.{check_reloc}
 use Rattle.arch.specs.Walk.{Reads}
-use Rattle.arm64_reader.specs.Record.{addend_of, adding, authenticated_record, entered, record_of, own_at, step_at}
+use Rattle.arm64_reader.specs.Onward.{record-ends}
+use Rattle.arm64_reader.specs.Record.{entered, record_of, own_at, step_at}
 use Rattle.arm64_reader.specs.Plain.{plain_of}
 use Rattle.arm64_reader.proofs.PlainRecords.{plain-reads}
 use Rattle.arm64_reader.specs.Fields.{is_addend, own_of, given_of}
@@ -46,12 +45,12 @@ module _ (contents sections : List ℕ) (before : Bool) (rs : List MachRel) (i :
   abbrev off : ℕ
   off = (record_at rs i).offset
 
-  pub past_is : length contents < off → step_at contents sections before rs i ≡ S.Refused Bounds
+  pub past_is : length contents < off → step_at contents sections before rs i ≡ Err Bounds
   unfolding step_at choose
   past_is h = simp (lt-ltb _ _ h)
 
   pub lone_is : off ≤ length contents → type_of (record_at rs i).bits ≡ ARM64_RELOC_ADDEND → length rs ≤ i + 1
-      → step_at contents sections before rs i ≡ S.Refused LoneAddend
+      → step_at contents sections before rs i ≡ Err LoneAddend
   unfolding step_at choose
   lone_is h t l = simp (le-ltb _ _ h, eq-eqb _ _ t, le-ltb _ _ l)
 
@@ -82,11 +81,11 @@ module _ (contents sections : List ℕ) (before : Bool) (rs : List MachRel) (i :
       go false e = simp (le-ltb _ _ h, e)
 
   -- and one that has none
-  pub none_is : off ≤ length contents → i < length rs → length rs ≤ own_of rs i → step_at contents sections before rs i ≡ S.Refused LoneAddend
+  pub none_is : off ≤ length contents → i < length rs → length rs ≤ own_of rs i → step_at contents sections before rs i ≡ Err LoneAddend
   unfolding step_at choose
   none_is h k l = go (is_addend (record_at rs i)) refl
     where
-      go : (b : Bool) → is_addend (record_at rs i) ≡ b → step_at contents sections before rs i ≡ S.Refused LoneAddend
+      go : (b : Bool) → is_addend (record_at rs i) ≡ b → step_at contents sections before rs i ≡ Err LoneAddend
       go true e =
           let m : length rs ≤ i + 1 = rw e at l in
           simp (le-ltb _ _ h, e, le-ltb _ _ m)
@@ -97,7 +96,7 @@ module _ (contents sections : List ℕ) (before : Bool) (rs : List MachRel) (i :
   -- a record that reads whatever stands at its place
   pub plain-is : off ≤ length contents → plain_of (record_at rs i) ≡ true
       → step_at contents sections before rs i
-      ≡ S.Read (entry_of (record_at rs i) (subtracted_at ARM64_RELOC_SUBTRACTOR before rs i) off (idx_of (record_at rs i).bits) 0) (i + 1)
+      ≡ Ok (entry_of (record_at rs i) (subtracted_at ARM64_RELOC_SUBTRACTOR before rs i) off (idx_of (record_at rs i).bits) 0, i + 1)
   plain-is h p =
       let q = plain-reads (record_at rs i) p in
       other-is h q.0 ∙ q.1 (drop off contents) sections (subtracted_at ARM64_RELOC_SUBTRACTOR before rs i) off (i + 1)
@@ -113,7 +112,7 @@ own-there records i e h = omega (arith, length-records records, e)
 
 pub own-missing : (contents records sections : List ℕ) (i : ℕ) {r : MachRel} {j : ℕ} → r ≡ record_at (records_of records) i → r.offset ≤ length contents
     → i < length records / 8 → j ≡ own_of (records_of records) i → length records / 8 ≤ j
-    → S.Refused LoneAddend ≡ step_at contents sections false (records_of records) i
+    → Err LoneAddend ≡ step_at contents sections false (records_of records) i
 own-missing contents records sections i f h k e l =
     sym
     (none_is contents sections false (records_of records) i (offset-within contents f h) (omega (arith, length-records records))
@@ -135,33 +134,8 @@ entered-is contents sections before rs i h l r =
 
 -- ---- where a step ends
 
-adding-ends : (sections : List ℕ) (r : MachRel) (subtracted : Bool) (offset next : ℕ) (a : Addend) → Ends next (adding sections r subtracted offset next a)
-unfolding Ends
-adding-ends sections r subtracted offset next (Held addend) = targeted-ends sections r subtracted offset addend next
-adding-ends sections r subtracted offset next (Refused x) = tt
-
-authenticated-ends : (loc : List ℕ) (r : MachRel) (subtracted : Bool) (offset next : ℕ) → Ends next (authenticated_record loc r subtracted offset next)
-unfolding authenticated_record Ends
-authenticated-ends loc r subtracted offset next = chosen (Ends next) _ _ _ tt (chosen (Ends next) _ _ _ refl tt)
-
-pub record-ends : (loc sections : List ℕ) (r : MachRel) (subtracted : Bool) (offset addend next : ℕ)
-    → Ends next (record_of loc sections r subtracted offset addend next)
-unfolding record_of
-record-ends loc sections r subtracted offset addend next =
-    passing-ends next (check_reloc r subtracted loc) _
-    (chosen (Ends next) _ _ _ (authenticated-ends loc r subtracted offset next) (adding-ends sections r subtracted offset next (addend_of r loc addend)))
-
 module _ (contents sections : List ℕ) (before : Bool) (rs : List MachRel) where
-  -- each step goes on
-  pub step-onward : Onward (step_at contents sections before rs)
-  unfolding step_at
-  step-onward i =
-      chosen (Later i) _ _ _ (refused-later i Bounds)
-      (chosen (Later i) _ _ _
-      (chosen (Later i) _ _ _ (ends-later i (i + 1 + 1) (omega arith) _ (record-ends _ _ _ _ _ _ (i + 1 + 1))) (refused-later i LoneAddend))
-      (ends-later i (i + 1) (omega arith) _ (record-ends _ _ _ _ _ _ (i + 1))))
-
-  -- and no step goes past the list
+  -- no step goes past the list
   pub step-within : (i : ℕ) → i < length rs → Within (length rs) (step_at contents sections before rs i)
   unfolding step_at
   step-within i h =
@@ -184,12 +158,9 @@ module _ (contents sections : List ℕ) (before : Bool) (rs : List MachRel) wher
 -- ---- a table of bytes
 
 module _ (contents records sections : List ℕ) where
-  abbrev pub table_step : ℕ → Step
+  abbrev pub table_step : ℕ → Result (Reloc × ℕ) Refusal
   table_step = step_at contents sections false (records_of records)
 
   pub table_is : read_table contents records sections ≡ read_all table_step (length records / 8)
   unfolding read_records
   table_is = ap (read_all table_step) (length-records records)
-
-  pub table-onward : (i : ℕ) {s : Step} {e : Reloc} {next : ℕ} → s ≡ S.Read e next → s ≡ table_step i → i < next
-  table-onward i p q = onward table_step (step-onward contents sections false (records_of records)) i p q

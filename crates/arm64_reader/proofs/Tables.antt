@@ -1,4 +1,5 @@
 -- The append law of the reader: a list of records read after another. Its steps agree with those of the two lists, and `arch` joins the walks.
+use Rattle.std.specs.Prelude.{Result, Err}
 use mathlib.Core.Path.{◌≡◌, refl, sym, ap, subst, ◌∙◌}
 use mathlib.Core.Logic.{◌⊎◌, inl}
 use mathlib.Core.Bool.{Bool, true, false}
@@ -19,13 +20,12 @@ use Rattle.arch.specs.Entry.{entry_of}
 use Rattle.arch.specs.Join.{joined, moved}
 use Rattle.arch.specs.Table.{records_of, record_at}
 use Rattle.arch.specs.Walk.{read_all, Fills}
-use Rattle.arch.specs.declared.step.Step.{Step}
-use Rattle.arch.specs.declared.step.Step.TheVariants as S
 use Rattle.arch.proofs.Records.{records-append, left_at, right-at, left-subtracted, right-subtracted}
 use Rattle.arch.proofs.Append.{Carries, carries_same, follows-moved, append, mapped-same, moved_none}
 use Rattle.arm64_reader.specs.Record.{step_at}
 use Rattle.arm64_reader.specs.Read.{read_records, ends_in, NoLastAddend, read_table}
-use Rattle.arm64_reader.proofs.Steps.{past_is, lone_is, step-onward, step-within}
+use Rattle.arm64_reader.specs.Onward.{step-onward}
+use Rattle.arm64_reader.proofs.Steps.{past_is, lone_is, step-within}
 use Rattle.arm64_reader.proofs.Moves.{step-moved}
 
 module _ (contents sections : List ℕ) (before : Bool) (xs ys : List MachRel) where
@@ -53,17 +53,17 @@ module _ (contents sections : List ℕ) (before : Bool) (xs ys : List MachRel) w
       → Carries (NoLastAddend xs) (length xs) (step_at contents sections before xs i) (step_at contents sections before (xs ++ ys) i)
   left-carries i h = go (ltb (i + 1) (length xs)) refl (eqb (type_of (record_at xs i).bits) ARM64_RELOC_ADDEND) refl
     where
-      t : Step
+      t : Result (Reloc × ℕ) Refusal
       t = step_at contents sections before xs i
 
-      u : Step
+      u : Result (Reloc × ℕ) Refusal
       u = step_at contents sections before (xs ++ ys) i
 
       alike : (type_of (record_at xs i).bits ≡ ARM64_RELOC_ADDEND → i + 1 < length xs) → Carries (NoLastAddend xs) (length xs) t u
       alike g = carries_same (NoLastAddend xs) (length xs) t u (left-alike i h g) (step-within contents sections before xs i h)
 
-      refuses : (x : Refusal) → t ≡ S.Refused x → (NoLastAddend xs → ⊥) → Carries (NoLastAddend xs) (length xs) t u
-      refuses x e n = subst (λ (v : Step). Carries (NoLastAddend xs) (length xs) v u) (sym e) (unfold Carries in λ p. absurd (n p))
+      refuses : (x : Refusal) → t ≡ Err x → (NoLastAddend xs → ⊥) → Carries (NoLastAddend xs) (length xs) t u
+      refuses x e n = subst (λ (v : Result (Reloc × ℕ) Refusal). Carries (NoLastAddend xs) (length xs) v u) (sym e) (unfold Carries in λ p. absurd (n p))
 
       last : i + 1 ≡ length xs → type_of (record_at xs i).bits ≡ ARM64_RELOC_ADDEND → NoLastAddend xs → ⊥
       last e a f = f (ap (λ (k : ℕ). type_of (record_at xs k).bits) {x = length xs - 1} {y = i} (omega arith) ∙ a)

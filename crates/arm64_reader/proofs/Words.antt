@@ -1,4 +1,5 @@
 -- The word tests of number 6 against the manual: what `is_add_either` and `LoadStore::decode` answer, instruction by instruction.
+use Rattle.std.specs.Prelude.{Option}
 use mathlib.Core.Path.{◌≡◌, refl, sym, ap, ap₂, ◌∙◌}
 use mathlib.Core.Bool.{Bool, true, false, not, ◌||◌}
 use Prim.Native.Nat.{ℕ, zero, suc, ◌^◌, ◌<◌}
@@ -8,7 +9,7 @@ use Rattle.util.specs.Diagram.{matches}
 use Rattle.arm64_insn.specs.Encoding.{add_unshifted}
 use Rattle.arm64_insn.specs.LoadStore.{load_store_in}
 use Rattle.arm64_insn.specs.Manual as M
-use Rattle.arm64_insn.specs.declared.ldst.LoadStoreWord.{LoadStoreWord}
+use Rattle.arm64_insn.specs.declared.ldst.LoadStore.{LoadStore}
 use Rattle.arm64_insn.proofs.Decodes.{load-store-manual, unallocated-none, add-either-decodes, decodes-add-either}
 use Rattle.arm64_reader.specs.Check.{loaded_in, loaded_bytes, got_fits, tlvp_fits}
 use Rattle.arm64_reader.specs.Words.{is_unshifted_add, loaded_by}
@@ -71,4 +72,4 @@ tlvp-fits-is w = ap (λ (n : ℕ). not (eqb n 0)) (loaded-is w)
 -- so on no word that the manual leaves unallocated
 pub tlvp-unallocated : (w : ℕ) → M.allocated w ≡ false → tlvp_fits w ≡ false
 unfolding tlvp_fits loaded_bytes
-tlvp-unallocated w n = ap (λ (x : LoadStoreWord). not (eqb (loaded_in x) 0)) (unallocated-none w n).2
+tlvp-unallocated w n = ap (λ (x : Option LoadStore). not (eqb (loaded_in x) 0)) (unallocated-none w n).2

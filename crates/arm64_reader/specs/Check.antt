@@ -1,5 +1,5 @@
 -- The checks of one relocation record (arch/arm64.rs, `check_reloc`; RULES 4.6 to 4.8: numbers 3, 5 and 6).
-use Rattle.std.specs.Prelude.{ℕ, Bool, not, ◌&&◌, ◌||◌, List, length, eqb, ltb}
+use Rattle.std.specs.Prelude.{ℕ, Bool, not, ◌&&◌, ◌||◌, List, length, eqb, ltb, Result, Ok, Err, Option, Some, None, ⊤}
 use Rattle.util.specs.Choice.{choose}
 use Rattle.util.specs.Word.{le}
 use Rattle.util.specs.Diagram.{matches}
@@ -7,18 +7,16 @@ use Rattle.macho.specs.MachRel.{p2size_of, type_of}
 use Rattle.macho.specs.Types.{ARM64_RELOC_UNSIGNED, ARM64_RELOC_GOT_LOAD_PAGEOFF12, ARM64_RELOC_TLVP_LOAD_PAGEOFF12}
 use Rattle.macho.specs.declared.mach_rel.MachRel.{MachRel}
 use Rattle.macho.specs.declared.refusal.Refusal.TheVariants.{Bounds, Unsupported, Unfit}
-use Rattle.macho.specs.declared.refusal.Check.{Check}
-use Rattle.macho.specs.declared.refusal.Check.TheVariants.{Fit, Refused}
+use Rattle.macho.specs.declared.refusal.Refusal.{Refusal}
+use Rattle.arm64_insn.specs.declared.ldst.LoadStore.{LoadStore}
 use Rattle.arm64_insn.specs.Encoding.{add_unshifted}
 use Rattle.arm64_insn.specs.LoadStore.{load_store_of}
-use Rattle.arm64_insn.specs.declared.ldst.LoadStoreWord.{LoadStoreWord}
-use Rattle.arm64_insn.specs.declared.ldst.LoadStoreWord.TheVariants.{LoadStore, Other}
 use Rattle.arm64_reader.specs.Support.{supported_of}
 
 -- the bytes that a decoded word loads, 0 where it is no load
-abbrev pub loaded_in : LoadStoreWord → ℕ
-loaded_in Other = 0
-loaded_in (LoadStore l) = choose l.is_store 0 l.size
+abbrev pub loaded_in : Option LoadStore → ℕ
+loaded_in None = 0
+loaded_in (Some l) = choose l.is_store 0 l.size
 
 -- the same of a word
 unfoldable pub loaded_bytes : ℕ → ℕ
@@ -37,16 +35,16 @@ unfoldable pub pointer32 : MachRel → Bool → Bool
 pointer32 r subtracted = eqb (type_of r.bits) ARM64_RELOC_UNSIGNED && (eqb (p2size_of r.bits) 2 && not subtracted)
 
 -- a page offset against the word at its place: 3, then 6
-unfoldable pub word_check : ℕ → List ℕ → Check
+unfoldable pub word_check : ℕ → List ℕ → Result ⊤ Refusal
 word_check ty loc =
-    choose (ltb (length loc) 4) (Refused Bounds)
-    (choose (choose (eqb ty ARM64_RELOC_GOT_LOAD_PAGEOFF12) (got_fits (le 4 loc 0)) (tlvp_fits (le 4 loc 0))) Fit (Refused Unfit))
+    choose (ltb (length loc) 4) (Err Bounds)
+    (choose (choose (eqb ty ARM64_RELOC_GOT_LOAD_PAGEOFF12) (got_fits (le 4 loc 0)) (tlvp_fits (le 4 loc 0))) (Ok tt) (Err Unfit))
 
 -- a record; `subtracted` says whether the record directly before it is SUBTRACTOR, `loc` are the contents from its offset on: 5, 3, 6
-unfoldable pub check_reloc : MachRel → Bool → List ℕ → Check
+unfoldable pub check_reloc : MachRel → Bool → List ℕ → Result ⊤ Refusal
 check_reloc r subtracted loc =
     choose (supported_of r)
-    (choose (pointer32 r subtracted) (Refused Unsupported)
+    (choose (pointer32 r subtracted) (Err Unsupported)
     (choose (eqb (type_of r.bits) ARM64_RELOC_GOT_LOAD_PAGEOFF12) (word_check (type_of r.bits) loc)
-    (choose (eqb (type_of r.bits) ARM64_RELOC_TLVP_LOAD_PAGEOFF12) (word_check (type_of r.bits) loc) Fit)))
-    (Refused Unsupported)
+    (choose (eqb (type_of r.bits) ARM64_RELOC_TLVP_LOAD_PAGEOFF12) (word_check (type_of r.bits) loc) (Ok tt))))
+    (Err Unsupported)

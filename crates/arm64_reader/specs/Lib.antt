@@ -4,6 +4,7 @@ pub mod Plain
 pub mod Check
 pub mod Record
 pub mod Read
+pub mod Onward
 pub mod Fields
 pub mod Header
 pub mod Said

@@ -1,9 +1,9 @@
 -- Relocation records into entries (arch/arm64.rs, `read_relocs`; RULES 3.4, 4.2), and what a list of records leaves to those after it (RULES 4.15).
-use Rattle.std.specs.Prelude.{◌≡◌, Bool, false, List, ℕ, ◌-◌, length}
+use Rattle.std.specs.Prelude.{◌≡◌, Bool, false, List, ℕ, ◌-◌, length, Result}
 use Rattle.macho.specs.MachRel.{type_of}
 use Rattle.macho.specs.Types.{ARM64_RELOC_SUBTRACTOR, ARM64_RELOC_ADDEND}
 use Rattle.macho.specs.declared.mach_rel.MachRel.{MachRel}
-use Rattle.macho.specs.declared.refusal.Answer.{Answer}
+use Rattle.macho.specs.declared.refusal.Refusal.{Refusal}
 use Rattle.arch.specs.Table as Table
 use Rattle.arch.specs.Table.{records_of, record_at, lengths_of}
 use Rattle.arch.specs.Walk.{Reading, read_all, checked, answer_of, slots_after}
@@ -30,7 +30,7 @@ unfoldable pub read_relocs : List ℕ → List ℕ → List ℕ → List ℕ →
 read_relocs contents records sections slots = checked (lengths_of (length records) (length sections) (length slots)) (read_table contents records sections)
 
 -- what it answers to what was lent
-abbrev pub answer_to : List ℕ → List ℕ → List ℕ → List ℕ → Answer
+abbrev pub answer_to : List ℕ → List ℕ → List ℕ → List ℕ → Result ℕ Refusal
 answer_to contents records sections slots = answer_of (read_relocs contents records sections slots)
 
 -- the slots after it

@@ -36,15 +36,15 @@ const TLVP_LOAD_PAGE21: u8 = 16 * ARM64_RELOC_TLVP_LOAD_PAGE21 + PCREL_WORD;
 pub fn is_plain(r: MachRel) -> bool
     ensures { result ≡ plain_of r }
 {
-    match (r.bits / 0x100_0000) as u8 {
+    matches!(
+        (r.bits / 0x100_0000) as u8,
         SUBTRACTOR_4
-        | SUBTRACTOR_8
-        | BRANCH26
-        | PAGE21
-        | PAGEOFF12
-        | GOT_LOAD_PAGE21
-        | POINTER_TO_GOT
-        | TLVP_LOAD_PAGE21 => true,
-        _ => false,
-    }
+            | SUBTRACTOR_8
+            | BRANCH26
+            | PAGE21
+            | PAGEOFF12
+            | GOT_LOAD_PAGE21
+            | POINTER_TO_GOT
+            | TLVP_LOAD_PAGE21
+    )
 }

@@ -1,73 +1,51 @@
-// Relocation records into entries (arch/arm64.rs, `read_relocs`): one walk that checks and writes nothing, then one that fills.
-ghost use Rattle.std.specs.Prelude.{◌≡◌, ◌*◌, ◌≤◌, length};
-ghost use Rattle.macho.specs.Reloc.{reloc_size};
-ghost use Rattle.arch.specs.Table.{record_count};
-ghost use Rattle.arch.specs.Walk.{Fills, answer_of, slots_after};
-ghost use Rattle.arm64_reader.specs.Read.{read_table, answer_to, slots_to};
+// Relocation records into entries (arch/arm64.rs, `read_relocs`): the reader of `arch` with this machine's step.
+ghost use Rattle.std.specs.Prelude.{◌≡◌, false};
+ghost use Rattle.arch.specs.Table.{records_of};
+ghost use Rattle.arm64_reader.specs.Read.{answer_to, slots_to};
+ghost use Rattle.arm64_reader.specs.Record.{step_at};
+ghost use Rattle.arm64_reader.specs.Onward.{step-onward};
 
 use crate::record::{enter_one, read_one};
-use arch::step::Step;
-use arch::table::check_lengths;
-use macho::mach_rel::MachRel;
-use macho::refusal::{Answer, Check};
+use arch::lent::Lent;
+use arch::reader;
+use arch::reader::Machine;
+use macho::refusal::Refusal;
 use macho::reloc::Reloc;
 
-// The walk that checks: all records, with nothing written.
-fn check_walk(contents: &[u8], records: &[u8], sections: &[u64]) -> Answer
-    ensures { result ≡ answer_of (read_table contents.now records.now sections.now) }
-{
-    let n = records.len() / MachRel::SIZE;
-    let mut i = 0;
-    let mut count = 0;
-    while i < n {
-        match read_one(contents, records, sections, i) {
-            Step::Refused(refusal) => {
-                return Answer::Refused(refusal);
-            }
-            Step::Read(_, next) => {
-                i = next;
-            }
-        }
-        count += 1;
-    }
-    Answer::Filled(count)
-}
+// The machine's step, which may take two records.
+#[derive(Clone, Copy)]
+struct Arm64;
 
-// The walk that fills, after the first has found that every record reads.
-fn fill_walk(contents: &[u8], records: &[u8], sections: &[u64], slots: &mut [u8])
-    requires { Fills (read_table contents.now records.now sections.now) × (reloc_size * record_count records.now ≤ length slots.old) }
-    ensures { slots.new ≡ slots_after (read_table contents.now records.now sections.now) slots.old }
-{
-    let n = records.len() / MachRel::SIZE;
-    let mut i = 0;
-    let mut count = 0;
-    while i < n {
-        match enter_one(contents, records, sections, i) {
-            Step::Refused(_) => {
-                return;
-            }
-            Step::Read(entry, next) => {
-                entry.write(slots, Reloc::SIZE * count);
-                i = next;
-            }
-        }
-        count += 1;
+impl Machine for Arm64 {
+    ghost step = { λ m lent. step_at lent.contents.now lent.sections.now false (records_of lent.records.now) };
+
+    fn check(&self, lent: &Lent<'_>, i: usize) -> Result<usize, Refusal> {
+        let (_, next) = read_one(lent.contents, lent.records, lent.sections, i)?;
+        Ok(next)
     }
+
+    fn enter(&self, lent: &Lent<'_>, i: usize) -> Result<(Reloc, usize), Refusal> {
+        enter_one(lent.contents, lent.records, lent.sections, i)
+    }
+
+    ghost onward = { λ m lent. step-onward lent.contents.now lent.sections.now false (records_of lent.records.now) };
 }
 
 // Reads relocation records of a section into entries. `sections` has the address of each section. A refusal leaves the slots as they were.
-pub fn read_relocs(contents: &[u8], records: &[u8], sections: &[u64], slots: &mut [u8]) -> Answer
+#[tactic(auto, using(crate::proofs::Steps::table_is), unfolding(crate::specs::Read::read_relocs))]
+pub fn read_relocs(
+    contents: &[u8],
+    records: &[u8],
+    sections: &[u64],
+    slots: &mut [u8],
+) -> Result<usize, Refusal>
     ensures answer { result ≡ answer_to contents.now records.now sections.now slots.old }
     ensures slots { slots.new ≡ slots_to contents.now records.now sections.now slots.old }
 {
-    match check_lengths(records.len(), sections.len(), slots.len()) {
-        Check::Refused(refusal) => Answer::Refused(refusal),
-        Check::Fit => match check_walk(contents, records, sections) {
-            Answer::Refused(refusal) => Answer::Refused(refusal),
-            Answer::Filled(count) => {
-                fill_walk(contents, records, sections, slots);
-                Answer::Filled(count)
-            }
-        },
-    }
+    let lent = Lent {
+        contents,
+        records,
+        sections,
+    };
+    reader::read_relocs(&Arm64, &lent, slots)
 }

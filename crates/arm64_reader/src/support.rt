@@ -1,45 +1,33 @@
 // Which relocation records the linker applies.
 ghost use Rattle.std.specs.Prelude.{◌≡◌};
-ghost use Rattle.arch.specs.Form.{bits_of};
-ghost use Rattle.arm64_reader.specs.Support.{forms_of, supported_of};
+ghost use Rattle.arm64_reader.specs.Support.{supported_of};
 
-use arch::form::{has_reloc_form, reloc_form};
-use macho::consts::{
-    ARM64_RELOC_ADDEND, ARM64_RELOC_AUTHENTICATED_POINTER, ARM64_RELOC_BRANCH26,
-    ARM64_RELOC_GOT_LOAD_PAGE21, ARM64_RELOC_GOT_LOAD_PAGEOFF12, ARM64_RELOC_PAGE21,
-    ARM64_RELOC_PAGEOFF12, ARM64_RELOC_POINTER_TO_GOT, ARM64_RELOC_SUBTRACTOR,
-    ARM64_RELOC_TLVP_LOAD_PAGE21, ARM64_RELOC_TLVP_LOAD_PAGEOFF12, ARM64_RELOC_UNSIGNED,
-};
+use arch::form::{PCREL_SYMBOL_4, SECTION_4, SECTION_8, SYMBOL_4, SYMBOL_8, has_reloc_form};
 use macho::mach_rel::MachRel;
 
-// The forms that a type takes, as a set.
-fn forms_of(ty: u8) -> u16
-    ensures { result ≡ bits_of (forms_of ty) }
-{
-    match ty {
-        ARM64_RELOC_UNSIGNED => {
-            reloc_form(false, 2, true)
-                | reloc_form(false, 3, true)
-                | reloc_form(false, 2, false)
-                | reloc_form(false, 3, false)
-        }
-        ARM64_RELOC_SUBTRACTOR => reloc_form(false, 2, true) | reloc_form(false, 3, true),
-        ARM64_RELOC_BRANCH26
-        | ARM64_RELOC_PAGE21
-        | ARM64_RELOC_GOT_LOAD_PAGE21
-        | ARM64_RELOC_TLVP_LOAD_PAGE21
-        | ARM64_RELOC_POINTER_TO_GOT => { reloc_form(true, 2, true) }
-        ARM64_RELOC_PAGEOFF12 | ARM64_RELOC_GOT_LOAD_PAGEOFF12 | ARM64_RELOC_TLVP_LOAD_PAGEOFF12 =>
-            { reloc_form(false, 2, true) }
-        ARM64_RELOC_ADDEND => reloc_form(false, 2, false),
-        ARM64_RELOC_AUTHENTICATED_POINTER => reloc_form(false, 3, true),
-        _ => 0,
-    }
-}
+// For each type the forms that it takes.
+const FORMS: [u16; 16] = [
+    SYMBOL_4 + SYMBOL_8 + SECTION_4 + SECTION_8, // UNSIGNED
+    SYMBOL_4 + SYMBOL_8, // SUBTRACTOR
+    PCREL_SYMBOL_4, // BRANCH26
+    PCREL_SYMBOL_4, // PAGE21
+    SYMBOL_4, // PAGEOFF12
+    PCREL_SYMBOL_4, // GOT_LOAD_PAGE21
+    SYMBOL_4, // GOT_LOAD_PAGEOFF12
+    PCREL_SYMBOL_4, // POINTER_TO_GOT
+    PCREL_SYMBOL_4, // TLVP_LOAD_PAGE21
+    SYMBOL_4, // TLVP_LOAD_PAGEOFF12
+    SECTION_4, // ADDEND, whose index is no section's
+    SYMBOL_8, // AUTHENTICATED_POINTER
+    0, // no type from here on
+    0,
+    0,
+    0,
+];
 
 // Whether a record has a form that its type takes.
 pub fn is_supported(r: MachRel) -> bool
     ensures { result ≡ supported_of r }
 {
-    has_reloc_form(r, forms_of(r.ty()))
+    has_reloc_form(r, FORMS[r.ty() as usize])
 }

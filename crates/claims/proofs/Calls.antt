@@ -1,4 +1,5 @@
 -- The calls' contracts are the toolchain's; a refusal leaves what was lent, by cases on the answers.
+use Rattle.std.specs.Prelude.{Result, Ok, Err}
 use mathlib.Core.Path.{◌≡◌, refl, sym}
 use mathlib.Core.Bool.{Bool, true, false}
 use mathlib.Core.List.{List}
@@ -9,8 +10,7 @@ use Rattle.util.specs.Choice.{choose}
 use Rattle.util.proofs.Choice.{chosen}
 use Rattle.macho.specs.Refusal.{answer_number, out_by}
 use Rattle.macho.proofs.Numbered.{numbered}
-use Rattle.macho.specs.declared.refusal.Answer.{Answer}
-use Rattle.macho.specs.declared.refusal.Answer.TheVariants as A
+use Rattle.macho.specs.declared.refusal.Refusal.{Refusal}
 use Rattle.arch.specs.Walk as Walk
 use Rattle.arch.specs.Walk.{Reading}
 use Rattle.arm64_insn.specs.Reach.{adrp_reaches}
@@ -19,12 +19,8 @@ use Rattle.x86_64_reader.specs.Read as X86
 use Rattle.arm64_fixup.specs.Answer as Answer
 use Rattle.arm64_fixup.specs.Answer.{Outcome, bases_of, outcome_of}
 use Rattle.arm64_fixup.specs.Stub.{words_in, stub_answer, stub_number, thunk_check}
-use Rattle.arm64_fixup.specs.declared.stub.StubAnswer.{StubAnswer}
-use Rattle.arm64_fixup.specs.declared.stub.StubAnswer.TheVariants as S
 use Rattle.arm64_hint_work.specs.declared.tally.Tally.{Tally}
 use Rattle.arm64_hint_run.specs.Run.{run_of, image_of, run_number, tally_after}
-use Rattle.arm64_hint_run.specs.declared.run.RunAnswer.{RunAnswer}
-use Rattle.arm64_hint_run.specs.declared.run.RunAnswer.TheVariants as R
 use Rattle.arm64_hint_run.proofs.Answers.{refused-leaves}
 use Rattle.arm64_hint_listed.specs.Listed as Listed
 use Rattle.arm64_hint_listed.proofs.Answers as Answers
@@ -53,17 +49,17 @@ use Rattle.claims.specs.Calls.{Calls}
 
 reader : (a : Reading) (slots : List ℕ) (count : ℕ) → (answer_number (Walk.answer_of a) ≡ 0 → ⊥)
     → (Walk.slots_after a slots ≡ slots) × (lent_count (Walk.answer_of a) count ≡ count)
-reader (Walk.refused x) slots count ne = (refl, sym (count_kept x (A.Refused x) count refl))
+reader (Walk.refused x) slots count ne = (refl, sym (count_kept x (Err x) count refl))
 reader (Walk.entries es) slots count ne = absurd (ne refl)
 
 fix-up : (a : Outcome) (section slots : List ℕ) (count : ℕ) → (answer_number (Answer.answer_of a) ≡ 0 → ⊥)
     → (Answer.section_after a section ≡ section) × (Answer.slots_after a slots ≡ slots) × (lent_count (Answer.answer_of a) count ≡ count)
-fix-up (Answer.refused x) section slots count ne = (refl, refl, sym (count_kept x (A.Refused x) count refl))
+fix-up (Answer.refused x) section slots count ne = (refl, refl, sym (count_kept x (Err x) count refl))
 fix-up (Answer.fixed f) section slots count ne = absurd (ne refl)
 
-answered : (a : Answer) (filled out : List ℕ) (count : ℕ) → (answer_number a ≡ 0 → ⊥) → (out_by a filled out ≡ out) × (lent_count a count ≡ count)
-answered (A.Refused x) filled out count ne = (refl, sym (count_kept x (A.Refused x) count refl))
-answered (A.Filled n) filled out count ne = absurd (ne refl)
+answered : (a : Result ℕ Refusal) (filled out : List ℕ) (count : ℕ) → (answer_number a ≡ 0 → ⊥) → (out_by a filled out ≡ out) × (lent_count a count ≡ count)
+answered (Err x) filled out count ne = (refl, sym (count_kept x (Err x) count refl))
+answered (Ok n) filled out count ne = absurd (ne refl)
 
 stub : (buf : List ℕ) (addr ptr reaches : ℕ) → (Stub.stub_number_to buf addr ptr ≡ 0 → ⊥)
     → (Stub.stub_to buf addr ptr ≡ buf) × (Stub.reaches_to buf addr ptr reaches ≡ reaches)
@@ -72,7 +68,7 @@ stub buf addr ptr reaches ne = go (ltb (length buf) 12) refl
   where
     go : (t : Bool) → ltb (length buf) 12 ≡ t → (Stub.stub_to buf addr ptr ≡ buf) × (Stub.reaches_to buf addr ptr reaches ≡ reaches)
     go true e = (rw e, rw e)
-    go false e = absurd (ne (rw e (chosen (λ (a : StubAnswer). stub_number a ≡ 0) (adrp_reaches ptr addr) S.Reaches S.OutOfReach refl refl)))
+    go false e = absurd (ne (rw e (chosen (λ (a : Result Bool Refusal). stub_number a ≡ 0) (adrp_reaches ptr addr) (Ok true) (Ok false) refl refl)))
 
 thunk : (buf : List ℕ) (addr target : ℕ) → (Stub.thunk_number_to buf ≡ 0 → ⊥) → Stub.thunk_to buf addr target ≡ buf
 unfolding thunk_check words_in choose
@@ -86,9 +82,9 @@ hint-run : (image hints entries : List ℕ) (tally : Tally) → (Hints.number_to
     → (Hints.image_to image hints entries ≡ image) × (Hints.tally_to image hints entries tally ≡ tally)
 hint-run image hints entries tally = go (run_of image hints entries) refl
   where
-    go : (a : RunAnswer) → run_of image hints entries ≡ a → (run_number a ≡ 0 → ⊥) → (image_of image hints entries ≡ image) × (tally_after tally a ≡ tally)
-    go (R.Done t) e ne = absurd (ne refl)
-    go (R.Refused x) e ne = (refused-leaves image hints entries x e, refl)
+    go : (a : Result Tally Refusal) → run_of image hints entries ≡ a → (run_number a ≡ 0 → ⊥) → (image_of image hints entries ≡ image) × (tally_after tally a ≡ tally)
+    go (Ok t) e ne = absurd (ne refl)
+    go (Err x) e ne = (refused-leaves image hints entries x e, refl)
 
 listed-run : (image hints entries records : List ℕ) (tally : Tally) → (Hints.listed_number_to image hints entries records ≡ 0 → ⊥)
     → (Hints.listed_image_to image hints entries records ≡ image)
@@ -96,10 +92,10 @@ listed-run : (image hints entries records : List ℕ) (tally : Tally) → (Hints
     × (Hints.listed_tally_to image hints entries records tally ≡ tally)
 listed-run image hints entries records tally = go (Listed.listed_of image hints entries records) refl
   where
-    go : (a : RunAnswer) → Listed.listed_of image hints entries records ≡ a → (run_number a ≡ 0 → ⊥)
+    go : (a : Result Tally Refusal) → Listed.listed_of image hints entries records ≡ a → (run_number a ≡ 0 → ⊥)
         → (Listed.image_of image hints entries records ≡ image) × (Listed.slots_of image hints entries records ≡ records) × (tally_after tally a ≡ tally)
-    go (R.Done t) e ne = absurd (ne refl)
-    go (R.Refused x) e ne = let l = Answers.refused-leaves image hints entries records x e in (l.0, l.1, refl)
+    go (Ok t) e ne = absurd (ne refl)
+    go (Err x) e ne = let l = Answers.refused-leaves image hints entries records x e in (l.0, l.1, refl)
 
 pub calls : Calls
 calls =

@@ -1,12 +1,12 @@
 -- What the fix-up makes of a section: the theorems of arm64_fixup, gathered by entry.
+use Rattle.std.specs.Prelude.{Result, Ok, Err}
 use mathlib.Core.Path.{◌≡◌, refl, ap, ◌∙◌}
 use mathlib.Core.List.{List}
 use Prim.Native.Nat.{ℕ}
 use native.Mathlib.Omega.{arith}
 use Rattle.util.specs.Choice.{choose}
 use Rattle.macho.specs.Refusal.{answer_number}
-use Rattle.macho.specs.declared.refusal.Answer.{Answer}
-use Rattle.macho.specs.declared.refusal.Answer.TheVariants.{Filled, Refused}
+use Rattle.macho.specs.declared.refusal.Refusal.{Refusal}
 use Rattle.arm64_insn.specs.Manual.{ADRP, instruction, decode}
 use Rattle.arm64_fixup_entry.specs.declared.target.Bases.{Bases}
 use Rattle.arm64_fixup.specs.Walk.{Fixed}
@@ -77,10 +77,10 @@ module _ {section : List ℕ} {b : Bases} {entries targets slots : List ℕ} {f 
         }
 
 -- an answer with number 0 and count 0
-no-report : (a : Answer) (count : ℕ) → answer_number a ≡ 0 → lent_count a count ≡ 0 → a ≡ Filled 0
+no-report : (a : Result ℕ Refusal) (count : ℕ) → answer_number a ≡ 0 → lent_count a count ≡ 0 → a ≡ Ok 0
 unfolding lent_count lent_number choose
-no-report (Filled n) count h c = ap Filled c
-no-report (Refused x) count h c = absurd (omega (arith, kept))
+no-report (Ok n) count h c = ap Ok c
+no-report (Err x) count h c = absurd (omega (arith, kept))
   where
     kept : ◌≡◌ {A = ℕ} 0 1
     kept = lent-kept x 1 0 ∙ ap (λ (n : ℕ). lent_number n 1 0) h

@@ -1,8 +1,7 @@
 -- Linker optimization hints: the laws of every decision, and of a run's answers.
+use Rattle.std.specs.Prelude.{Option, Some}
 use mathlib.Core.Path.{◌≡◌, subst}
 use Prim.Native.Nat.{ℕ, ◌^◌, ◌<◌}
-use Rattle.arm64_hint_terms.specs.declared.answer.NewWord.{NewWord}
-use Rattle.arm64_hint_terms.specs.declared.answer.NewWord.TheVariants.{Set}
 use Rattle.arm64_hint_laws.proofs.Hinted as Hinted
 use Rattle.arm64_hint_laws.proofs.Hinted.{KeepsThird, Worded}
 use Rattle.arm64_hint_laws.proofs.Occurs as Occurs
@@ -24,7 +23,7 @@ use Rattle.arm64_hint_kept.proofs.Number31.{number-31-declines, number-31-stays}
 use Rattle.claims.specs.Hints.{Hints}
 
 -- a new word that fits is a word of 32 bits
-set-fits : {n : NewWord} {w : ℕ} → Fits n → n ≡ Set w → w < 2 ^ 32
+set-fits : {n : Option ℕ} {w : ℕ} → Fits n → n ≡ Some w → w < 2 ^ 32
 set-fits h e = subst Fits e h
 
 pub hints : Hints

@@ -1,4 +1,5 @@
 -- The word lister: a list of words by induction over it, digits and sizes by computed tests; the rest by the theorems of lister_text.
+use Rattle.std.specs.Prelude.{Result, Ok, Option, Some, None}
 use mathlib.Core.Path.{◌≡◌, refl, sym, ap, ap₂, ◌∙◌, subst}
 use mathlib.Core.Bool.{Bool, true, false, ◌||◌, not}
 use mathlib.Core.Logic.{⊎_elim}
@@ -21,17 +22,16 @@ use Rattle.util.proofs.Choice.{split, chosen}
 use Rattle.util.proofs.Part.{length-bytes}
 use Rattle.util.proofs.Puts.{put_front}
 use Rattle.macho.specs.Refusal.{answer_number}
-use Rattle.macho.specs.declared.refusal.Answer.{Answer}
-use Rattle.macho.specs.declared.refusal.Answer.TheVariants.{Filled}
+use Rattle.macho.specs.declared.refusal.Refusal.{Refusal}
+use Rattle.arm64_insn.specs.declared.ldst.LoadStore.{LoadStore}
 use Rattle.arm64_insn.specs.Encoding.{load_store}
 use Rattle.arm64_insn.specs.LoadStoreTable.{row_of, moved_by, moves}
 use Rattle.arm64_insn.specs.Manual.{size_in, v_in, opc_in, row_in}
+use Rattle.arm64_insn.specs.declared.adrp.Adrp as A
+use Rattle.arm64_insn.specs.declared.add.Add as D
 use Rattle.arm64_insn.specs.Adrp.{adrp_of}
 use Rattle.arm64_insn.specs.Add.{add_of}
 use Rattle.arm64_insn.specs.LoadStore.{load_store_of}
-use Rattle.arm64_insn.specs.declared.adrp.AdrpWord.{AdrpWord}
-use Rattle.arm64_insn.specs.declared.add.AddWord.{AddWord}
-use Rattle.arm64_insn.specs.declared.ldst.LoadStoreWord.{LoadStoreWord}
 use Rattle.arm64_insn.proofs.Cells.{each-cell}
 use Rattle.arm64_insn.proofs.Decodes.{unallocated-none}
 use Rattle.lister_text.specs.Class.{class_by, class_of}
@@ -114,9 +114,9 @@ line offset word =
 abbrev five : ℕ → Bool
 five n = eqb n 1 || eqb n 2 || eqb n 4 || eqb n 8 || eqb n 16
 
-abbrev five_by : LoadStoreWord → Bool
-five_by (LoadStoreWord.LoadStore l) = five l.size
-five_by LoadStoreWord.Other = true
+abbrev five_by : Option LoadStore → Bool
+five_by (Some l) = five l.size
+five_by None = true
 
 abbrev five_in : Class → Bool
 five_in (Load n) = five n
@@ -132,17 +132,17 @@ five-row size v opc hs hv ho = each-cell (λ s v o. not (moves (row_of s v o)) |
 five-word : (w : ℕ) → five_by (load_store_of w) ≡ true
 unfolding load_store_of
 five-word w =
-    chosen (λ (l : LoadStoreWord). five_by l ≡ true) (matches load_store w) _ LoadStoreWord.Other
-    (split (λ (l : LoadStoreWord). five_by l ≡ true) (moves (row_in w)) _ LoadStoreWord.Other
+    chosen (λ (l : Option LoadStore). five_by l ≡ true) (matches load_store w) _ None
+    (split (λ (l : Option LoadStore). five_by l ≡ true) (moves (row_in w)) _ None
     (λ m. rw m at (five-row (size_in w) (v_in w) (opc_in w) (omega arith) (omega arith) (omega arith)))
     (λ _. refl))
     refl
 
-five-by : (a : AdrpWord) (d : AddWord) (l : LoadStoreWord) → five_by l ≡ true → five_in (class_by a d l) ≡ true
-five-by (AdrpWord.Adrp a) d l h = refl
-five-by AdrpWord.Other (AddWord.Add d) l h = refl
-five-by AdrpWord.Other AddWord.Other (LoadStoreWord.LoadStore l) h = chosen (λ (c : Class). five_in c ≡ true) l.is_store _ _ h h
-five-by AdrpWord.Other AddWord.Other LoadStoreWord.Other h = refl
+five-by : (a : Option A.Adrp) (d : Option D.Add) (l : Option LoadStore) → five_by l ≡ true → five_in (class_by a d l) ≡ true
+five-by (Some a) d l h = refl
+five-by None (Some d) l h = refl
+five-by None None (Some l) h = chosen (λ (c : Class). five_in c ≡ true) l.is_store _ _ h h
+five-by None None None h = refl
 
 five-class : (w : ℕ) → five_in (class_of w) ≡ true
 unfolding class_of
@@ -160,7 +160,7 @@ buffer s = go (ltb 16384 (length s)) refl
     go false e = ap text_of (take_all 16385 s (omega (arith, ltb-false 16384 (length s) e)))
 
 -- the number that an answer of the call has
-number : (s out out' : List ℕ) (a : Answer) → Leaves s out a out' → number_to s out ≡ answer_number a
+number : (s out out' : List ℕ) (a : Result ℕ Refusal) → Leaves s out a out' → number_to s out ≡ answer_number a
 number s out out' a h = sym (ap answer_number h.0)
 
 narrow : (s out : List ℕ) → length out < 27 * (length s / 4) → number_to s out ≡ 2
@@ -175,12 +175,12 @@ call-lists : (s out : List ℕ) (count : ℕ) → length s ≤ 16384 → length 
 unfolding lent_count lent_number choose
 call-lists s out count h o n =
     let text : text_of s ≡ lines s = whole_words s h o in
-    let left : Leaves s out (Filled (length (lines s))) (sets out 0 (lines s)) =
+    let left : Leaves s out (Ok (length (lines s))) (sets out 0 (lines s)) =
     list-whole s out h n o (length (lines s)) (sets out 0 (lines s)) (record { ends = sym (zero-add (length (lines s))); stored = refl }) in
     let stored = put_front (lines s) out (length (lines s)) refl (omega (arith, lines-length s (length s / 4))) in
     rw text (
       number s out _ _ left,
-      sym (ap (λ (a : Answer). lent_count a count) left.0),
+      sym (ap (λ (a : Result ℕ Refusal). lent_count a count) left.0),
       sym left.1 ∙ stored,
     )
 

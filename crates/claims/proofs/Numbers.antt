@@ -1,5 +1,6 @@
 -- Which number: the examples that each call's crate computed; the first entry or hint that has one, by induction over those before it; the lengths, by the
 -- choices of their checks.
+use Rattle.std.specs.Prelude.{Result, Ok, Err, ⊤}
 use mathlib.Core.Path.{◌≡◌, refl, ap, ◌∙◌}
 use mathlib.Core.Bool.{Bool, true, false, ◌||◌, not}
 use mathlib.Core.Logic.{⊎_elim}
@@ -20,8 +21,6 @@ use Rattle.macho.specs.Report.{report_size}
 use Rattle.macho.specs.Hint.{hint_count, hint_of, hint_bytes}
 use Rattle.macho.specs.Refusal.{number_of, answer_number}
 use Rattle.macho.specs.declared.refusal.Refusal.{Refusal}
-use Rattle.macho.specs.declared.refusal.Check.{Check}
-use Rattle.macho.specs.declared.refusal.Check.TheVariants.{Fit, Refused}
 use Rattle.arch.specs.Entry.{targeted}
 use Rattle.arch.specs.Table.{records_from, records_of, subtracted_at, lengths_of}
 use Rattle.arch.specs.Target.{target_of}
@@ -57,38 +56,38 @@ at k e = ap (λ (l : List ℕ). get_or l k 0) e
 -- ---- the first that has a number
 
 -- of checks in order: one more after fit ones is its own, one more after a refusal changes nothing
-module _ (each upto : ℕ → Check) (none : upto 0 ≡ Fit) (onward : (k : ℕ) → upto k ≡ Fit → upto (suc k) ≡ each k)
-    (stays : (k : ℕ) (x : Refusal) → upto k ≡ Refused x → upto (suc k) ≡ Refused x) where
-  all_fit : (i : ℕ) → ((j : ℕ) → j < i → each j ≡ Fit) → upto i ≡ Fit
+module _ (each upto : ℕ → Result ⊤ Refusal) (none : upto 0 ≡ Ok tt) (onward : (k : ℕ) → upto k ≡ Ok tt → upto (suc k) ≡ each k)
+    (stays : (k : ℕ) (x : Refusal) → upto k ≡ Err x → upto (suc k) ≡ Err x) where
+  all_fit : (i : ℕ) → ((j : ℕ) → j < i → each j ≡ Ok tt) → upto i ≡ Ok tt
   all_fit zero fit = none
   all_fit (suc i) fit = onward i (all_fit i (λ j l. fit j (omega arith))) ∙ fit i (omega arith)
 
-  earliest : (i : ℕ) (x : Refusal) → ((j : ℕ) → j < i → each j ≡ Fit) → each i ≡ Refused x → (k : ℕ) → i < k → upto k ≡ Refused x
+  earliest : (i : ℕ) (x : Refusal) → ((j : ℕ) → j < i → each j ≡ Ok tt) → each i ≡ Err x → (k : ℕ) → i < k → upto k ≡ Err x
   earliest i x fit e zero h = absurd (not-suc-le-zero h)
   earliest i x fit e (suc k) h =
       ⊎_elim (λ (q : i ≡ k). rw (← q) (onward i (all_fit i fit) ∙ e)) (λ (l : i < k). stays k x (earliest i x fit e k l))
       (eq-or-lt_of_le (le_of_suc-le-suc h))
 
 fix-up-earliest : (section : List ℕ) (base tls image : ℕ) (entries targets slots : List ℕ) (i : ℕ) (x : Refusal)
-    → Answer.check_lists (length entries) (length targets) (length slots) ≡ Fit → i < entry_count entries
-    → ((j : ℕ) → j < i → check_at (length section) (bases_of base tls image) entries targets j ≡ Fit)
-    → check_at (length section) (bases_of base tls image) entries targets i ≡ Refused x
+    → Answer.check_lists (length entries) (length targets) (length slots) ≡ Ok tt → i < entry_count entries
+    → ((j : ℕ) → j < i → check_at (length section) (bases_of base tls image) entries targets j ≡ Ok tt)
+    → check_at (length section) (bases_of base tls image) entries targets i ≡ Err x
     → Fixup.number_to section base tls image entries targets slots ≡ number_of x
 unfolding outcome_of check_to
 fix-up-earliest section base tls image entries targets slots i x lists h fit e =
-    let found : check_to (length section) (bases_of base tls image) entries targets (entry_count entries) ≡ Refused x =
+    let found : check_to (length section) (bases_of base tls image) entries targets (entry_count entries) ≡ Err x =
     earliest (check_at (length section) (bases_of base tls image) entries targets) (check_to (length section) (bases_of base tls image) entries targets)
     refl (λ k q. rw q) (λ k y q. rw q) i x fit e (entry_count entries) h in
     rw (lists, found)
 
 hint-run-earliest : (image hints entries : List ℕ) (k : ℕ) (x : Refusal)
-    → HintCheck.check_lists (length hints) (length entries) ≡ Fit → k < hint_count hints
-    → ((j : ℕ) → j < k → HintCheck.check_hint (length image) (length entries / reloc_size) (hint_of hints j) ≡ Fit)
-    → HintCheck.check_hint (length image) (length entries / reloc_size) (hint_of hints k) ≡ Refused x
+    → HintCheck.check_lists (length hints) (length entries) ≡ Ok tt → k < hint_count hints
+    → ((j : ℕ) → j < k → HintCheck.check_hint (length image) (length entries / reloc_size) (hint_of hints j) ≡ Ok tt)
+    → HintCheck.check_hint (length image) (length entries / reloc_size) (hint_of hints k) ≡ Err x
     → run_number (run_of image hints entries) ≡ number_of x
 unfolding check_all HintCheck.check_to
 hint-run-earliest image hints entries k x lists h fit e =
-    let found : HintCheck.check_to (length image) (length entries / reloc_size) hints (hint_count hints) ≡ Refused x =
+    let found : HintCheck.check_to (length image) (length entries / reloc_size) hints (hint_count hints) ≡ Err x =
     earliest (λ j. HintCheck.check_hint (length image) (length entries / reloc_size) (hint_of hints j))
     (HintCheck.check_to (length image) (length entries / reloc_size) hints) refl (λ k q. rw q) (λ k y q. rw q) k x fit e (hint_count hints) h in
     number_is image hints entries ∙ rw (lists, found)

@@ -1,4 +1,5 @@
 -- Hint payloads: by the laws of uleb and hint_payload; the examples by computation.
+use Rattle.std.specs.Prelude.{Result, Ok}
 use mathlib.Core.Path.{◌≡◌, refl, ap, ◌∙◌}
 use mathlib.Core.Bool.{true}
 use mathlib.Core.Logic.{⊎_elim, inl, inr}
@@ -10,8 +11,6 @@ use lib.Seq.{sets}
 use Rattle.util.specs.Choice.{choose}
 use Rattle.util.proofs.Puts.{put_front}
 use Rattle.macho.specs.Refusal.{answer_number, out_by}
-use Rattle.macho.specs.declared.refusal.Answer.{Answer}
-use Rattle.macho.specs.declared.refusal.Answer.TheVariants.{Filled}
 use Rattle.macho.specs.declared.refusal.Refusal.{Refusal}
 use Rattle.macho.specs.declared.refusal.Refusal.TheVariants.{Malformed, Trailing}
 use Rattle.uleb.specs.Values.{values_of}
@@ -34,17 +33,17 @@ use Rattle.claims.specs.Payloads.{Payloads}
 
 -- the reader's answer to a payload that holds a row
 read-row : (p slots row : List ℕ) → payload_of p ≡ holds row → length p ≤ 2 ^ 32 - 1 → length p ≤ length slots
-    → read_to p (length slots) ≡ Filled (length row)
+    → read_to p (length slots) ≡ Ok (length row)
 read-row p slots row h l n = Answers.read-else p (length slots) l n ∙ ap count_in h
 
 call-read : (p slots : List ℕ) (count : ℕ) (row : List ℕ) → payload_of p ≡ holds row → length p ≤ 2 ^ 32 - 1 → length p ≤ length slots
     → (read_number_to p slots ≡ 0) × (read_count_to p slots count ≡ length row) × (row_to p slots ≡ row ++ drop (length row) slots)
 unfolding lent_count lent_number choose
 call-read p slots count row h l n =
-    let e : read_to p (length slots) ≡ Filled (length row) = read-row p slots row h l n in (
+    let e : read_to p (length slots) ≡ Ok (length row) = read-row p slots row h l n in (
       ap answer_number e,
-      ap (λ (a : Answer). lent_count a count) e,
-      ap (λ (a : Answer). out_by a (row_in (payload_of p)) slots) e
+      ap (λ (a : Result ℕ Refusal). lent_count a count) e,
+      ap (λ (a : Result ℕ Refusal). out_by a (row_in (payload_of p)) slots) e
           ∙ ap (λ (q : Payload). sets slots 0 (row_in q)) h
           ∙ put_front row slots (length row) refl (omega (arith, Back.holds-most p row h)),
     )
@@ -55,10 +54,10 @@ call-write : (row out : List ℕ) (count : ℕ) → is_whole row ≡ true → le
     × (bytes_to row out ≡ ulebs_of row ++ drop (length (ulebs_of row)) out)
 unfolding lent_count lent_number choose
 call-write row out count w l n =
-    let e : write_to row (length out) ≡ Filled (length (ulebs_of row)) = Answers.write-else row (length out) w l n in (
+    let e : write_to row (length out) ≡ Ok (length (ulebs_of row)) = Answers.write-else row (length out) w l n in (
       ap answer_number e,
-      ap (λ (a : Answer). lent_count a count) e,
-      ap (λ (a : Answer). out_by a (ulebs_of row) out) e ∙ put_front (ulebs_of row) out (length (ulebs_of row)) refl (omega (arith, Short.written-most row)),
+      ap (λ (a : Result ℕ Refusal). lent_count a count) e,
+      ap (λ (a : Result ℕ Refusal). out_by a (ulebs_of row) out) e ∙ put_front (ulebs_of row) out (length (ulebs_of row)) refl (omega (arith, Short.written-most row)),
     )
 
 -- the reader's number of a payload that fails

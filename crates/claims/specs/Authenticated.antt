@@ -1,6 +1,6 @@
 -- Authenticated pointers (RULES 2.29 to 2.31, 4.24, 5.28): their word, what one is read to, what the fix-up makes of it, what stays from the one to the other,
 -- and their numbers. What the fix-up writes for one that stands alone is in Fixup, too; what is not looked at, of any list, in Ignored.
-use Rattle.std.specs.Prelude.{◌≡◌, Bool, true, false, ◌&&◌, List, [], ◌∷◌, ◌++◌, ℕ, ◌+◌, ◌-◌, ◌*◌, ◌%◌, ◌^◌, ◌≤◌, ◌<◌, eqb, length, get_or, replicate}
+use Rattle.std.specs.Prelude.{◌≡◌, Bool, true, false, ◌&&◌, List, [], ◌∷◌, ◌++◌, ℕ, ◌+◌, ◌-◌, ◌*◌, ◌%◌, ◌^◌, ◌≤◌, ◌<◌, eqb, length, get_or, replicate, Ok, Err}
 use Rattle.util.specs.Bits.{field, extend}
 use Rattle.util.specs.Choice.{choose}
 use Rattle.util.specs.Diagram.{matches}
@@ -15,7 +15,6 @@ use Rattle.macho.specs.declared.refusal.Refusal.TheVariants.{NotAuthenticated}
 use Rattle.arch.specs.Entry.{entry_of}
 use Rattle.arch.specs.Form.{form, form_in, same_form}
 use Rattle.arch.specs.Walk.{entries}
-use Rattle.arch.specs.declared.step.Step.TheVariants.{Read, Refused}
 use Rattle.arm64_reader.specs.Support.{supported_of}
 use Rattle.arm64_reader.specs.Record.{record_of}
 use Rattle.arm64_reader.specs.Header.{symbol, nothing, signed, undefined, relocations, subtractor-type, addend-type}
@@ -81,7 +80,7 @@ pub record Authenticated : Type 0 where
       → let word = le 8 loc 0 in
       record_of loc sections r subtracted offset given next
       ≡ choose (matches authenticated word)
-      (Read (with_signing (entry_of r subtracted offset (idx_of r.bits) (extend word 32)) (signing_in word)) next) (Refused NotAuthenticated)
+      (Ok (with_signing (entry_of r subtracted offset (idx_of r.bits) (extend word 32)) (signing_in word), next)) (Err NotAuthenticated)
   -- an entry that is read of type 11 has its 8 bytes in the contents; they are a stored word, and give its addend and its four bytes
   pub read : (contents sections : List ℕ) (first : Bool) (rs : List MachRel) (es : List Reloc) (k : ℕ) (d : Reloc)
       → read_records contents sections first rs ≡ entries es → k < length es → (get_or es k d).ty ≡ ARM64_RELOC_AUTHENTICATED_POINTER

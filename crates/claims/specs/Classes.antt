@@ -1,14 +1,13 @@
 -- The table of load and store classes (RULES 7.19, 7.32, 7.33): what an entry holds, that the table is the manual's rows, where the Rust parts from it, and the
 -- file that the generator prints. That the call answers the entry of what the decoder sees is `Calls.load-store-class`.
-use Rattle.std.specs.Prelude.{◌≡◌, Bool, false, ◌&&◌, not, List, [], ◌∷◌, ◌++◌, map, ℕ, zero, suc, ◌/◌, ◌^◌, ◌≤◌, ◌<◌, eqb}
+use Rattle.std.specs.Prelude.{◌≡◌, Bool, false, ◌&&◌, not, List, [], ◌∷◌, ◌++◌, map, ℕ, zero, suc, ◌/◌, ◌^◌, ◌≤◌, ◌<◌, eqb, Some, None}
 use Rattle.util.specs.Choice.{choose}
 use Rattle.text.specs.Digits.{ascii}
 use Rattle.arm64_insn.specs.LoadStore.{load_store_of}
 use Rattle.arm64_insn.specs.Manual.{decode, allocated}
-use Rattle.arm64_ldst_class.specs.Entry.{entry_of, class_in, class_seen}
+use Rattle.arm64_ldst_class.specs.Entry.{moves, entry_of, class_in, class_seen}
 use Rattle.arm64_ldst_class.specs.Row.{class_of_insn, class_of_index, is_access, marks_ldrsw}
 use Rattle.arm64_ldst_class.specs.Rust.{class_in_rust, only_in_rust}
-use Rattle.arm64_ldst_class.specs.declared.LoadStoreClass.TheVariants.{Moves, Neither}
 use Rattle.ldst_table_text.specs.Text.{entry_line}
 use Rattle.arm64_ldst_table.proofs.lookup.Statement as Lookup
 use Rattle.ldst_table_text.proofs.text.Statement as Text
@@ -37,8 +36,8 @@ pub record Classes : Type 2 where
       ∷ (0x3e4, 68) ∷ (0x3e5, 64) ∷ (0x3f4, 70) ∷ (0x3f5, 66)
       ∷ []
   -- an entry says the whole class, of any number of bytes but 0, and 0 is no load or store
-  pub moves-back : (n : ℕ) (stores is_vector is_ldrsw : Bool) → 1 ≤ n → class_in (entry_of (Moves n stores is_vector is_ldrsw)) ≡ Moves n stores is_vector is_ldrsw
-  pub none-back : class_in 0 ≡ Neither
+  pub moves-back : (n : ℕ) (stores is_vector is_ldrsw : Bool) → 1 ≤ n → class_in (entry_of (Some (moves n stores is_vector is_ldrsw))) ≡ Some (moves n stores is_vector is_ldrsw)
+  pub none-back : class_in 0 ≡ None
   -- so of every word
   pub back : (w : ℕ) → class_in (entry_of (class_seen (load_store_of w))) ≡ class_seen (load_store_of w)
   -- every number is the entry of its class

@@ -1,6 +1,6 @@
 -- What the fix-up makes of a section (RULES 5.8 to 5.28, 6): of an entry that stands alone, what its word means then; which bytes change; one stub or thunk
 -- entry.
-use Rattle.std.specs.Prelude.{◌≡◌, true, false, ◌⊎◌, List, [], ◌∷◌, ◌++◌, ℕ, ◌+◌, ◌*◌, ◌/◌, ◌%◌, ◌^◌, ◌≤◌, ◌<◌, length, get_or}
+use Rattle.std.specs.Prelude.{◌≡◌, true, false, ◌⊎◌, List, [], ◌∷◌, ◌++◌, ℕ, ◌+◌, ◌*◌, ◌/◌, ◌%◌, ◌^◌, ◌≤◌, ◌<◌, length, get_or, None}
 use Rattle.util.specs.Bits.{field}
 use Rattle.util.specs.Diagram.{matches}
 use Rattle.util.specs.Word.{le, bytes}
@@ -10,7 +10,7 @@ use Rattle.macho.specs.Types.{ARM64_RELOC_GOT_LOAD_PAGE21, ARM64_RELOC_POINTER_T
 use Rattle.macho.specs.Types.{ARM64_RELOC_AUTHENTICATED_POINTER}
 use Rattle.macho.specs.Authenticated.{authenticated}
 use Rattle.macho.specs.Reloc.{reloc_size}
-use Rattle.macho.specs.Refusal.{check_number}
+use Rattle.macho.specs.Refusal.{answer_number}
 use Rattle.macho.specs.Resolved.{is_tls, has_address, can_relax_got, has_helper, helper_is_own, is_probe, is_enabled}
 use Rattle.macho.specs.declared.reloc.Reloc.{Reloc}
 use Rattle.macho.specs.declared.resolved.Resolved.{Resolved}
@@ -26,7 +26,6 @@ use Rattle.arm64_insn.specs.declared.stub.Words3.{Words3}
 use Rattle.arm64_fixup_entry.specs.Target.{is_symbol, imported_symbol, address_of, target_of, slot_of, got_target, width_of}
 use Rattle.arm64_fixup_entry.specs.Change.{branch_target, thunk_serves, dtrace_site_insn, displacement, can_relax}
 use Rattle.arm64_fixup_entry.specs.Roles.{Page, GotOffset, Offset, Relaxed}
-use Rattle.arm64_fixup_entry.specs.declared.change.Traced.TheVariants.{Untraced}
 use Rattle.arm64_fixup_entry.specs.declared.target.Bases.{Bases}
 use Rattle.arm64_fixup.specs.Walk.{lent_entry, lent_target, entry_count, consumed, Fixed, stored, change_at}
 use Rattle.arm64_fixup.specs.Answer.{bases_of, fixed, outcome_of, section_after, section_to}
@@ -89,31 +88,31 @@ module _ (section : List ℕ) (b : Bases) (entries targets : List ℕ) (f : Fixe
         → decode new ≡ instruction (ADD 1 0 (rd_in old) (rn_in old) (field (target_of entry target) 0 12))
     pub relaxed-kept : Relaxed entry target → can_relax entry.ty old ≡ false → new ≡ old
     -- RULES 5.13: a B stays a B, a BL a BL
-    pub b-stays : entry.ty ≡ ARM64_RELOC_BRANCH26 → dtrace_site_insn entry target ≡ Untraced → (imm26 : ℕ) → decode old ≡ instruction (B imm26)
+    pub b-stays : entry.ty ≡ ARM64_RELOC_BRANCH26 → dtrace_site_insn entry target ≡ None → (imm26 : ℕ) → decode old ≡ instruction (B imm26)
         → decode new ≡ instruction (B branch_imm)
-    pub bl-stays : entry.ty ≡ ARM64_RELOC_BRANCH26 → dtrace_site_insn entry target ≡ Untraced → (imm26 : ℕ) → decode old ≡ instruction (BL imm26)
+    pub bl-stays : entry.ty ≡ ARM64_RELOC_BRANCH26 → dtrace_site_insn entry target ≡ None → (imm26 : ℕ) → decode old ≡ instruction (BL imm26)
         → decode new ≡ instruction (BL branch_imm)
     -- in reach it goes to T
-    pub goes : entry.ty ≡ ARM64_RELOC_BRANCH26 → dtrace_site_insn entry target ≡ Untraced → branch_reaches T P ≡ true → T % 4 ≡ 0 → P % 4 ≡ 0
+    pub goes : entry.ty ≡ ARM64_RELOC_BRANCH26 → dtrace_site_insn entry target ≡ None → branch_reaches T P ≡ true → T % 4 ≡ 0 → P % 4 ≡ 0
         → Manual.branch_target branch_imm P ≡ T
     -- else, where a thunk serves and is in reach, to the thunk
-    pub goes-by-thunk : entry.ty ≡ ARM64_RELOC_BRANCH26 → dtrace_site_insn entry target ≡ Untraced → branch_reaches T P ≡ false
+    pub goes-by-thunk : entry.ty ≡ ARM64_RELOC_BRANCH26 → dtrace_site_insn entry target ≡ None → branch_reaches T P ≡ false
         → thunk_serves entry target T ≡ true → branch_reaches target.thunk P ≡ true → target.thunk % 4 ≡ 0 → P % 4 ≡ 0
         → Manual.branch_target branch_imm P ≡ target.thunk
     -- one that is not reported, and takes no thunk, goes to T
-    pub b-goes : entry.ty ≡ ARM64_RELOC_BRANCH26 → dtrace_site_insn entry target ≡ Untraced → Unreported f k
+    pub b-goes : entry.ty ≡ ARM64_RELOC_BRANCH26 → dtrace_site_insn entry target ≡ None → Unreported f k
         → (branch_reaches T P ≡ true) ⊎ (thunk_serves entry target T ≡ false) → T % 4 ≡ 0 → P % 4 ≡ 0
         → (imm26 : ℕ) → decode old ≡ instruction (B imm26)
         → (decode new ≡ instruction (B branch_imm)) × (Manual.branch_target branch_imm P ≡ T)
-    pub bl-goes : entry.ty ≡ ARM64_RELOC_BRANCH26 → dtrace_site_insn entry target ≡ Untraced → Unreported f k
+    pub bl-goes : entry.ty ≡ ARM64_RELOC_BRANCH26 → dtrace_site_insn entry target ≡ None → Unreported f k
         → (branch_reaches T P ≡ true) ⊎ (thunk_serves entry target T ≡ false) → T % 4 ≡ 0 → P % 4 ≡ 0
         → (imm26 : ℕ) → decode old ≡ instruction (BL imm26)
         → (decode new ≡ instruction (BL branch_imm)) × (Manual.branch_target branch_imm P ≡ T)
     -- RULES 5.27: one that is not reported and does not reach T is one that a thunk serves
-    pub must-serve : entry.ty ≡ ARM64_RELOC_BRANCH26 → dtrace_site_insn entry target ≡ Untraced → Unreported f k → branch_reaches T P ≡ false
+    pub must-serve : entry.ty ≡ ARM64_RELOC_BRANCH26 → dtrace_site_insn entry target ≡ None → Unreported f k → branch_reaches T P ≡ false
         → thunk_serves entry target T ≡ true
     -- so each that is not reported goes to T, which it reaches; or to a thunk that serves, where it reaches that: whether it does is not asked
-    pub unreported-goes : entry.ty ≡ ARM64_RELOC_BRANCH26 → dtrace_site_insn entry target ≡ Untraced → Unreported f k → P % 4 ≡ 0
+    pub unreported-goes : entry.ty ≡ ARM64_RELOC_BRANCH26 → dtrace_site_insn entry target ≡ None → Unreported f k → P % 4 ≡ 0
         → ((branch_reaches T P ≡ true) × (T % 4 ≡ 0 → Manual.branch_target branch_imm P ≡ T))
         ⊎ ((branch_reaches T P ≡ false)
         × (thunk_serves entry target T ≡ true)
@@ -163,7 +162,7 @@ module _ (section : List ℕ) (b : Bases) (entries targets : List ℕ) (f : Fixe
         × (imm12_in new ≡ a % 2 ^ 12 / 2 ^ scale_of old)
         × (field new 0 10 ≡ field old 0 10)
     -- of a branch bits 25 to 0
-    pub branch-bits : entry.ty ≡ ARM64_RELOC_BRANCH26 → dtrace_site_insn entry target ≡ Untraced
+    pub branch-bits : entry.ty ≡ ARM64_RELOC_BRANCH26 → dtrace_site_insn entry target ≡ None
         → (field new 26 6 ≡ field old 26 6) × (imm26_in new ≡ branch_imm)
 
 -- ---- entry k with a page into an ADRP, entry m with a page offset, both alone, and k named by no report. What the second word makes or accesses is said
@@ -322,4 +321,4 @@ pub record Fixup : Type 0 where
   pub past-entry : (s : List ℕ) (w : Words3) → stub_size ≤ length s → (p : ℕ) → stub_size ≤ p → get_or (words_in s w) p 0 ≡ get_or s p 0
   -- RULES 3.7, 6.4: fewer than 12 bytes are number 3, and nothing is written
   pub short-entry : (s : List ℕ) (addr ptr : ℕ) → length s < stub_size
-      → (stub_number (stub_answer s addr ptr) ≡ 3) × (check_number (thunk_check s) ≡ 3) × ((w : Words3) → words_in s w ≡ s)
+      → (stub_number (stub_answer s addr ptr) ≡ 3) × (answer_number (thunk_check s) ≡ 3) × ((w : Words3) → words_in s w ≡ s)

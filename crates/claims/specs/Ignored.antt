@@ -1,5 +1,5 @@
 -- Empty lists succeed, and what is not looked at changes nothing (RULES 3.14 to 3.17).
-use Rattle.std.specs.Prelude.{◌≡◌, Bool, true, false, ◌⊎◌, List, [], ◌∷◌, ◌++◌, ℕ, ◌+◌, ◌*◌, ◌-◌, ◌/◌, ◌%◌, ◌^◌, ◌≤◌, ◌<◌, eqb, length, get_or, set}
+use Rattle.std.specs.Prelude.{◌≡◌, Bool, true, false, ◌⊎◌, List, [], ◌∷◌, ◌++◌, ℕ, ◌+◌, ◌*◌, ◌-◌, ◌/◌, ◌%◌, ◌^◌, ◌≤◌, ◌<◌, eqb, length, get_or, set, Ok}
 use Rattle.util.specs.Word.{le}
 use Rattle.macho.specs.MachRel.{idx_of, extern_of, type_of}
 use Rattle.macho.specs.Types.{ARM64_RELOC_SUBTRACTOR, ARM64_RELOC_ADDEND, ARM64_RELOC_AUTHENTICATED_POINTER}
@@ -9,7 +9,6 @@ use Rattle.macho.specs.Hint.{hint_size, hint_count, hint_of}
 use Rattle.macho.specs.declared.hint.HintInsn.{HintInsn}
 use Rattle.macho.specs.declared.hint.HintRecord.{HintRecord}
 use Rattle.macho.specs.declared.mach_rel.MachRel.{MachRel}
-use Rattle.macho.specs.declared.refusal.Answer.TheVariants.{Filled}
 use Rattle.arch.specs.Table.{record_at}
 use Rattle.arch.specs.Walk as Walk
 use Rattle.arch.specs.Walk.{Fills}
@@ -24,7 +23,6 @@ use Rattle.arm64_hint_places.specs.Hint.{is_skipped}
 use Rattle.arm64_hint_check.specs.Check.{is_list}
 use Rattle.arm64_hint_rules.specs.Rule as HintRule
 use Rattle.arm64_hint_run.specs.Run.{zeros, run_of, image_of, run_number}
-use Rattle.arm64_hint_run.specs.declared.run.RunAnswer.TheVariants.{Done}
 
 -- a place with 0 for its word's address
 abbrev pub bare : HintInsn → HintInsn
@@ -69,12 +67,12 @@ pub record Ignored : Type 0 where
   pub no-records : (contents sections slots : List ℕ) → length sections < 2 ^ 32 → read_relocs contents [] sections slots ≡ Walk.entries []
   -- no entries with no targets give no reports, and leave section and slots
   pub no-entries : (section : List ℕ) (b : Bases) (slots : List ℕ)
-      → (answer_of (outcome_of section b [] [] slots) ≡ Filled 0)
+      → (answer_of (outcome_of section b [] [] slots) ≡ Ok 0)
       × (section_after (outcome_of section b [] [] slots) section ≡ section)
       × (slots_after (outcome_of section b [] [] slots) slots ≡ slots)
   -- no hints give four zeros, and leave the image
   pub no-hints : (image entries : List ℕ) → is_list (length entries) reloc_size ≡ true
-      → (run_of image [] entries ≡ Done zeros) × (image_of image [] entries ≡ image)
+      → (run_of image [] entries ≡ Ok zeros) × (image_of image [] entries ≡ image)
   -- RULES 3.15: the reader looks at no byte of the slots
   pub reader-slots : (contents records sections slots others : List ℕ) → length slots ≡ length others
       → read_relocs contents records sections slots ≡ read_relocs contents records sections others

@@ -1,6 +1,6 @@
 -- What a run of hints keeps (RULES 1.9 to 1.14, 9): the statement of every list of a run's hint steps, that it is not vacuous, and that each premise is needed.
 -- The statement itself (Fair, Close, HintsKept, Premises, Literally) is arm64_hint_kept/specs/HintsKept, the machine arm64_machine/specs.
-use Rattle.std.specs.Prelude.{◌≡◌, ◌≢◌, true, false, ◌&&◌, List, [], ◌∷◌, ℕ, ◌+◌, ◌^◌, ◌≤◌, ◌<◌, eqb, length, get_or}
+use Rattle.std.specs.Prelude.{◌≡◌, ◌≢◌, true, false, ◌&&◌, List, [], ◌∷◌, ℕ, ◌+◌, ◌^◌, ◌≤◌, ◌<◌, eqb, length, get_or, Result, Ok, Some}
 use Rattle.macho.specs.Hint.{no_entry, word_count, hint_count, hint_of}
 use Rattle.macho.specs.declared.hint.HintRecord.{HintRecord}
 use Rattle.image.specs.Words.{span, words_at}
@@ -17,7 +17,7 @@ use Rattle.arm64_machine.specs.Premises as Machine
 use Rattle.arm64_hint_terms.specs.declared.answer.Insns.{Insns}
 use Rattle.arm64_hint_terms.specs.declared.answer.Plan.{Plan}
 use Rattle.arm64_hint_terms.specs.declared.answer.Rewrite.TheVariants.{Fold}
-use Rattle.arm64_hint_terms.specs.declared.answer.Decision.TheVariants.{Rewritten}
+use Rattle.macho.specs.declared.refusal.Refusal.{Refusal}
 use Rattle.arm64_hint_terms.specs.declared.rels.Rels.{Rels}
 use Rattle.arm64_hint_laws.specs.Decide.{bars31, decide}
 use Rattle.arm64_hint_laws.specs.RustOrder.{in_rust_order, BothFit}
@@ -25,12 +25,9 @@ use Rattle.arm64_hint_order.specs.Lists.{Once}
 use Rattle.arm64_hint_order.specs.Cursor.{object_at, late_at, order_of}
 use Rattle.arm64_hint_order.specs.Rising.{Rising}
 use Rattle.arm64_hint_rules.specs.Rule.{hint_outcome}
-use Rattle.arm64_hint_rules.specs.declared.outcome.HintOutcome.TheVariants.{Worked}
 use Rattle.arm64_hint_work.specs.Step.{places_of}
 use Rattle.arm64_hint_work.specs.declared.tally.Tally.{Tally}
 use Rattle.arm64_hint_run.specs.Run.{worked, run_of, image_of}
-use Rattle.arm64_hint_run.specs.declared.run.RunAnswer.{RunAnswer}
-use Rattle.arm64_hint_run.specs.declared.run.RunAnswer.TheVariants.{Done}
 use Rattle.arm64_hint_kept.specs.HintsKept.{Fair, Close, HintsKept, Premises, Literally}
 use Rattle.arm64_hint_kept.specs.HintsKept as Order
 use Rattle.arm64_hint_kept.specs.Decided.{placed_of, after}
@@ -58,7 +55,7 @@ three p w u v = placed w p ∷ placed u (p + 4) ∷ placed v (p + 8) ∷ []
 -- what a run of hints keeps
 pub record Kept : Type 0 where
   -- RULES 1.11 to 1.14, 9.27 to 9.29: of every list of a run's hint steps with each hint once
-  pub hints-kept : (image hints entries : List ℕ) (t : Tally) → run_of image hints entries ≡ Done t
+  pub hints-kept : (image hints entries : List ℕ) (t : Tally) → run_of image hints entries ≡ Ok t
       → (l : List ℕ) → Once (hint_count hints) l → HintsKept image hints entries l t
   -- RULES 9.30: the run's own list has each hint once and keeps each object's own order
   pub own-list : (hints : List ℕ) → Once (hint_count hints) (order_of hints) × Order.KeepsOrder hints (order_of hints)
@@ -66,16 +63,16 @@ pub record Kept : Type 0 where
   pub own-rising : (hints : List ℕ) → Rising (object_at hints) (late_at hints) (order_of hints)
   pub own-only : (hints l : List ℕ) → Once (hint_count hints) l → Rising (object_at hints) (late_at hints) l → l ≡ order_of hints
   -- image and tally of that list are the run's
-  pub run_is : (image hints entries : List ℕ) (t : Tally) → run_of image hints entries ≡ Done t
+  pub run_is : (image hints entries : List ℕ) (t : Tally) → run_of image hints entries ≡ Ok t
       → worked image hints entries (order_of hints) ≡ record { image = image_of image hints entries; tally = t }
   -- RULES 9.13, 9.21: the words of a hint that is rewritten at its turn are allocated, which FairWords therefore does not suppose
   pub rewritten-words-allocated : (entries : List ℕ) (h : HintRecord) (image : List ℕ) (p : Plan) (s : Insns)
-      → hint_outcome entries h (words_at (places_of h) image) ≡ Worked (Rewritten p) s
+      → hint_outcome entries h (words_at (places_of h) image) ≡ Some (Ok p, s)
       → Machine.Each (λ w. allocated w.word ≡ true) (Order.codes h image)
   -- RULES 9.15, 9.16, 9.21: number 31 does not link the words of such a hint and none of them is an ADD to it, in the machine's own words (Without31:
   -- arm64_hint_kept/specs/Number31), which no premise supposes
   pub rewritten-without-31 : (entries : List ℕ) (h : HintRecord) (image : List ℕ) (p : Plan) (s : Insns)
-      → hint_outcome entries h (words_at (places_of h) image) ≡ Worked (Rewritten p) s → Without31 (Order.codes h image)
+      → hint_outcome entries h (words_at (places_of h) image) ≡ Some (Ok p, s) → Without31 (Order.codes h image)
   -- RULES 7.35, 9.9: what a word makes is what the machine writes, what it takes as a base or ADD source is what the machine reads, and so a link by 31
   pub makes-written : (w r : ℕ) → makes w r ≡ writes_or false (action w) r
   pub takes-read : (w r : ℕ) → takes w r ≡ Machine.reads (action w) r
@@ -87,8 +84,8 @@ pub record Kept : Type 0 where
   pub premises-fair : (h : HintRecord) (image : List ℕ) (o : Other) (s : State) → Premises h image o s → Fair h image
   pub literally : (image hints entries l : List ℕ) (t : Tally) → HintsKept image hints entries l t → Literally image hints entries l t
   -- RULES 1.9 to 1.13 of the compiled run: `answer` and `left` are what its promise says that it returns and leaves
-  pub of-the-run : (image hints entries left : List ℕ) (answer : RunAnswer) → answer ≡ run_of image hints entries → left ≡ image_of image hints entries
-      → (t : Tally) → answer ≡ Done t
+  pub of-the-run : (image hints entries left : List ℕ) (answer : Result Tally Refusal) → answer ≡ run_of image hints entries → left ≡ image_of image hints entries
+      → (t : Tally) → answer ≡ Ok t
       → (worked image hints entries (order_of hints) ≡ record { image = left; tally = t })
       × (Once (hint_count hints) (order_of hints))
       × (Order.KeepsOrder hints (order_of hints))
@@ -101,11 +98,11 @@ pub record Kept : Type 0 where
       × (Order.KeepsOrder hints (order_of hints))
       × ((l : List ℕ) → Once (hint_count hints) l → HintsKept image hints entries l tally × Literally image hints entries l tally)
   -- RULES 9.31: a call for a part of the image leaves there what one run over the image leaves there
-  pub part-call : (image hints entries : List ℕ) (t : Tally) → run_of image hints entries ≡ Done t
-      → (c : Call) (u : Tally) → c.start + c.len ≤ length image → run_of (part_of c image) c.hints c.entries ≡ Done u → PartCall hints entries c
+  pub part-call : (image hints entries : List ℕ) (t : Tally) → run_of image hints entries ≡ Ok t
+      → (c : Call) (u : Tally) → c.start + c.len ≤ length image → run_of (part_of c image) c.hints c.entries ≡ Ok u → PartCall hints entries c
       → image_of (part_of c image) c.hints c.entries ≡ part_of c (image_of image hints entries)
   -- RULES 9.32: calls that have every hint of the run between them: each part's bytes, the bytes of no part, the counts
-  pub part-calls : (image hints entries : List ℕ) (t : Tally) → run_of image hints entries ≡ Done t
+  pub part-calls : (image hints entries : List ℕ) (t : Tally) → run_of image hints entries ≡ Ok t
       → (m : ℕ) (call : ℕ → Call) (u : ℕ → Tally) → PartCalls image hints entries m call u
       → ((c : ℕ) → c < m → image_of (part_of (call c) image) (call c).hints (call c).entries ≡ part_of (call c) (image_of image hints entries))
       × ((b : ℕ) → ((c : ℕ) → c < m → span (call c).start (call c).len b ≡ false) → get_or (image_of image hints entries) b 0 ≡ get_or image b 0)
@@ -118,8 +115,8 @@ pub record Kept : Type 0 where
   -- words that run closely alike run alike
   pub close-same : (old new : List Placed) → CloseRun old new → SameRun old new
   -- RULES 9.33: what a fold leaves (FoldKeeps: arm64_hint_kept/specs/Folded): ADRP, the old accesses, its page in ADRP's register; only the ADD's may differ
-  pub fold-keeps : (kind : ℕ) (s : Insns) (r : Rels) (p : Plan) → Machine.FairWords (placed_of 3 s) → decide kind s r ≡ Rewritten p → p.rewrite ≡ Fold
-      → FoldKeeps s (after (Rewritten p) s)
+  pub fold-keeps : (kind : ℕ) (s : Insns) (r : Rels) (p : Plan) → Machine.FairWords (placed_of 3 s) → decide kind s r ≡ Ok p → p.rewrite ≡ Fold
+      → FoldKeeps s (after (Ok p) s)
   -- where fold and ADR both fit and number 31 does not bar the hint, the words of either order make the same accesses and end alike but for what is exempt
   pub orders-alike : (kind : ℕ) (s : Insns) (r : Rels) → s.p0 < 2 ^ 64 → Machine.FairWords (placed_of 3 s) → bars31 kind s ≡ false → BothFit kind s r
       → (o : Other) (z : State)
@@ -134,24 +131,24 @@ pub record Kept : Type 0 where
   pub each-shown : (kind : ℕ) (s : Insns) (r : Rels) → Shown kind (decide kind s r)
   -- one hint of each count, in the order 1, 2, 3, 0; the list 0, 1, 2, 3 leaves the same, and the words of position 0 run there as before
   pub one-of-each : (order_of (lent four) ≡ 1 ∷ 2 ∷ 3 ∷ 0 ∷ [])
-      × (run_of four_words (lent four) pair ≡ Done (counts 1 1 1 1))
+      × (run_of four_words (lent four) pair ≡ Ok (counts 1 1 1 1))
       × (image_of four_words (lent four) pair ≡ four_after)
       × (worked four_words (lent four) pair (0 ∷ 1 ∷ 2 ∷ 3 ∷ []) ≡ record { image = four_after; tally = counts 1 1 1 1 })
       × Close (hint_of (lent four) 0) four_words four_after
   -- three hints that meet every premise are all rewritten, and the words of each run in the last image as in the first: by the run's own list, and by
   -- one that does not keep an object's own order
   pub all_end : (order_of (lent beside) ≡ 2 ∷ 0 ∷ 1 ∷ [])
-      × (run_of beside_words (lent beside) pair ≡ Done (counts 3 0 0 0))
+      × (run_of beside_words (lent beside) pair ≡ Ok (counts 3 0 0 0))
       × AllEnd beside_words (lent beside) pair (2 ∷ 0 ∷ 1 ∷ []) beside_after idle start
       × AllEnd beside_words (lent beside) pair (1 ∷ 0 ∷ 2 ∷ []) beside_after idle start
       × (Order.KeepsOrder (lent beside) (1 ∷ 0 ∷ 2 ∷ []) → ⊥)
   -- a hint whose places fall
-  pub falls : (run_of (words (0xf9400401 ∷ 0x90000000 ∷ [])) (lent falling) pair ≡ Done (counts 1 0 0 0))
+  pub falls : (run_of (words (0xf9400401 ∷ 0x90000000 ∷ [])) (lent falling) pair ≡ Ok (counts 1 0 0 0))
       × (image_of (words (0xf9400401 ∷ 0x90000000 ∷ [])) (lent falling) pair ≡ words (0x58000041 ∷ 0xd503201f ∷ []))
       × Close (hint_of (lent falling) 0) (words (0xf9400401 ∷ 0x90000000 ∷ [])) (words (0x58000041 ∷ 0xd503201f ∷ []))
   -- kind 1 is worked last: the literal load is made, and ADRP_ADRP then declines; by list position the image would be another
   pub kind-1-last : (order_of (lent late) ≡ 1 ∷ 0 ∷ [])
-      × (run_of late_words (lent late) pair ≡ Done (counts 1 0 1 0))
+      × (run_of late_words (lent late) pair ≡ Ok (counts 1 0 1 0))
       × (image_of late_words (lent late) pair ≡ late_after)
       × (worked late_words (lent late) pair (0 ∷ 1 ∷ []) ≡ record { image = words (0x90000000 ∷ 0xd503201f ∷ 0xf9400401 ∷ []); tally = counts 1 0 1 0 })
       × (Order.KeepsOrder (lent late) (0 ∷ 1 ∷ []) → ⊥)

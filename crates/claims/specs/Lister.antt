@@ -1,6 +1,6 @@
 -- The word lister (RULES 10): the line of a word, the names of the classes, what is printed of an input, and the lister as a call. That a refused call
 -- writes nothing is `Calls.list-refused`.
-use Rattle.std.specs.Prelude.{◌≡◌, true, false, ◌||◌, ◌⊎◌, List, [], ◌∷◌, ◌++◌, ℕ, ◌+◌, ◌*◌, ◌/◌, ◌%◌, ◌^◌, ◌≤◌, ◌<◌, eqb, length, get_or, take, drop}
+use Rattle.std.specs.Prelude.{◌≡◌, true, false, ◌||◌, ◌⊎◌, List, [], ◌∷◌, ◌++◌, ℕ, ◌+◌, ◌*◌, ◌/◌, ◌%◌, ◌^◌, ◌≤◌, ◌<◌, eqb, length, get_or, take, drop, Some, None}
 use Rattle.util.specs.All.{All}
 use Rattle.util.specs.Bits.{field}
 use Rattle.arm64_insn.specs.Manual.{allocated}
@@ -8,11 +8,8 @@ use Rattle.arm64_insn.specs.Adrp.{adrp_of}
 use Rattle.arm64_insn.specs.Add.{add_of}
 use Rattle.arm64_insn.specs.LoadStore.{load_store_of}
 use Rattle.arm64_insn.specs.declared.adrp.Adrp as A
-use Rattle.arm64_insn.specs.declared.adrp.AdrpWord.TheVariants as AdrpWord
 use Rattle.arm64_insn.specs.declared.add.Add as D
-use Rattle.arm64_insn.specs.declared.add.AddWord.TheVariants as AddWord
 use Rattle.arm64_insn.specs.declared.ldst.LoadStore as L
-use Rattle.arm64_insn.specs.declared.ldst.LoadStoreWord.TheVariants as LoadStoreWord
 use Rattle.text.specs.Digits.{ascii}
 use Rattle.lister_text.specs.Class.{class_of}
 use Rattle.lister_text.specs.Text.{class_name, line_of, text_of}
@@ -44,13 +41,13 @@ pub record Lister : Type 0 where
   -- a line: offset and word in 8 lower-case digits each, then the class, with single spaces between and a newline at the end
   pub line : (offset word : ℕ) → line_of offset word ≡ hex offset ++ (ascii " " ++ (hex word ++ (ascii " " ++ (class_name (class_of word) ++ ascii "\n"))))
   -- RULES 10.2: the class is what the decoders of hints see, in this order: ADRP, ADD, loads and stores with the bytes that they move
-  pub class-adrp : (w : ℕ) (a : A.Adrp) → adrp_of w ≡ AdrpWord.Adrp a → class_of w ≡ Adrp
-  pub class-add : (w : ℕ) (a : D.Add) → adrp_of w ≡ AdrpWord.Other → add_of w ≡ AddWord.Add a → class_of w ≡ Add
-  pub class-load : (w : ℕ) (l : L.LoadStore) → adrp_of w ≡ AdrpWord.Other → add_of w ≡ AddWord.Other → load_store_of w ≡ LoadStoreWord.LoadStore l
+  pub class-adrp : (w : ℕ) (a : A.Adrp) → adrp_of w ≡ Some a → class_of w ≡ Adrp
+  pub class-add : (w : ℕ) (a : D.Add) → adrp_of w ≡ None → add_of w ≡ Some a → class_of w ≡ Add
+  pub class-load : (w : ℕ) (l : L.LoadStore) → adrp_of w ≡ None → add_of w ≡ None → load_store_of w ≡ Some l
       → l.is_store ≡ false → class_of w ≡ Load l.size
-  pub class-store : (w : ℕ) (l : L.LoadStore) → adrp_of w ≡ AdrpWord.Other → add_of w ≡ AddWord.Other → load_store_of w ≡ LoadStoreWord.LoadStore l
+  pub class-store : (w : ℕ) (l : L.LoadStore) → adrp_of w ≡ None → add_of w ≡ None → load_store_of w ≡ Some l
       → l.is_store ≡ true → class_of w ≡ Store l.size
-  pub class-other : (w : ℕ) → adrp_of w ≡ AdrpWord.Other → add_of w ≡ AddWord.Other → load_store_of w ≡ LoadStoreWord.Other → class_of w ≡ Other
+  pub class-other : (w : ℕ) → adrp_of w ≡ None → add_of w ≡ None → load_store_of w ≡ None → class_of w ≡ Other
   -- so it is of every word that the manual leaves unallocated
   pub class-unallocated : (w : ℕ) → allocated w ≡ false → class_of w ≡ Other
   -- the names of the classes

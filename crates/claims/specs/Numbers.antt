@@ -1,7 +1,7 @@
 -- Which number a refused call answers (RULES 3.1, 3.3 to 3.6, 3.9 to 3.11): the examples of RULES 3.1, which comes first where several apply, and the
 -- lengths. That a refused call leaves all is in Calls, the numbers of stub and thunk entries in Fixup, those of the lister in Lister, those of payloads in
 -- Payloads, those of authenticated pointers in Authenticated, those of the listed hint run but for an example in Listed.
-use Rattle.std.specs.Prelude.{◌≡◌, List, [], ◌++◌, ℕ, ◌-◌, ◌*◌, ◌/◌, ◌%◌, ◌^◌, ◌≤◌, ◌<◌, length, replicate}
+use Rattle.std.specs.Prelude.{◌≡◌, List, [], ◌++◌, ℕ, ◌-◌, ◌*◌, ◌/◌, ◌%◌, ◌^◌, ◌≤◌, ◌<◌, length, replicate, Ok, Err}
 use Rattle.util.specs.Word.{bytes}
 use Rattle.macho.specs.Types.{MCLOH_AdrpLdr, ARM64_RELOC_UNSIGNED, ARM64_RELOC_SUBTRACTOR, ARM64_RELOC_PAGE21}
 use Rattle.macho.specs.Types.{ARM64_RELOC_POINTER_TO_GOT, ARM64_RELOC_ADDEND}
@@ -12,7 +12,6 @@ use Rattle.macho.specs.Report.{report_size}
 use Rattle.macho.specs.Hint.{hint_size, no_entry, hint_count, hint_of}
 use Rattle.macho.specs.Refusal.{number_of}
 use Rattle.macho.specs.declared.refusal.Refusal.{Refusal}
-use Rattle.macho.specs.declared.refusal.Check.TheVariants.{Fit, Refused}
 use Rattle.arm64_fixup.specs.Walk.{entry_count, check_at}
 use Rattle.arm64_fixup.specs.Answer.{bases_of}
 use Rattle.arm64_fixup.specs.Answer as Answer
@@ -128,9 +127,9 @@ pub record Numbers : Type 0 where
       (resolved 0 0 ++ resolved 0 0x200) (bytes 48 0) ≡ 0
   -- RULES 3.3, 3.5: where the lengths are fit, the number is that of the first entry that has one
   pub fix-up-earliest : (section : List ℕ) (base tls image : ℕ) (entries targets slots : List ℕ) (i : ℕ) (x : Refusal)
-      → Answer.check_lists (length entries) (length targets) (length slots) ≡ Fit → i < entry_count entries
-      → ((j : ℕ) → j < i → check_at (length section) (bases_of base tls image) entries targets j ≡ Fit)
-      → check_at (length section) (bases_of base tls image) entries targets i ≡ Refused x
+      → Answer.check_lists (length entries) (length targets) (length slots) ≡ Ok tt → i < entry_count entries
+      → ((j : ℕ) → j < i → check_at (length section) (bases_of base tls image) entries targets j ≡ Ok tt)
+      → check_at (length section) (bases_of base tls image) entries targets i ≡ Err x
       → Fixup.number_to section base tls image entries targets slots ≡ number_of x
   -- RULES 3.6: a hint's part and its words before its entries; by list position between two hints
   pub hint-run-first : (hint_run 7 entry_one (half ARM64_RELOC_PAGE21) ≡ 3)
@@ -143,9 +142,9 @@ pub record Numbers : Type 0 where
       × (hint_run 8 (hint MCLOH_AdrpLdr 2 0 8 (place 0 no_entry 0) (place 4 no_entry 0) (place 8 7 0)) [] ≡ 0)
   -- RULES 3.3, 3.6: where the lengths are fit, the number is that of the first hint that has one
   pub hint-run-earliest : (image hints entries : List ℕ) (k : ℕ) (x : Refusal)
-      → HintCheck.check_lists (length hints) (length entries) ≡ Fit → k < hint_count hints
-      → ((j : ℕ) → j < k → HintCheck.check_hint (length image) (length entries / reloc_size) (hint_of hints j) ≡ Fit)
-      → HintCheck.check_hint (length image) (length entries / reloc_size) (hint_of hints k) ≡ Refused x
+      → HintCheck.check_lists (length hints) (length entries) ≡ Ok tt → k < hint_count hints
+      → ((j : ℕ) → j < k → HintCheck.check_hint (length image) (length entries / reloc_size) (hint_of hints j) ≡ Ok tt)
+      → HintCheck.check_hint (length image) (length entries / reloc_size) (hint_of hints k) ≡ Err x
       → run_number (run_of image hints entries) ≡ number_of x
   -- RULES 3.9: 1, of the reader: no whole records, 2^32 of them or more, as many section addresses
   pub records-not-whole : (contents records sections slots : List ℕ) → (length records % mach_rel_size ≡ 0 → ⊥)

@@ -1,5 +1,5 @@
 -- The twelve examples (RULES 11). 6 to 8 go through the hint run, 9 to 11 through the fix-up, 12 through the reader.
-use Rattle.std.specs.Prelude.{◌≡◌, true, List, [], ◌∷◌, ◌++◌, ℕ, ◌-◌, ◌*◌, ◌^◌, length, replicate}
+use Rattle.std.specs.Prelude.{◌≡◌, true, List, [], ◌∷◌, ◌++◌, ℕ, ◌-◌, ◌*◌, ◌^◌, length, replicate, Ok, Option, Some, None}
 use Rattle.macho.specs.Types.{MCLOH_AdrpLdr, MCLOH_AdrpAddStr, MCLOH_AdrpAdd, ARM64_RELOC_PAGE21}
 use Rattle.macho.specs.Types.{ARM64_RELOC_BRANCH26, ARM64_RELOC_PAGEOFF12, ARM64_RELOC_GOT_LOAD_PAGEOFF12}
 use Rattle.macho.specs.Reloc.{reloc_size}
@@ -9,28 +9,27 @@ use Rattle.arm64_insn.specs.Page.{adrp_page}
 use Rattle.arm64_insn.specs.Adrp.{adrp_of, adr_word}
 use Rattle.arm64_insn.specs.LoadStore.{load_store_of}
 use Rattle.arm64_insn.specs.Literal.{literal_word}
-use Rattle.arm64_insn.specs.declared.adrp.AdrpWord.{AdrpWord}
-use Rattle.arm64_insn.specs.declared.ldst.LoadStoreWord.{LoadStoreWord}
+use Rattle.arm64_insn.specs.declared.adrp.Adrp.{Adrp}
+use Rattle.arm64_insn.specs.declared.ldst.LoadStore.{LoadStore}
 use Rattle.arm64_reader.specs.Read.{read_relocs}
 use Rattle.arm64_hint_run.specs.Run.{run_of, image_of}
-use Rattle.arm64_hint_run.specs.declared.run.RunAnswer.TheVariants.{Done}
 use Rattle.arm64_hint_kept.specs.Examples.{words, pair}
 use Rattle.claims.specs.Lent.{mach_rel, has_address_bit, can_relax_got_bit, target, fix_up, becomes, misaligned, plain}
 
 -- the page that a decoded ADRP makes at pc
-abbrev pub page_made : AdrpWord → ℕ → ℕ
-page_made (AdrpWord.Adrp a) pc = adrp_page a.imm pc
-page_made AdrpWord.Other pc = 1
+abbrev pub page_made : Option Adrp → ℕ → ℕ
+page_made (Some a) pc = adrp_page a.imm pc
+page_made None pc = 1
 
 -- the literal form of a decoded load
-abbrev pub literal_made : LoadStoreWord → ℕ → ℕ → ℕ
-literal_made (LoadStoreWord.LoadStore l) target pc = literal_word l target pc
-literal_made LoadStoreWord.Other target pc = 0
+abbrev pub literal_made : Option LoadStore → ℕ → ℕ → ℕ
+literal_made (Some l) target pc = literal_word l target pc
+literal_made None target pc = 0
 
 -- the run of one hint on these words at 0x1000 counts one rewritten, and leaves those words
 abbrev pub Rewrites : (kind : ℕ) (old new : List ℕ) → Type 0
 Rewrites kind old new =
-    (run_of (words old) (plain kind (length old) 0x1000) pair ≡ Done (record { rewritten = 1; skipped = 0; declined = 0; turned_down = 0 }))
+    (run_of (words old) (plain kind (length old) 0x1000) pair ≡ Ok (record { rewritten = 1; skipped = 0; declined = 0; turned_down = 0 }))
     × (image_of (words old) (plain kind (length old) 0x1000) pair ≡ words new)
 
 -- the twelve examples of RULES 11

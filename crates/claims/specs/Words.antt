@@ -1,5 +1,5 @@
 -- Decoders and encoders against the manual (RULES 1.6, 1.30, 7.11 to 7.31, 7.34): what each answers, what each makes, and where in reach the made words lead.
-use Rattle.std.specs.Prelude.{◌≡◌, true, false, ◌&&◌, ◌||◌, not, ℕ, ◌*◌, ◌/◌, ◌%◌, ◌^◌, ◌≤◌, ◌<◌, eqb}
+use Rattle.std.specs.Prelude.{◌≡◌, true, false, ◌&&◌, ◌||◌, not, ℕ, ◌*◌, ◌/◌, ◌%◌, ◌^◌, ◌≤◌, ◌<◌, eqb, Ok, Err, Some, None}
 use Rattle.util.specs.Choice.{choose}
 use Rattle.util.specs.Bits.{field, has_bit, extend}
 use Rattle.util.specs.Wrap.{sum, diff}
@@ -20,39 +20,35 @@ use Rattle.arm64_insn.specs.Branch.{branch_reaches, branch_word, helper_word}
 use Rattle.arm64_insn.specs.Stub.{stub_words, thunk_words}
 use Rattle.arm64_insn.specs.Fix.{nop_word, is_enabled_word, adrp_with, scale_of, offset_with, relaxed_word}
 use Rattle.arm64_insn.specs.declared.adrp.Adrp as A
-use Rattle.arm64_insn.specs.declared.adrp.AdrpWord.TheVariants as AdrpWord
 use Rattle.arm64_insn.specs.declared.add.Add as D
-use Rattle.arm64_insn.specs.declared.add.AddWord.TheVariants as AddWord
 use Rattle.arm64_insn.specs.declared.ldst.LoadStore as L
-use Rattle.arm64_insn.specs.declared.ldst.LoadStoreWord.TheVariants as LoadStoreWord
-use Rattle.arm64_insn.specs.declared.fix.OffsetWord.TheVariants.{Word, Misaligned}
 use Rattle.arm64_reader.specs.Check.{loaded_bytes, got_fits, tlvp_fits}
 use Rattle.arm64_reader.specs.Words.{is_unshifted_add, loaded_by}
 
 -- single words: what is decoded, made and patched, and what they mean
 pub record Words : Type 0 where
   -- RULES 7.16: `Adrp::decode` answers the manual's ADRP, and nothing else
-  pub adrp-decodes : (w : ℕ) (a : A.Adrp) → adrp_of w ≡ AdrpWord.Adrp a → decode w ≡ instruction (ADRP a.rd a.imm)
-  pub decodes-adrp : (w rd imm : ℕ) → decode w ≡ instruction (ADRP rd imm) → adrp_of w ≡ AdrpWord.Adrp (record { rd = rd; imm = imm })
+  pub adrp-decodes : (w : ℕ) (a : A.Adrp) → adrp_of w ≡ Some a → decode w ≡ instruction (ADRP a.rd a.imm)
+  pub decodes-adrp : (w rd imm : ℕ) → decode w ≡ instruction (ADRP rd imm) → adrp_of w ≡ Some (record { rd = rd; imm = imm })
   -- RULES 7.17: `Add::decode` answers the manual's ADD of 64 bits with an unshifted immediate, and nothing else
-  pub add-decodes : (w : ℕ) (a : D.Add) → add_of w ≡ AddWord.Add a → decode w ≡ instruction (ADD 1 0 a.rd a.rn a.imm)
+  pub add-decodes : (w : ℕ) (a : D.Add) → add_of w ≡ Some a → decode w ≡ instruction (ADD 1 0 a.rd a.rn a.imm)
   pub decodes-add : (w rd rn imm : ℕ) → w < 2 ^ 32 → decode w ≡ instruction (ADD 1 0 rd rn imm)
-      → add_of w ≡ AddWord.Add (record { rd = rd; rn = rn; imm = imm })
+      → add_of w ≡ Some (record { rd = rd; rn = rn; imm = imm })
   -- RULES 7.18: `LoadStore::decode` is the manual: of every word, what the word's instruction is as a load or store, and none of any other instruction
   pub load-store-manual : (w : ℕ) → load_store_of w ≡ load_store_in w (decode w)
   -- so it answers every load and store of the manual, and nothing else
   pub decodes-load-store : (w size v opc rt rn imm12 : ℕ) → decode w ≡ instruction (LDST size v opc rt rn imm12)
-      → load_store_of w ≡ LoadStoreWord.LoadStore (load_store_from w v rt rn imm12 (row_of size v opc))
-  pub load-store-decodes : (w : ℕ) (l : L.LoadStore) → load_store_of w ≡ LoadStoreWord.LoadStore l
+      → load_store_of w ≡ Some (load_store_from w v rt rn imm12 (row_of size v opc))
+  pub load-store-decodes : (w : ℕ) (l : L.LoadStore) → load_store_of w ≡ Some l
       → decode w ≡ instruction (LDST (size_in w) (v_in w) (opc_in w) l.reg l.base (imm12_in w))
   -- RULES 7.34: the split by bit 26, then the size, then bit 23, then bit 22 answers what the decoder does, for every word, of the class or not
   pub load-store-split : (w : ℕ) → load_store_of w ≡ load_store_by_split w
   -- RULES 7.20: LDRSW is marked where bit 26 is clear, the size is 10, bit 23 is set and bit 22 is clear
-  pub ldrsw-marked : (w : ℕ) (l : L.LoadStore) → load_store_of w ≡ LoadStoreWord.LoadStore l
+  pub ldrsw-marked : (w : ℕ) (l : L.LoadStore) → load_store_of w ≡ Some l
       → l.is_ldrsw ≡ (not (has_bit w 26) && (eqb (size_in w) 0b10 && (has_bit w 23 && not (has_bit w 22))))
   -- RULES 7.19: no decoder takes a word that the manual leaves unallocated
   pub unallocated-none : (w : ℕ) → allocated w ≡ false
-      → (adrp_of w ≡ AdrpWord.Other) × (add_of w ≡ AddWord.Other) × (load_store_of w ≡ LoadStoreWord.Other)
+      → (adrp_of w ≡ None) × (add_of w ≡ None) × (load_store_of w ≡ None)
   -- RULES 4.8: what a GOT page offset may stand on: an unshifted ADD of either width, an 8-byte load
   pub got-fits : (w : ℕ) → w < 2 ^ 32 → got_fits w ≡ (is_unshifted_add (decode w) || eqb (loaded_by (decode w)) 8)
   -- what a TLVP page offset may stand on: any load, and so no word that the manual leaves unallocated
@@ -81,14 +77,14 @@ pub record Words : Type 0 where
       → decode (adrp_with w hi lo) ≡ instruction (ADRP rd (page_imm hi lo))
   -- an ADD, a load or store, a prefetch with the page offset
   pub add-patched : (w sf sh rd rn imm12 val : ℕ) → decode w ≡ instruction (ADD sf sh rd rn imm12)
-      → offset_with w val ≡ Word (encode (ADD sf sh rd rn (field val 0 12)))
+      → offset_with w val ≡ Ok (encode (ADD sf sh rd rn (field val 0 12)))
   pub load-store-patched : (w size v opc rt rn imm12 val : ℕ) → decode w ≡ instruction (LDST size v opc rt rn imm12)
       → offset_with w val
       ≡ choose (eqb (val % moved_by (row_of size v opc)) 0)
-      (Word (encode (LDST size v opc rt rn (val % 2 ^ 12 / moved_by (row_of size v opc)))))
-      (Misaligned (moved_by (row_of size v opc)))
+      (Ok (encode (LDST size v opc rt rn (val % 2 ^ 12 / moved_by (row_of size v opc)))))
+      (Err (moved_by (row_of size v opc)))
   pub prefetch-patched : (w rt rn imm12 val : ℕ) → decode w ≡ instruction (PRFM rt rn imm12)
-      → offset_with w val ≡ choose (eqb (val % 8) 0) (Word (encode (PRFM rt rn (val % 2 ^ 12 / 8)))) (Misaligned 8)
+      → offset_with w val ≡ choose (eqb (val % 8) 0) (Ok (encode (PRFM rt rn (val % 2 ^ 12 / 8)))) (Err 8)
   -- a patched B or BL, and a helper's
   pub b-patched : (w imm26 d : ℕ) → decode w ≡ instruction (B imm26) → decode (branch_word w d) ≡ instruction (B (field d 2 26))
   pub bl-patched : (w imm26 d : ℕ) → decode w ≡ instruction (BL imm26) → decode (branch_word w d) ≡ instruction (BL (field d 2 26))
@@ -109,7 +105,7 @@ pub record Words : Type 0 where
       × (decode (thunk_words addr target).third ≡ instruction (BR 16))
   -- a load or store through another base
   pub based-made : (w size v opc rt rn imm12 base offset : ℕ) (l : L.LoadStore) → decode w ≡ instruction (LDST size v opc rt rn imm12)
-      → load_store_of w ≡ LoadStoreWord.LoadStore l → Rebased l base offset
+      → load_store_of w ≡ Some l → Rebased l base offset
       → decode (base_word l base offset) ≡ instruction (LDST size v opc rt base (offset / l.size))
   -- a literal load, and it loads what the load loaded
   pub literal-made : (l : L.LoadStore) (target pc : ℕ) → l.reg < 32
@@ -117,7 +113,7 @@ pub record Words : Type 0 where
       ≡ instruction
       (LDR-literal (literal_opc l.size l.is_float l.is_ldrsw) (literal_v l.size l.is_float) l.reg (field (diff target pc) 2 19))
   pub literal-row : (w size v opc rt rn imm12 : ℕ) (l : L.LoadStore) → decode w ≡ instruction (LDST size v opc rt rn imm12)
-      → load_store_of w ≡ LoadStoreWord.LoadStore l → has_literal_form l ≡ true
+      → load_store_of w ≡ Some l → has_literal_form l ≡ true
       → literal_row_of (literal_opc l.size l.is_float l.is_ldrsw) (literal_v l.size l.is_float) ≡ row_of size v opc
   -- RULES 7.11: what ADRP makes is the manual's sum
   pub adrp-page : (imm p : ℕ) → adrp_page imm p ≡ sum (page_of p) (extend (imm * 2 ^ 12) 33)

@@ -1,6 +1,6 @@
 -- The reader of x86_64 relocation records (RULES 1.32, 15): which number, what the entries hold, tables one after the other, what is not looked at, and the
 -- sections of tools/records/worked.s.
-use Rattle.std.specs.Prelude.{◌≡◌, Bool, true, false, List, [], ◌∷◌, ◌++◌, ℕ, ◌+◌, ◌*◌, ◌-◌, ◌/◌, ◌%◌, ◌^◌, ◌≤◌, ◌<◌, ltb, length, get_or, replicate}
+use Rattle.std.specs.Prelude.{◌≡◌, Bool, true, false, List, [], ◌∷◌, ◌++◌, ℕ, ◌+◌, ◌*◌, ◌-◌, ◌/◌, ◌%◌, ◌^◌, ◌≤◌, ◌<◌, ltb, length, get_or, replicate, Err}
 use Rattle.util.specs.Choice.{choose}
 use Rattle.util.specs.Wrap.{sum}
 use Rattle.macho.specs.MachRel.{mach_rel_size, idx_of, pcrel_of, p2size_of, extern_of, type_of}
@@ -10,14 +10,12 @@ use Rattle.macho.specs.declared.mach_rel.MachRel.{MachRel}
 use Rattle.macho.specs.declared.reloc.Reloc.{Reloc}
 use Rattle.macho.specs.declared.refusal.Refusal.{Refusal}
 use Rattle.macho.specs.declared.refusal.Refusal.TheVariants.{Unsupported, Bounds}
-use Rattle.macho.specs.declared.refusal.Check.TheVariants as C
 use Rattle.arch.specs.Entry.{targeted}
 use Rattle.arch.specs.Form.{applied_below}
 use Rattle.arch.specs.Join.{joined}
 use Rattle.arch.specs.Table.{records_of, record_at, subtracted_at, ends_in}
 use Rattle.arch.specs.Target.{addend_in}
 use Rattle.arch.specs.Walk.{refused, entries, answer_of}
-use Rattle.arch.specs.declared.step.Step.TheVariants as S
 use Rattle.x86_64_reader.specs.Support.{forms, supported_of}
 use Rattle.x86_64_reader.specs.Addend.{width_of, bias_of, embedded_at, added_by, displacement}
 use Rattle.x86_64_reader.specs.Record.{check_reloc, step_at}
@@ -43,10 +41,10 @@ pub record X86 : Type 0 where
   pub step : (contents sections : List ℕ) (address : ℕ) (first : Bool) (rs : List MachRel) (i : ℕ)
       → step_at contents sections address first rs i
       ≡ choose (supported_of (record_at rs i))
-      (choose (ltb (length contents) ((record_at rs i).offset + width_of (p2size_of (record_at rs i).bits))) (S.Refused Bounds)
+      (choose (ltb (length contents) ((record_at rs i).offset + width_of (p2size_of (record_at rs i).bits))) (Err Bounds)
       (targeted sections (record_at rs i) (subtracted_at X86_64_RELOC_SUBTRACTOR first rs i) (record_at rs i).offset
       (added_by contents address (record_at rs i)) (i + 1)))
-      (S.Refused Unsupported)
+      (Err Unsupported)
   -- RULES 15.6: the bias of each type
   pub biased : bias_of X86_64_RELOC_SIGNED_1 ∷ bias_of X86_64_RELOC_SIGNED_2 ∷ bias_of X86_64_RELOC_SIGNED_4 ∷ [] ≡ 1 ∷ 2 ∷ 4 ∷ []
   pub unbiased : (ty : ℕ) → (ty ≡ X86_64_RELOC_SIGNED_1 → ⊥) → (ty ≡ X86_64_RELOC_SIGNED_2 → ⊥) → (ty ≡ X86_64_RELOC_SIGNED_4 → ⊥) → bias_of ty ≡ 0
@@ -72,7 +70,7 @@ pub record X86 : Type 0 where
       → AllFit (length contents) (length sections) rs × (es ≡ entries_of contents sections address first rs)
   -- RULES 15.3: else the number of the first record that has one
   pub first-refused : (contents sections : List ℕ) (address : ℕ) (first : Bool) (xs : List MachRel) (r : MachRel) (ys : List MachRel) (x : Refusal)
-      → AllFit (length contents) (length sections) xs → check_reloc (length contents) (length sections) r ≡ C.Refused x
+      → AllFit (length contents) (length sections) xs → check_reloc (length contents) (length sections) r ≡ Err x
       → read_records contents sections address first (xs ++ (r ∷ ys)) ≡ refused x
   -- RULES 15.11: which number, and how many entries, is by lengths and records alone: no byte of the contents and no address matters
   pub by_lengths : (contents others sections addresses : List ℕ) (address elsewhere : ℕ) → length contents ≡ length others

@@ -1,14 +1,13 @@
 -- A lent number after a call: a refusal's number is none of them 0, so the old value stays; 0 takes the new one.
+use Rattle.std.specs.Prelude.{Result, Ok, Err}
 use Prim.Native.Nat.{ℕ}
 use mathlib.Core.Path.{◌≡◌, refl, ap, ◌∙◌}
 use native.Mathlib.Omega.{arith}
 use borrow.Author.Tests.{ne_eqb}
 use Rattle.util.specs.Choice.{choose}
-use Rattle.macho.specs.Refusal.{number_of, answer_number, filled_of}
+use Rattle.macho.specs.Refusal.{number_of, left_in}
 use Rattle.macho.specs.declared.refusal.Refusal.{Refusal}
 use Rattle.macho.proofs.Numbered.{numbered}
-use Rattle.macho.specs.declared.refusal.Answer.{Answer}
-use Rattle.macho.specs.declared.refusal.Answer.TheVariants.{Filled, Refused}
 use Rattle.hauklivo.specs.Lent.{lent_number, lent_count}
 
 -- a call that returns a refusal's number leaves the old value
@@ -22,15 +21,11 @@ unfolding lent_number choose
 lent-new new old = refl
 
 -- a refusal leaves the old count
-pub count_kept : (x : Refusal) (a : Answer) (old : ℕ) → Refused x ≡ a → old ≡ lent_count a old
+pub count_kept : (x : Refusal) (a : Result ℕ Refusal) (old : ℕ) → Err x ≡ a → old ≡ lent_count a old
 unfolding lent_count
-count_kept x a old e = lent-kept x 0 old ∙ ap (λ (b : Answer). lent_number (answer_number b) (filled_of b) old) e
-
--- a call that fills leaves how many
-pub count-new : (n : ℕ) (a : Answer) (old : ℕ) → Filled n ≡ a → n ≡ lent_count a old
-unfolding lent_count
-count-new n a old e = lent-new n old ∙ ap (λ (b : Answer). lent_number (answer_number b) (filled_of b) old) e
+count_kept x a old e = ap (λ (b : Result ℕ Refusal). left_in b old) e
 
 -- equal answers leave equal counts
-pub count_same : {a b : Answer} (old : ℕ) → a ≡ b → lent_count a old ≡ lent_count b old
-count_same old e = ap (λ (a : Answer). lent_count a old) e
+pub count_same : {a b : Result ℕ Refusal} (old : ℕ) → a ≡ b → left_in a old ≡ lent_count b old
+unfolding lent_count
+count_same old e = ap (λ (a : Result ℕ Refusal). left_in a old) e

@@ -1,6 +1,6 @@
 -- What the calls of one stub entry and of one thunk entry return and leave, by what they are lent.
 use Rattle.std.specs.Prelude.{ℕ, List}
-use Rattle.macho.specs.Refusal.{check_number}
+use Rattle.macho.specs.Refusal.{answer_number}
 use Rattle.arm64_insn.specs.Stub.{stub_words, thunk_words}
 use Rattle.arm64_fixup.specs.Stub.{words_in, stub_answer, stub_number, reaches_of, thunk_check}
 use Rattle.hauklivo.specs.Lent.{lent_number}
@@ -19,7 +19,7 @@ stub_to buf addr ptr = words_in buf (stub_words addr ptr)
 
 -- a thunk entry's number: 0, or the refusal's
 abbrev pub thunk_number_to : List ℕ → ℕ
-thunk_number_to buf = check_number (thunk_check buf)
+thunk_number_to buf = answer_number (thunk_check buf)
 
 -- its bytes
 abbrev pub thunk_to : List ℕ → ℕ → ℕ → List ℕ

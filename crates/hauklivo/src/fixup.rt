@@ -3,8 +3,8 @@ ghost use Rattle.std.specs.Prelude.{◌≡◌};
 ghost use Rattle.arm64_fixup.specs.Answer.{section_to, slots_to};
 ghost use Rattle.hauklivo.specs.Fixup.{number_to, count_to};
 
-use crate::counted::counted;
 use arm64_fixup::walk::apply_reloc_alloc;
+use macho::refusal::settle;
 
 // Fixes a section's bytes by its entries and their resolved targets; `count` gets the number of reports.
 pub fn hauklivo_apply_reloc_alloc(
@@ -26,5 +26,5 @@ pub fn hauklivo_apply_reloc_alloc(
         ≡ slots_to buf.old base tls_begin image_base entries.now targets.now slots.old }
 {
     let answer = apply_reloc_alloc(buf, base, tls_begin, image_base, entries, targets, slots);
-    counted(answer, count)
+    settle(answer, count)
 }

@@ -3,9 +3,10 @@ ghost use Rattle.std.specs.Prelude.{◌≡◌};
 ghost use Rattle.hauklivo.specs.Hints.{number_to, tally_to, image_to};
 ghost use Rattle.hauklivo.specs.Hints.{listed_number_to, listed_tally_to, listed_image_to, records_to};
 
-use arm64_hint_listed::listed_on;
+use arm64_hint_listed::run_listed;
 use arm64_hint_run::tally::apply_hints;
 use arm64_hint_work::tally::Tally;
+use macho::refusal::settle;
 
 // Works the hints on the image by the entries; `tally` gets the counts.
 pub fn hauklivo_apply_hints(image: &mut [u8], hints: &[u8], entries: &[u8], tally: &mut Tally) -> u8
@@ -29,8 +30,5 @@ pub fn hauklivo_apply_hints_listed(
         × (image.new ≡ listed_image_to image.old hints.now entries.now records.old)
         × (records.new ≡ records_to image.old hints.now entries.now records.old) }
 {
-    let old = *tally;
-    let end = listed_on(image, hints, entries, records, old);
-    *tally = end.tally;
-    end.number
+    settle(run_listed(image, hints, entries, records), tally)
 }

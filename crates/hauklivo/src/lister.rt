@@ -3,8 +3,8 @@ ghost use Rattle.std.specs.Prelude.{◌≡◌};
 ghost use Rattle.lister_text.specs.Listing.{out_after};
 ghost use Rattle.hauklivo.specs.Lister.{number_to, count_to};
 
-use crate::counted::counted;
 use lister_text::list;
+use macho::refusal::settle;
 
 // Lists words with their offsets and classes at the start of `out`; `count` gets how many bytes that is.
 pub fn hauklivo_list(words: &[u8], out: &mut [u8], count: &mut usize) -> u8
@@ -13,5 +13,5 @@ pub fn hauklivo_list(words: &[u8], out: &mut [u8], count: &mut usize) -> u8
     ensures out { out.new ≡ out_after words.now out.old }
 {
     let answer = list(words, out);
-    counted(answer, count)
+    settle(answer, count)
 }

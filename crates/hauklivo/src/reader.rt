@@ -5,8 +5,8 @@ ghost use Rattle.hauklivo.specs.Reader.{number_to, count_to};
 ghost use Rattle.x86_64_reader.specs.Read as X86;
 ghost use Rattle.hauklivo.specs.ReaderX86 as ReaderX86;
 
-use crate::counted::counted;
 use arm64_reader::read::read_relocs;
+use macho::refusal::settle;
 use x86_64_reader::read::read_relocs as read_relocs_of_x86_64;
 
 // Reads relocation records of arm64 into entries; `count` gets how many.
@@ -23,7 +23,7 @@ pub fn hauklivo_read_relocs(
     ensures slots { slots.new ≡ slots_to contents.now records.now sections.now slots.old }
 {
     let answer = read_relocs(contents, records, sections, slots);
-    counted(answer, count)
+    settle(answer, count)
 }
 
 // Reads relocation records of x86_64 into entries; `address` is that of the section itself, `count` gets how many.
@@ -42,5 +42,5 @@ pub fn hauklivo_read_relocs_x86_64(
         ≡ X86.slots_to contents.now records.now sections.now address slots.old }
 {
     let answer = read_relocs_of_x86_64(contents, records, sections, address, slots);
-    counted(answer, count)
+    settle(answer, count)
 }

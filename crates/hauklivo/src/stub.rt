@@ -2,7 +2,8 @@
 ghost use Rattle.std.specs.Prelude.{◌≡◌};
 ghost use Rattle.hauklivo.specs.Stub.{stub_number_to, reaches_to, stub_to, thunk_number_to, thunk_to};
 
-use arm64_fixup::stub::{StubAnswer, write_stub, write_thunk};
+use arm64_fixup::stub::{write_stub, write_thunk};
+use macho::refusal::answer_number;
 
 // Writes the stub entry at `addr` whose pointer is at `ptr`; `reaches` gets 1 where ADRP reaches the pointer's page, else 0.
 pub fn hauklivo_write_stub(buf: &mut [u8], addr: u64, ptr: u64, reaches: &mut u8) -> u8
@@ -11,15 +12,11 @@ pub fn hauklivo_write_stub(buf: &mut [u8], addr: u64, ptr: u64, reaches: &mut u8
     ensures buf { buf.new ≡ stub_to buf.old addr ptr }
 {
     match write_stub(buf, addr, ptr) {
-        StubAnswer::Refused(refusal) => refusal.number(),
-        StubAnswer::OutOfReach => {
-            *reaches = 0;
+        Ok(reach) => {
+            *reaches = reach as u8;
             0
         }
-        StubAnswer::Reaches => {
-            *reaches = 1;
-            0
-        }
+        Err(refusal) => refusal.number(),
     }
 }
 
@@ -28,5 +25,5 @@ pub fn hauklivo_write_thunk(buf: &mut [u8], addr: u64, target: u64) -> u8
     ensures number { result ≡ thunk_number_to buf.old }
     ensures buf { buf.new ≡ thunk_to buf.old addr target }
 {
-    write_thunk(buf, addr, target).number()
+    answer_number(write_thunk(buf, addr, target))
 }

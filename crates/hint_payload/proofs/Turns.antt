@@ -1,21 +1,22 @@
 -- The walks over a payload and a row, value by value: what is left gives what the whole gives.
+use Rattle.std.specs.Prelude.{Ok, Option, Some, None, MatchBool}
+use Rattle.std.specs.List.{AllWithin, HoldsAt}
 use mathlib.Core.Path.{◌≡◌, refl, sym, ap, ◌∙◌}
 use mathlib.Core.Bool.{Bool, true, false}
 use mathlib.Core.List.{List, [], ◌∷◌, ◌++◌, append-nil, append_assoc}
 use Prim.Native.Nat.{ℕ, zero, suc, ◌+◌, ◌-◌, ◌^◌, ◌<◌}
 use native.Mathlib.Omega.{arith}
 use native.Mathlib.Numerals.{add-one}
+use native.Mathlib.Nat.{not-suc-le-zero}
 use borrow.Author.Tests.{eq-eqb, ne_eqb, lt-ltb}
-use lib.Dec.{ltb}
+use lib.Dec.{eqb, ltb}
 use lib.ListN.{length, get_or, set, take, drop, length-drop}
 use lib.Seq.{sets, drop-cons, drop-length, take-suc}
 use Rattle.util.specs.Choice.{choose}
+use Rattle.util.proofs.Choice.{split}
 use Rattle.macho.specs.declared.refusal.Refusal.TheVariants.{Malformed}
-use Rattle.macho.specs.declared.refusal.Answer.TheVariants.{Filled}
 use Rattle.uleb.specs.Values.{Values, ended, cut, next, values_of, first_of, uleb_at}
 use Rattle.uleb.specs.Shortest.{uleb_of, ulebs_of}
-use Rattle.uleb.specs.declared.Uleb.{Uleb}
-use Rattle.uleb.specs.declared.Uleb.TheVariants as U
 use Rattle.uleb.proofs.Placed.{Read, read-refused}
 use Rattle.uleb.proofs.Spelled.{no_bytes}
 use Rattle.hint_payload.specs.Row.{expected_after, expected_in}
@@ -27,17 +28,21 @@ use Rattle.hint_payload.proofs.Walk.{goes_before}
 
 -- ---- bytes that are all zero
 
-pub zero-at : (l : List ℕ) (i : ℕ) → i < length l → get_or l i 0 ≡ 0 → all_zero (drop i l) ≡ all_zero (drop (i + 1) l)
+all-zeros : (l : List ℕ) → ((k : ℕ) → k < length l → get_or l k 0 ≡ 0) → all_zero l ≡ true
 unfolding all_zero choose
-zero-at l i h e = rw (drop-cons l i 0 h, add-one i, eq-eqb (get_or l i 0) 0 e)
+all-zeros [] f = refl
+all-zeros (x ∷ l) f = rw (eq-eqb x 0 (f 0 (omega arith))) (all-zeros l (λ k w. f (suc k) (omega arith)))
 
-pub nonzero-at : (l : List ℕ) (i : ℕ) → i < length l → (get_or l i 0 ≡ 0 → ⊥) → all_zero (drop i l) ≡ false
+not-zeros : (l : List ℕ) (k : ℕ) → k < length l → (get_or l k 0 ≡ 0 → ⊥) → all_zero l ≡ false
 unfolding all_zero choose
-nonzero-at l i h e = rw (drop-cons l i 0 h, ne_eqb (get_or l i 0) 0 e)
+not-zeros [] k h n = absurd (not-suc-le-zero h)
+not-zeros (x ∷ l) zero h n = rw (ne_eqb x 0 n)
+not-zeros (x ∷ l) (suc k) h n = split (λ (b : Bool). b ≡ false) (eqb x 0) (all_zero l) false (λ e. not-zeros l k (omega arith) n) (λ e. refl)
 
-pub none_left : (l : List ℕ) (i : ℕ) → i ≡ length l → all_zero (drop i l) ≡ true
-unfolding all_zero
-none_left l i e = rw (e, drop-length l)
+-- the answer of a walk over them
+pub zeros-by-cases : (l : List ℕ) (b : Bool) → MatchBool b (AllWithin (λ x. x ≡ 0) l 0 (length l)) ((k : ℕ) × (k < length l) × HoldsAt (λ x. x ≡ 0 → ⊥) l k) → b ≡ all_zero l
+zeros-by-cases l true h = sym (all-zeros l (λ k w. h k 0 (omega arith) w))
+zeros-by-cases l false h = sym (not-zeros l h.0 h.1 (h.2 0))
 
 -- ---- the walk that checks
 
@@ -51,7 +56,7 @@ unfolding payload_of
 check-start l = go (payload_from Kind (values_of l))
   where
     go : (p : Payload) → count_after 0 p ≡ count_in p
-    go (holds row) = ap Filled (omega arith)
+    go (holds row) = ap Ok (omega arith)
     go (fails x) = refl
 
 -- a value that was read
@@ -61,15 +66,15 @@ unfolding payload_from choose
 check-value l e at v end r = rw (r.stands, lt-ltb v (2 ^ 64) r.small)
 
 -- none was read
-pub check-refused : (l : List ℕ) (e : Expected) (at : ℕ) (u : Uleb) → at < length l → u ≡ U.NoValue → u ≡ uleb_at l at → Rest l e at ≡ fails Malformed
+pub check-refused : (l : List ℕ) (e : Expected) (at : ℕ) (u : Option (ℕ × ℕ)) → at < length l → u ≡ None → u ≡ uleb_at l at → Rest l e at ≡ fails Malformed
 unfolding payload_from choose
 check-refused l e at u h p q = go (values_of (drop at l)) refl (read-refused l at u p q)
   where
-    known : (t : Bool) (v n : ℕ) (x y : Payload) → choose t (U.Value v n) U.NoValue ≡ U.NoValue → choose t x y ≡ y
+    known : (t : Bool) (v n : ℕ) (x y : Payload) → choose {A = Option (ℕ × ℕ)} t (Some (v, n)) None ≡ None → choose t x y ≡ y
     known true v n x y f = let z : ◌≡◌ {A = ℕ} 0 1 = cc in absurd (omega arith)
     known false v n x y f = refl
 
-    go : (ns : Values) → values_of (drop at l) ≡ ns → first_of (length l) ns ≡ U.NoValue → payload_from e ns ≡ fails Malformed
+    go : (ns : Values) → values_of (drop at l) ≡ ns → first_of (length l) ns ≡ None → payload_from e ns ≡ fails Malformed
     go ended f r =
         let k : length (drop at l) ≡ 0 = ap length (no_bytes (drop at l) f) in
         absurd (omega (arith, k, length-drop at l))
@@ -84,7 +89,7 @@ check-closed l c e at v end z r =
 
 -- one value more
 counted-before : (c v : ℕ) (p : Payload) → count_after (c + 1) p ≡ count_after c (onto v p)
-counted-before c v (holds row) = ap Filled (omega arith)
+counted-before c v (holds row) = ap Ok (omega arith)
 counted-before c v (fails x) = refl
 
 pub check-more : (l : List ℕ) (c : ℕ) (e : Expected) (at v end : ℕ) → (expected_after e v ≡ Zeros → ⊥) → Read l at v end
@@ -109,15 +114,15 @@ pub fill-value : (l : List ℕ) (slots : List ℕ) (i n m at v end : ℕ) → n 
 unfolding first_values choose
 fill-value l slots i n m at v end e r = rw (e, r.stands, lt-ltb v (2 ^ 64) r.small, add-one i)
 
-pub fill-refused : (l : List ℕ) (slots : List ℕ) (i n at : ℕ) (u : Uleb) → u ≡ U.NoValue → u ≡ uleb_at l at → slots ≡ sets slots i (FirstFrom l n at)
+pub fill-refused : (l : List ℕ) (slots : List ℕ) (i n at : ℕ) (u : Option (ℕ × ℕ)) → u ≡ None → u ≡ uleb_at l at → slots ≡ sets slots i (FirstFrom l n at)
 unfolding first_values choose
 fill-refused l slots i n at u p q = ap (sets slots i) (sym (go n (values_of (drop at l)) (read-refused l at u p q)))
   where
-    known : (t : Bool) (v k : ℕ) (x : List ℕ) → choose t (U.Value v k) U.NoValue ≡ U.NoValue → choose t x [] ≡ []
+    known : (t : Bool) (v k : ℕ) (x : List ℕ) → choose {A = Option (ℕ × ℕ)} t (Some (v, k)) None ≡ None → choose t x [] ≡ []
     known true v k x f = let z : ◌≡◌ {A = ℕ} 0 1 = cc in absurd (omega arith)
     known false v k x f = refl
 
-    go : (m : ℕ) (ns : Values) → first_of (length l) ns ≡ U.NoValue → first_values m ns ≡ []
+    go : (m : ℕ) (ns : Values) → first_of (length l) ns ≡ None → first_values m ns ≡ []
     go zero ns r = refl
     go (suc m) ended r = refl
     go (suc m) cut r = refl

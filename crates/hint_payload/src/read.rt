@@ -7,64 +7,51 @@ ghost use Rattle.hint_payload.specs.Answer.{count_in, count_after, read_to, row_
 
 use crate::expected::Expected;
 use macho::list::MOST_RECORDS;
-use macho::refusal::{Answer, Refusal};
-use uleb::{Uleb, read_uleb};
+use macho::refusal::Refusal;
+use uleb::read_uleb;
 
 // Whether every byte from `at` on is zero.
 fn all_zero(bytes: &[u8], at: usize) -> bool
     requires { at ≤ length bytes.now }
     ensures { result ≡ all_zero (drop at bytes.now) }
 {
-    let mut i = at;
-    while i < bytes.len() {
-        if bytes[i] != 0 {
-            return false;
-        }
-        i += 1;
-    }
-    true
+    bytes[at..].iter().all(|byte| *byte == 0)
 }
 
 // The answer for a payload that kind 0 closes before `at`, after so many values.
-fn after_close(payload: &[u8], at: usize, count: usize) -> Answer
+#[tactic(auto, unfolding(util::specs::Choice::choose))]
+fn after_close(payload: &[u8], at: usize, count: usize) -> Result<usize, Refusal>
     requires { at ≤ length payload.now }
     ensures { result ≡ count_after count (after_close (drop at payload.now)) }
 {
     if all_zero(payload, at) {
-        return Answer::Filled(count);
+        Ok(count)
+    } else {
+        Err(Refusal::Trailing)
     }
-    Answer::Refused(Refusal::Trailing)
 }
 
 // The answer for a payload that ends after so many values; after kind 0 it is not asked for.
-fn at_end(expected: Expected, count: usize) -> Answer
+fn at_end(expected: Expected, count: usize) -> Result<usize, Refusal>
     ensures { result ≡ count_after count (ends_in expected) }
 {
     match expected {
-        Expected::Kind => Answer::Filled(count),
-        Expected::Count => Answer::Refused(Refusal::Malformed),
-        Expected::Address(_) => Answer::Refused(Refusal::Malformed),
-        Expected::Zeros => Answer::Refused(Refusal::Malformed),
+        Expected::Kind => Ok(count),
+        Expected::Count | Expected::Address(_) | Expected::Zeros => Err(Refusal::Malformed),
     }
 }
 
 // How many values a payload has, or why it is refused.
-fn check_payload(payload: &[u8]) -> Answer
+fn check_payload(payload: &[u8]) -> Result<usize, Refusal>
     ensures { result ≡ count_in (payload_of payload.now) }
 {
     let mut at = 0;
     let mut count = 0;
     let mut expected = Expected::Kind;
     while at < payload.len() {
-        match read_uleb(payload, at) {
-            Uleb::NoValue => {
-                return Answer::Refused(Refusal::Malformed);
-            }
-            Uleb::Value(value, next) => {
-                expected = expected.after(value);
-                at = next;
-            }
-        }
+        let (value, next) = read_uleb(payload, at).ok_or(Refusal::Malformed)?;
+        expected = expected.after(value);
+        at = next;
         if let Expected::Zeros = expected {
             return after_close(payload, at, count);
         }
@@ -79,35 +66,27 @@ fn fill(payload: &[u8], slots: &mut [u64], count: usize)
     ensures { slots.new ≡ sets slots.old 0 (first_values count (values_of payload.now)) }
 {
     let mut at = 0;
-    let mut i = 0;
-    while i < count {
-        match read_uleb(payload, at) {
-            Uleb::NoValue => {
-                return;
-            }
-            Uleb::Value(value, next) => {
-                slots[i] = value;
-                at = next;
-            }
-        }
-        i += 1;
+    for i in 0..count {
+        let Some((value, next)) = read_uleb(payload, at) else {
+            return;
+        };
+        slots[i] = value;
+        at = next;
     }
 }
 
 // Reads a payload into slots, a row of kind, count and addresses for each hint, and answers how many values it filled.
-pub fn read_hints(payload: &[u8], slots: &mut [u64]) -> Answer
+pub fn read_hints(payload: &[u8], slots: &mut [u64]) -> Result<usize, Refusal>
     ensures answer { result ≡ read_to payload.now (length slots.old) }
     ensures slots { slots.new ≡ row_to payload.now slots.old }
 {
     if MOST_RECORDS < payload.len() {
-        return Answer::Refused(Refusal::Lengths);
+        return Err(Refusal::Lengths);
     }
     if slots.len() < payload.len() {
-        return Answer::Refused(Refusal::Slots);
+        return Err(Refusal::Slots);
     }
-    let answer = check_payload(payload);
-    if let Answer::Filled(count) = answer {
-        fill(payload, slots, count);
-    }
-    answer
+    let count = check_payload(payload)?;
+    fill(payload, slots, count);
+    Ok(count)
 }

@@ -7,7 +7,7 @@ ghost use Rattle.hint_payload.specs.Answer.{row_check, write_to, bytes_to};
 
 use crate::expected::Expected;
 use macho::list::MOST_RECORDS;
-use macho::refusal::{Answer, Check, Refusal};
+use macho::refusal::Refusal;
 use uleb::{MOST_BYTES, write_uleb};
 
 // Whether a row is whole hints, none of kind 0.
@@ -15,25 +15,24 @@ fn is_whole(row: &[u64]) -> bool
     ensures { result ≡ is_whole row.now }
 {
     let mut expected = Expected::Kind;
-    let mut i = 0;
-    while i < row.len() {
-        expected = expected.after(row[i]);
-        i += 1;
+    for value in row {
+        expected = expected.after(*value);
     }
     expected.is_kind()
 }
 
 // Whether a row is refused by 1.
-fn check_row(row: &[u64]) -> Check
+#[tactic(auto, unfolding(crate::specs::Answer::row_check, util::specs::Choice::choose))]
+fn check_row(row: &[u64]) -> Result<(), Refusal>
     ensures { result ≡ row_check row.now }
 {
     if MOST_RECORDS < row.len() {
-        return Check::Refused(Refusal::Lengths);
+        return Err(Refusal::Lengths);
     }
     if is_whole(row) {
-        return Check::Fit;
+        return Ok(());
     }
-    Check::Refused(Refusal::Lengths)
+    Err(Refusal::Lengths)
 }
 
 // Puts the values of a row at the start of out, and answers where they end.
@@ -42,24 +41,20 @@ fn put_row(row: &[u64], out: &mut [u8]) -> usize
     ensures { Puts out.old 0 (ulebs_of row.now) result out.new }
 {
     let mut at = 0;
-    let mut i = 0;
-    while i < row.len() {
-        at = write_uleb(out, at, row[i]);
-        i += 1;
+    for value in row {
+        at = write_uleb(out, at, *value);
     }
     at
 }
 
 // Writes a row as a payload at the start of out, each value in its shortest spelling, and answers how many bytes that is.
-pub fn write_hints(row: &[u64], out: &mut [u8]) -> Answer
+pub fn write_hints(row: &[u64], out: &mut [u8]) -> Result<usize, Refusal>
     ensures answer { result ≡ write_to row.now (length out.old) }
     ensures out { out.new ≡ bytes_to row.now out.old }
 {
-    if let Check::Refused(refusal) = check_row(row) {
-        return Answer::Refused(refusal);
-    }
+    check_row(row)?;
     if out.len() / MOST_BYTES < row.len() {
-        return Answer::Refused(Refusal::Slots);
+        return Err(Refusal::Slots);
     }
-    Answer::Filled(put_row(row, out))
+    Ok(put_row(row, out))
 }

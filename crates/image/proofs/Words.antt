@@ -3,7 +3,7 @@ use mathlib.Core.Path.{◌≡◌, refl, sym, ap, ap₂, ◌∙◌}
 use mathlib.Core.Logic.{◌⊎◌, inl, inr, ⊎_elim}
 use mathlib.Core.Bool.{Bool, true, false, ◌&&◌, ◌||◌, true≢false}
 use mathlib.Core.List.{List, [], ◌∷◌}
-use mathlib.Core.Option.{Option, none, some}
+use Rattle.std.specs.Prelude.{Option, Some, None}
 use Prim.Native.Nat.{ℕ, zero, suc, ◌+◌, ◌*◌, ◌/◌, ◌%◌, ◌^◌, ◌≤◌, ◌<◌}
 use native.Mathlib.Omega.{arith}
 use borrow.Author.Tests.{le-leb, lt-ltb, leb-true, leb-false, ltb-true, ltb-false}
@@ -81,8 +81,8 @@ module _ (foot : ℕ → Bool) where
   pub puts-write : (places : List ℕ) (news : List (Option ℕ)) → ((b : ℕ) → in_words places b ≡ true → foot b ≡ true) → Writes foot (put_words places news)
   puts-write [] news cover = none-writes
   puts-write (at ∷ places) [] cover = none-writes
-  puts-write (at ∷ places) (none ∷ news) cover = puts-write places news (λ b h. cover b (or_right (span at 4 b) (in_words places b) h))
-  puts-write (at ∷ places) (some w ∷ news) cover =
+  puts-write (at ∷ places) (None ∷ news) cover = puts-write places news (λ b h. cover b (or_right (span at 4 b) (in_words places b) h))
+  puts-write (at ∷ places) (Some w ∷ news) cover =
       let f = put-writes at w (λ b h. cover b (or_left (span at 4 b) (in_words places b) h)) in
       let g = puts-write places news (λ b h. cover b (or_right (span at 4 b) (in_words places b) h)) in
       record {
@@ -99,8 +99,8 @@ puts_none (at ∷ places) x = refl
 -- the first place's word is stored first
 pub puts_first : (at : ℕ) (places : List ℕ) (new : Option ℕ) (news : List (Option ℕ)) (x : List ℕ)
     → put_words places news (put_words (at ∷ []) (new ∷ []) x) ≡ put_words (at ∷ places) (new ∷ news) x
-puts_first at places none news x = refl
-puts_first at places (some w) news x = refl
+puts_first at places None news x = refl
+puts_first at places (Some w) news x = refl
 
 -- words that stand in the footprint alone
 pub words-read : (places : List ℕ) → Reads (in_words places) (words_at places)

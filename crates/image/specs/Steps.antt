@@ -1,7 +1,6 @@
 -- Steps on an image and a tally: each reads the words at its places, answers them, and its answer says which of the places get a new word
 -- (RULES 8.11, 8.30, 9.22).
-use Rattle.std.specs.Prelude.{Bool, List, ℕ}
-use Rattle.std.proofs.Math.Option.{Option}
+use Rattle.std.specs.Prelude.{Bool, List, ℕ, Option}
 use Rattle.image.specs.Words.{in_words, words_at, put_words}
 
 -- what a step works on

@@ -1,6 +1,5 @@
 -- Words of 4 bytes at places of an image: which bytes are theirs, what stands there, and new words put there.
-use Rattle.std.specs.Prelude.{Bool, false, ◌&&◌, ◌||◌, List, [], ◌∷◌, ℕ, ◌+◌, leb, ltb}
-use Rattle.std.proofs.Math.Option.{Option, none, some}
+use Rattle.std.specs.Prelude.{Bool, false, ◌&&◌, ◌||◌, List, [], ◌∷◌, ℕ, ◌+◌, leb, ltb, Option, Some, None}
 use Rattle.util.specs.Word.{le, put}
 
 -- whether b is one of the m bytes from a on
@@ -21,5 +20,5 @@ words_at (at ∷ places) x = le 4 x at ∷ words_at places x
 abbrev pub put_words : List ℕ → List (Option ℕ) → List ℕ → List ℕ
 put_words [] news x = x
 put_words (at ∷ places) [] x = x
-put_words (at ∷ places) (none ∷ news) x = put_words places news x
-put_words (at ∷ places) (some w ∷ news) x = put_words places news (put 4 x at w)
+put_words (at ∷ places) (None ∷ news) x = put_words places news x
+put_words (at ∷ places) (Some w ∷ news) x = put_words places news (put 4 x at w)

@@ -28,14 +28,14 @@ mnemonic-length Ldr = lit≤ tt
 mnemonic-length Ldrsw = lit≤ tt
 mnemonic-length Prfm = lit≤ tt
 
-pub row-length : (r : Row) → length (row_name r) ≤ 11
-row-length (Load m v n) = omega (arith, mnemonic-length m)
-row-length (Store m v n) = omega (arith, mnemonic-length m)
-row-length (Prefetch m) = omega (arith, mnemonic-length m)
-row-length Unallocated = lit≤ tt
+pub row_length : (r : Row) → length (row_name r) ≤ 11
+row_length (Load m v n) = omega (arith, mnemonic-length m)
+row_length (Store m v n) = omega (arith, mnemonic-length m)
+row_length (Prefetch m) = omega (arith, mnemonic-length m)
+row_length Unallocated = lit≤ tt
 
-pub name-length : (k : ℕ) → length (name_at k) ≤ 13
+pub name_length : (k : ℕ) → length (name_at k) ≤ 13
 unfolding name_at
-name-length k =
+name_length k =
     let r = row_from (row_of (size_at k) (v_at k) (opc_at k)) in
-    chosen (λ (l : List ℕ). length l ≤ 13) (matches load_store_high k) _ _ (simp length-append (omega (arith, row-length r))) (lit≤ tt)
+    chosen (λ (l : List ℕ). length l ≤ 13) (matches load_store_high k) _ _ (simp length-append (omega (arith, row_length r))) (lit≤ tt)

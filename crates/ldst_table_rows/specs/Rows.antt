@@ -29,13 +29,5 @@ row_from T.unallocated = Unallocated
 
 -- whether a mnemonic is LDRSW
 abbrev pub is_ldrsw_name : Mnemonic → Bool
-is_ldrsw_name Strb = false
-is_ldrsw_name Ldrb = false
-is_ldrsw_name Ldrsb = false
-is_ldrsw_name Strh = false
-is_ldrsw_name Ldrh = false
-is_ldrsw_name Ldrsh = false
-is_ldrsw_name Str = false
-is_ldrsw_name Ldr = false
 is_ldrsw_name Ldrsw = true
-is_ldrsw_name Prfm = false
+is_ldrsw_name _ = false

@@ -1,53 +1,54 @@
-// The name of an index's row, put into lent bytes.
-ghost use Rattle.std.specs.Prelude.{◌+◌, ◌≤◌, length};
-ghost use Rattle.util.specs.Puts.{Puts};
+// The name of an index's row, put on a page.
+ghost use Rattle.std.specs.Prelude.{◌≡◌};
+ghost use Rattle.text.specs.Prints.{HasRoom, Prints};
 ghost use Rattle.ldst_table_rows.specs.Names.{mnemonic_name, row_name, name_at};
 
 use crate::class::has_fixed_fields;
 use crate::rows::{Mnemonic, Row, row_of};
-use text::put;
+use text::Page;
 
-// Puts a mnemonic.
-fn put_mnemonic(out: &mut [u8], at: usize, mnemonic: Mnemonic) -> usize
-    requires { at + 5 ≤ length out.old }
-    ensures { Puts out.old at (mnemonic_name mnemonic) result out.new }
-{
-    match mnemonic {
-        Mnemonic::Strb => put(out, at, b"STRB"),
-        Mnemonic::Ldrb => put(out, at, b"LDRB"),
-        Mnemonic::Ldrsb => put(out, at, b"LDRSB"),
-        Mnemonic::Strh => put(out, at, b"STRH"),
-        Mnemonic::Ldrh => put(out, at, b"LDRH"),
-        Mnemonic::Ldrsh => put(out, at, b"LDRSH"),
-        Mnemonic::Str => put(out, at, b"STR"),
-        Mnemonic::Ldr => put(out, at, b"LDR"),
-        Mnemonic::Ldrsw => put(out, at, b"LDRSW"),
-        Mnemonic::Prfm => put(out, at, b"PRFM"),
+impl Mnemonic {
+    // The manual's spelling.
+    fn name(self) -> &'static [u8]
+        ensures { result.now ≡ mnemonic_name self }
+    {
+        match self {
+            Mnemonic::Strb => b"STRB",
+            Mnemonic::Ldrb => b"LDRB",
+            Mnemonic::Ldrsb => b"LDRSB",
+            Mnemonic::Strh => b"STRH",
+            Mnemonic::Ldrh => b"LDRH",
+            Mnemonic::Ldrsh => b"LDRSH",
+            Mnemonic::Str => b"STR",
+            Mnemonic::Ldr => b"LDR",
+            Mnemonic::Ldrsw => b"LDRSW",
+            Mnemonic::Prfm => b"PRFM",
+        }
     }
 }
 
-// Puts the name of a row.
-fn put_row(out: &mut [u8], at: usize, row: Row) -> usize
-    requires { at + 11 ≤ length out.old }
-    ensures { Puts out.old at (row_name row) result out.new }
-{
-    match row {
-        Row::Load(mnemonic, _, _) => put_mnemonic(out, at, mnemonic),
-        Row::Store(mnemonic, _, _) => put_mnemonic(out, at, mnemonic),
-        Row::Prefetch(mnemonic) => put_mnemonic(out, at, mnemonic),
-        Row::Unallocated => put(out, at, b"unallocated"),
+impl Row {
+    // The name of a row: its mnemonic, where it has one.
+    fn name(self) -> &'static [u8]
+        ensures { result.now ≡ row_name self }
+    {
+        match self {
+            Row::Load(mnemonic, _, _) | Row::Store(mnemonic, _, _) | Row::Prefetch(mnemonic) =>
+                mnemonic.name(),
+            Row::Unallocated => b"unallocated",
+        }
     }
 }
 
 // Puts the name of an index's row and a colon, where it has one.
-pub fn put_name(out: &mut [u8], at: usize, k: u32) -> usize
-    requires { at + 13 ≤ length out.old }
-    ensures { Puts out.old at (name_at k) result out.new }
+#[tactic(auto, using(text::proofs::Prints::prints_then, text::proofs::Prints::prints_none, crate::proofs::NameLaws::row_length), unfolding(util::specs::Choice::choose, crate::specs::Names::name_at))]
+pub fn put_name(page: &mut Page, k: u32)
+    requires { HasRoom page.old 13 }
+    ensures { Prints page.old (name_at k) page.new }
 {
     if has_fixed_fields(k) {
-        let next = put_row(out, at, row_of(k / 256 % 4, k / 16 % 2, k % 4));
-        put(out, next, b": ")
-    } else {
-        at
+        let row = row_of(k / 256 % 4, k / 16 % 2, k % 4);
+        page.put(row.name());
+        page.put(b": ");
     }
 }

@@ -4,7 +4,7 @@ ghost use Rattle.arm64_insn.specs.LoadStoreTable.{row_of};
 ghost use Rattle.ldst_table_rows.specs.Rows.{row_from};
 
 // The mnemonics of the table.
-#[derive(Clone, Copy)]
+#[derive(Clone, Copy, PartialEq, Eq)]
 pub enum Mnemonic {
     Strb,
     Ldrb,
@@ -33,6 +33,7 @@ const GENERAL: bool = false;
 const VECTOR: bool = true;
 
 // The row of size, V and opc.
+#[tactic(auto, using(crate::proofs::RowLaws::row_at, crate::proofs::RowLaws::row_other))]
 pub fn row_of(size: u32, v: u32, opc: u32) -> Row
     requires { (size < 4) × (v < 2) × (opc < 4) }
     ensures { result ≡ row_from (row_of size v opc) }

@@ -1,11 +1,10 @@
 -- The source file of the table of classes (RULES 7.33) as ASCII codes: what stands before the entries, a line for each, and what closes them.
-use Rattle.std.specs.Prelude.{ℕ, zero, suc, Bool, List, [], ◌++◌, ltb}
+use Rattle.std.specs.Prelude.{ℕ, zero, suc, Bool, List, [], ◌++◌, ltb, Option, Some, None}
 use Rattle.util.specs.Choice.{choose}
 use Rattle.text.specs.Digits.{ascii, digits, decimal}
 use Rattle.arm64_ldst_class.specs.Entry.{entry_of}
 use Rattle.arm64_ldst_class.specs.Row.{class_of_index}
 use Rattle.arm64_ldst_class.specs.declared.LoadStoreClass.{LoadStoreClass}
-use Rattle.arm64_ldst_class.specs.declared.LoadStoreClass.TheVariants.{Moves, Neither}
 use Rattle.ldst_table_rows.specs.Names.{name_at}
 
 -- whether a class stores or loads
@@ -17,16 +16,16 @@ abbrev pub registers_text : Bool → List ℕ
 registers_text is_vector = choose is_vector (ascii " vector") (ascii " general")
 
 -- `load N` or `store N`, and the registers
-unfoldable pub class_text : LoadStoreClass → List ℕ
-class_text (Moves n s v l) = moved_text s ++ (decimal n ++ registers_text v)
-class_text Neither = ascii "no load or store"
+unfoldable pub class_text : Option LoadStoreClass → List ℕ
+class_text (Some c) = moved_text c.stores ++ (decimal c.bytes ++ registers_text c.vector)
+class_text None = ascii "no load or store"
 
 -- a number below 1,000 in decimal, without leading zero
 abbrev pub number : ℕ → List ℕ
 number x = choose (ltb x 100) (decimal x) (digits 10 3 x)
 
 -- the comment of an index and its class: the index in hexadecimal, the manual's name and the class
-unfoldable pub comment_of : ℕ → LoadStoreClass → List ℕ
+unfoldable pub comment_of : ℕ → Option LoadStoreClass → List ℕ
 comment_of k c = ascii ", // " ++ (digits 16 3 k ++ (ascii " " ++ (name_at k ++ (class_text c ++ ascii "\n"))))
 
 -- the line of an index: its entry and the comment

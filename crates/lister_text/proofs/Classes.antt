@@ -1,16 +1,17 @@
 -- The class of a load and of a store.
+use Rattle.std.specs.Prelude.{Option, Some, None}
 use mathlib.Core.Path.{◌≡◌, sym}
 use mathlib.Core.Bool.{true, false}
 use Rattle.util.proofs.Choice.{choose-true, choose-false}
-use Rattle.arm64_insn.specs.declared.adrp.AdrpWord.{AdrpWord}
-use Rattle.arm64_insn.specs.declared.add.AddWord.{AddWord}
+use Rattle.arm64_insn.specs.declared.adrp.Adrp.{Adrp}
+use Rattle.arm64_insn.specs.declared.add.Add.{Add}
+use Rattle.arm64_insn.specs.declared.ldst.LoadStore.{LoadStore}
 use Rattle.arm64_insn.specs.declared.ldst.LoadStore as L
-use Rattle.arm64_insn.specs.declared.ldst.LoadStoreWord.{LoadStoreWord}
 use Rattle.lister_text.specs.Class.{class_by}
 use Rattle.lister_text.specs.declared.class.Class.TheVariants.{Load, Store}
 
-module _ (a : AdrpWord) (d : AddWord) (w : LoadStoreWord) (l : L.LoadStore)
-    (p : a ≡ AdrpWord.Other) (q : d ≡ AddWord.Other) (r : w ≡ LoadStoreWord.LoadStore l) where
+module _ (a : Option Adrp) (d : Option Add) (w : Option LoadStore) (l : L.LoadStore)
+    (p : a ≡ None) (q : d ≡ None) (r : w ≡ Some l) where
   pub stores : l.is_store ≡ true → Store l.size ≡ class_by a d w
   stores e = rw (p, q, r) (sym (choose-true l.is_store (Store l.size) (Load l.size) e))
 

@@ -8,10 +8,11 @@ use lib.Dec.{lit≤}
 use lib.ListN.{length, length-append}
 use Rattle.util.specs.Word.{le}
 use Rattle.lister_text.specs.Class.{class_of}
-use Rattle.text.proofs.Decimal.{decimal-length}
+use Rattle.text.proofs.Decimal.{decimal_length}
 use Rattle.lister_text.specs.Text.{hex_of, class_name, line_of, lines_of}
-use Rattle.util.specs.Puts.{Puts}
-use Rattle.util.proofs.Puts.{put_then}
+use Rattle.text.specs.Prints.{Prints}
+use Rattle.text.specs.declared.Page.{Page}
+use Rattle.text.proofs.Prints.{prints_none, prints_then}
 use Rattle.lister_text.specs.declared.class.Class.{Class}
 use Rattle.lister_text.specs.declared.class.Class.TheVariants.{Adrp, Add, Load, Store, Other}
 
@@ -19,17 +20,17 @@ hex-length : (x : ℕ) → length (hex_of x) ≡ 9
 unfolding hex_of
 hex-length x = refl
 
-class-length : (c : Class) → length (class_name c) ≤ 8
+pub class_length : (c : Class) → length (class_name c) ≤ 8
 unfolding class_name
-class-length Adrp = lit≤ tt
-class-length Add = lit≤ tt
-class-length (Load n) = omega (arith, decimal-length n)
-class-length (Store n) = omega (arith, decimal-length n)
-class-length Other = lit≤ tt
+class_length Adrp = lit≤ tt
+class_length Add = lit≤ tt
+class_length (Load n) = omega (arith, decimal_length n)
+class_length (Store n) = omega (arith, decimal_length n)
+class_length Other = lit≤ tt
 
 pub line-length : (offset word : ℕ) → length (line_of offset word) ≤ 27
 unfolding line_of
-line-length offset word = simp length-append (omega (arith, hex-length offset, hex-length word, class-length (class_of word)))
+line-length offset word = simp length-append (omega (arith, hex-length offset, hex-length word, class_length (class_of word)))
 
 pub lines-length : (s : List ℕ) (n : ℕ) → length (lines_of s n) ≤ 27 * n
 unfolding lines_of
@@ -37,11 +38,11 @@ lines-length s zero = lit≤ tt
 lines-length s (suc n) = simp length-append (omega (arith, lines-length s n, line-length (4 * n) (le 4 s (4 * n))))
 
 -- no line yet, and one line more
-pub no_line : (s l : List ℕ) → Puts l 0 (lines_of s 0) 0 l
+pub no_line : (s : List ℕ) (a : Page) → Prints a (lines_of s 0) a
 unfolding lines_of
-no_line s l = record { ends = refl; stored = refl }
+no_line s a = prints_none a
 
-pub next-line : (s : List ℕ) (i w : ℕ) {l m n : List ℕ} {at j : ℕ} → Puts l 0 (lines_of s i) at m → w ≡ le 4 s (4 * i) → Puts m at (line_of (4 * i) w) j n
-    → Puts l 0 (lines_of s (i + 1)) j n
+pub next-line : (s : List ℕ) (i w : ℕ) {a b c : Page} → Prints a (lines_of s i) b → w ≡ le 4 s (4 * i) → Prints b (line_of (4 * i) w) c
+    → Prints a (lines_of s (i + 1)) c
 unfolding lines_of
-next-line s i w p e q = rw (add-one i, ← e) (put_then p q)
+next-line s i w p e q = rw (add-one i, ← e) (prints_then p q)

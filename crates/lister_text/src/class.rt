@@ -2,9 +2,9 @@
 ghost use Rattle.std.specs.Prelude.{◌≡◌};
 ghost use Rattle.lister_text.specs.Class.{class_by, class_of};
 
-use arm64_insn::add::{Add, AddWord};
-use arm64_insn::adrp::{Adrp, AdrpWord};
-use arm64_insn::ldst::{LoadStore, LoadStoreWord};
+use arm64_insn::add::Add;
+use arm64_insn::adrp::Adrp;
+use arm64_insn::ldst::LoadStore;
 
 // A load or store with the bytes that it moves.
 #[derive(Clone, Copy)]
@@ -17,28 +17,25 @@ pub enum Class {
 }
 
 // The class by what each decoder answers.
-fn class_by(adrp: AdrpWord, add: AddWord, ldst: LoadStoreWord) -> Class
+#[tactic(auto, unfolding(util::specs::Choice::choose))]
+fn class_by(adrp: Option<Adrp>, add: Option<Add>, ldst: Option<LoadStore>) -> Class
     ensures { result ≡ class_by adrp add ldst }
 {
-    match adrp {
-        AdrpWord::Adrp(_) => Class::Adrp,
-        AdrpWord::Other => match add {
-            AddWord::Add(_) => Class::Add,
-            AddWord::Other => match ldst {
-                LoadStoreWord::LoadStore(l) => {
-                    if l.is_store {
-                        Class::Store(l.size)
-                    } else {
-                        Class::Load(l.size)
-                    }
-                }
-                LoadStoreWord::Other => Class::Other,
-            },
-        },
+    if adrp.is_some() {
+        return Class::Adrp;
+    }
+    if add.is_some() {
+        return Class::Add;
+    }
+    match ldst {
+        Some(l) if l.is_store => Class::Store(l.size),
+        Some(l) => Class::Load(l.size),
+        None => Class::Other,
     }
 }
 
 // What the hint decoders see in a word.
+#[tactic(auto, unfolding(crate::specs::Class::class_of))]
 pub fn class_of(insn: u32) -> Class
     ensures { result ≡ class_of insn }
 {

@@ -3,17 +3,18 @@
 
 pub mod class;
 
-ghost use Rattle.std.specs.Prelude.{◌≡◌, ◌∷◌, [], ◌++◌, ◌+◌, ◌*◌, ◌/◌, ◌≤◌, ◌<◌, length};
-ghost use Rattle.text.specs.Digits.{decimal};
+ghost use Rattle.std.specs.Prelude.{◌≡◌, ◌*◌, ◌/◌, ◌≤◌, ◌<◌, length};
+ghost use Rattle.text.specs.Prints.{HasRoom, Prints};
 ghost use Rattle.util.specs.Puts.{Puts};
 ghost use Rattle.lister_text.specs.Text.{hex_of, class_name, line_of, lines_of, refused, text_of};
 ghost use Rattle.lister_text.specs.Listing.{list_of, out_after};
 
 use class::{Class, class_of};
-use macho::refusal::{Answer, Refusal};
-use text::{digit, put, put_decimal};
+use macho::refusal::Refusal;
+use text::{Page, digit};
 
 // A word in hexadecimal, and a space.
+#[tactic(auto, unfolding(crate::specs::Text::hex_of))]
 fn hex(x: u32) -> [u8; 9]
     ensures { result ≡ hex_of x }
 {
@@ -30,87 +31,77 @@ fn hex(x: u32) -> [u8; 9]
     ]
 }
 
-// Puts a number below 100 in decimal and a newline.
-fn put_size(out: &mut [u8], at: usize, size: u64) -> usize
-    requires { at + 3 ≤ length out.old }
-    ensures { Puts out.old at (decimal size ++ (10 ∷ [])) result out.new }
-{
-    let next = put_decimal(out, at, size);
-    put(out, next, b"\n")
-}
-
-// Puts a class and a newline.
-fn put_class(out: &mut [u8], at: usize, class: Class) -> usize
-    requires { at + 9 ≤ length out.old }
-    ensures { Puts out.old at (class_name class ++ (10 ∷ [])) result out.new }
+// Puts a class.
+#[tactic(auto, using(text::proofs::Prints::prints_then), unfolding(crate::specs::Text::class_name))]
+fn put_class(page: &mut Page, class: Class)
+    requires { HasRoom page.old 8 }
+    ensures { Prints page.old (class_name class) page.new }
 {
     match class {
-        Class::Adrp => put(out, at, b"adrp\n"),
-        Class::Add => put(out, at, b"add\n"),
+        Class::Adrp => page.put(b"adrp"),
+        Class::Add => page.put(b"add"),
         Class::Load(size) => {
-            let next = put(out, at, b"load ");
-            put_size(out, next, size)
+            page.put(b"load ");
+            page.put_decimal(size);
         }
         Class::Store(size) => {
-            let next = put(out, at, b"store ");
-            put_size(out, next, size)
+            page.put(b"store ");
+            page.put_decimal(size);
         }
-        Class::Other => put(out, at, b"other\n"),
+        Class::Other => page.put(b"other"),
     }
 }
 
 // Puts the line of a word.
-fn put_line(out: &mut [u8], at: usize, offset: u32, word: u32) -> usize
-    requires { at + 27 ≤ length out.old }
-    ensures { Puts out.old at (line_of offset word) result out.new }
+#[tactic(auto, using(crate::proofs::Lines::class_length))]
+fn put_line(page: &mut Page, offset: u32, word: u32)
+    requires { HasRoom page.old 27 }
+    ensures { Prints page.old (line_of offset word) page.new }
 {
-    let left = hex(offset);
-    let right = hex(word);
-    let first = put(out, at, &left);
-    let second = put(out, first, &right);
-    put_class(out, second, class_of(word))
+    page.put(&hex(offset));
+    page.put(&hex(word));
+    put_class(page, class_of(word));
+    page.put(b"\n");
 }
 
 // Puts the lines of whole words.
-fn put_lines(input: &[u8], out: &mut [u8]) -> usize
-    requires { (length input.now ≤ 16384) × (27 * (length input.now / 4) ≤ length out.old) }
-    ensures { Puts out.old 0 (lines_of input.now (length input.now / 4)) result out.new }
+fn put_lines(page: &mut Page, input: &[u8])
+    requires { (length input.now ≤ 16384) × HasRoom page.old (27 * (length input.now / 4)) }
+    ensures { Prints page.old (lines_of input.now (length input.now / 4)) page.new }
 {
-    let n = input.len() / 4;
-    let mut i = 0;
-    let mut at = 0;
-    while i < n {
-        at = put_line(out, at, (4 * i) as u32, util::read32(input, 4 * i));
-        i += 1;
+    for i in 0..input.len() / 4 {
+        put_line(page, (4 * i) as u32, util::read32(input, 4 * i));
     }
-    at
 }
 
 // Lists words at the start of out, which has 27 bytes or more for each, and answers how many bytes it filled.
-pub fn list(words: &[u8], out: &mut [u8]) -> Answer
+#[tactic(auto, unfolding(util::specs::Choice::choose, crate::specs::Listing::list_of))]
+pub fn list(words: &[u8], out: &mut [u8]) -> Result<usize, Refusal>
     ensures answer { result ≡ list_of words.now (length out.old) }
     ensures out { out.new ≡ out_after words.now out.old }
 {
     if words.len() > 16384 {
-        return Answer::Refused(Refusal::Slots);
+        return Err(Refusal::Slots);
     }
     if out.len() < 27 * (words.len() / 4) {
-        return Answer::Refused(Refusal::Slots);
+        return Err(Refusal::Slots);
     }
     if words.len() % 4 != 0 {
-        return Answer::Refused(Refusal::Lengths);
+        return Err(Refusal::Lengths);
     }
-    Answer::Filled(put_lines(words, out))
+    let mut page = Page { out, at: 0 };
+    put_lines(&mut page, words);
+    Ok(page.at)
 }
 
-// Puts `refused N` and a newline at the start of out.
-fn put_refused(out: &mut [u8], number: u8) -> usize
-    requires { (10 ≤ length out.old) × (number < 10) }
-    ensures { Puts out.old 0 (refused number) result out.new }
+// Puts `refused N` and a newline.
+#[tactic(auto, using(text::proofs::Prints::prints_then), unfolding(util::specs::Choice::choose))]
+fn put_refused(page: &mut Page, number: u8)
+    requires { HasRoom page.old 10 × (number < 10) }
+    ensures { Prints page.old (refused number) page.new }
 {
-    let last = digit(number as u32);
-    let text = [b'r', b'e', b'f', b'u', b's', b'e', b'd', b' ', last, b'\n'];
-    put(out, 0, &text)
+    page.put(b"refused ");
+    page.put(&[digit(number as u32), b'\n']);
 }
 
 // Puts what the lister prints of an input at the start of out, and answers how many bytes that is.
@@ -119,7 +110,11 @@ pub fn text(input: &[u8], out: &mut [u8; 110592]) -> usize
     ensures upper_bound { result ≤ 110592 }
 {
     match list(input, out) {
-        Answer::Refused(refusal) => put_refused(out, refusal.number()),
-        Answer::Filled(n) => n,
+        Err(refusal) => {
+            let mut page = Page { out, at: 0 };
+            put_refused(&mut page, refusal.number());
+            page.at
+        }
+        Ok(n) => n,
     }
 }

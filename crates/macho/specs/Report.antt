@@ -3,6 +3,8 @@ use Rattle.std.specs.Prelude.{ℕ, ◌+◌, List, [], ◌∷◌}
 use Rattle.util.specs.Word.{le}
 use Rattle.macho.specs.Record.{Field, ◌of◌, unused, bytes_of}
 use Rattle.macho.specs.declared.report.Report.{Report}
+use Rattle.macho.specs.declared.report.Kind.{Kind}
+use Rattle.macho.specs.declared.report.Kind.TheVariants.{AdrpReach, BranchReach, Alignment, NonLdr}
 
 -- its size in bytes
 abbrev pub report_size : ℕ
@@ -42,3 +44,10 @@ alignment = 3
 -- kind 4: non-LDR
 abbrev pub non_ldr : ℕ
 non_ldr = 4
+
+-- the number of each kind
+abbrev pub kind_number : Kind → ℕ
+kind_number AdrpReach = adrp_reach
+kind_number BranchReach = branch_reach
+kind_number Alignment = alignment
+kind_number NonLdr = non_ldr

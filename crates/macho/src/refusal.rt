@@ -1,40 +1,26 @@
 // Why a call turns its input down, and what it answers (RULES 3.1).
 ghost use Rattle.std.specs.Prelude.{◌≡◌};
-ghost use Rattle.macho.specs.Refusal.{number_of, check_number, answer_number};
+ghost use Rattle.macho.specs.Refusal.{number_of, answer_number, left_in};
 
-// The table's rows, 1 to 16.
-#[derive(Clone, Copy)]
+// The table's rows, with their numbers.
+#[derive(Clone, Copy, PartialEq, Eq)]
 pub enum Refusal {
-    Lengths,
-    Slots,
-    Bounds,
-    LoneAddend,
-    Unsupported,
-    Unfit,
-    NoSection,
-    LoneSubtractor,
-    Overflow,
-    NeedsSymbol,
-    Flags,
-    NoEntry,
-    Malformed,
-    Trailing,
-    NotAuthenticated,
-    FarFromImage,
-}
-
-// What a check says.
-#[derive(Clone, Copy)]
-pub enum Check {
-    Fit,
-    Refused(Refusal),
-}
-
-// What a call that fills lent slots says: how many it filled, or why it changed nothing.
-#[derive(Clone, Copy)]
-pub enum Answer {
-    Filled(usize),
-    Refused(Refusal),
+    Lengths = 1,
+    Slots = 2,
+    Bounds = 3,
+    LoneAddend = 4,
+    Unsupported = 5,
+    Unfit = 6,
+    NoSection = 7,
+    LoneSubtractor = 8,
+    Overflow = 9,
+    NeedsSymbol = 10,
+    Flags = 11,
+    NoEntry = 12,
+    Malformed = 13,
+    Trailing = 14,
+    NotAuthenticated = 15,
+    FarFromImage = 16,
 }
 
 impl Refusal {
@@ -42,47 +28,30 @@ impl Refusal {
     pub fn number(self) -> u8
         ensures { result ≡ number_of self }
     {
-        match self {
-            Refusal::Lengths => 1,
-            Refusal::Slots => 2,
-            Refusal::Bounds => 3,
-            Refusal::LoneAddend => 4,
-            Refusal::Unsupported => 5,
-            Refusal::Unfit => 6,
-            Refusal::NoSection => 7,
-            Refusal::LoneSubtractor => 8,
-            Refusal::Overflow => 9,
-            Refusal::NeedsSymbol => 10,
-            Refusal::Flags => 11,
-            Refusal::NoEntry => 12,
-            Refusal::Malformed => 13,
-            Refusal::Trailing => 14,
-            Refusal::NotAuthenticated => 15,
-            Refusal::FarFromImage => 16,
-        }
+        self as u8
     }
 }
 
-impl Check {
-    // Its number, 0 where it is fit.
-    pub fn number(self) -> u8
-        ensures { result ≡ check_number self }
-    {
-        match self {
-            Check::Fit => 0,
-            Check::Refused(refusal) => refusal.number(),
-        }
+// The number of what a call says: 0 where it refuses nothing.
+pub fn answer_number<T: Copy>(answer: Result<T, Refusal>) -> u8
+    ensures { result ≡ answer_number answer }
+{
+    match answer {
+        Ok(_) => 0,
+        Err(refusal) => refusal.number(),
     }
 }
 
-impl Answer {
-    // Its number, 0 where slots were filled.
-    pub fn number(self) -> u8
-        ensures { result ≡ answer_number self }
-    {
-        match self {
-            Answer::Filled(_) => 0,
-            Answer::Refused(refusal) => refusal.number(),
+// Leaves an answer in what was lent for it, which a refusal keeps as it was, and gives its number.
+pub fn settle<T: Copy>(answer: Result<T, Refusal>, lent: &mut T) -> u8
+    ensures number { result ≡ answer_number answer }
+    ensures lent { lent.new ≡ left_in answer lent.old }
+{
+    match answer {
+        Ok(value) => {
+            *lent = value;
+            0
         }
+        Err(refusal) => refusal.number(),
     }
 }

@@ -1,10 +1,28 @@
 // A report of the fix-up (RULES 2.20, 2.21).
 ghost use Rattle.std.specs.Prelude.{◌≡◌, ◌+◌, ◌≤◌, length};
 ghost use Rattle.std.proofs.lemmas.List.Edits.{sets};
-ghost use Rattle.macho.specs.Report.{report_size, report_at, report_bytes};
+ghost use Rattle.macho.specs.Report.{report_size, report_at, report_bytes, kind_number};
 
 use crate::byte::{read8, write_head};
 use util::{read32, read64, write64};
+
+// What a report is about, with its number.
+#[derive(Clone, Copy, PartialEq, Eq)]
+pub enum Kind {
+    AdrpReach = 1,
+    BranchReach = 2,
+    Alignment = 3,
+    NonLdr = 4,
+}
+
+impl Kind {
+    // Its number in RULES 2.21.
+    pub fn number(self) -> u8
+        ensures { result ≡ kind_number self }
+    {
+        self as u8
+    }
+}
 
 // A report, 24 bytes: entry number, kind, size (alignment), two zero bytes, place and target (reach).
 #[derive(Clone, Copy)]
@@ -18,15 +36,6 @@ pub struct Report {
 
 impl Report {
     pub const SIZE: usize = 24;
-
-    // The kinds.
-    pub const ADRP_REACH: u8 = 1;
-
-    pub const BRANCH_REACH: u8 = 2;
-
-    pub const ALIGNMENT: u8 = 3;
-
-    pub const NON_LDR: u8 = 4;
 
     // The report at `at`.
     pub fn read(s: &[u8], at: usize) -> Report

@@ -2,18 +2,10 @@
 ghost use Rattle.std.specs.Prelude.{◌+◌, ◌≤◌, ◌<◌, length};
 
 use arm64_fixup::walk::apply_reloc_alloc;
-use macho::refusal::Answer;
 use replay_list::head::Head;
 use replay_list::lent::{are_filled, put_pattern};
+use replay_list::replay::is_answer;
 use util::read64;
-
-// Whether an answer has a number, 0 for none, and says how many reports were filled.
-fn is_answer(answer: Answer, number: u8, filled: usize) -> bool {
-    match answer {
-        Answer::Refused(refusal) => refusal.number() == number,
-        Answer::Filled(n) => number == 0 && n == filled,
-    }
-}
 
 // Whether the fix-up answers by a number and how many reports it filled. `bases` has the base, the start of thread-local storage and the image base.
 fn answers(

@@ -5,14 +5,10 @@
 mod fixup;
 mod stub;
 
-ghost use Rattle.std.specs.Prelude.{◌<◌, IfOk};
-ghost use Rattle.replay_list.specs.Seen.{Bounded};
-
 use replay_list::head::Head;
-use replay_list::list::{BODY, next, open};
-use replay_list::seen::Seen;
+use replay_list::list::open;
+use replay_list::replay::replay;
 use std::io;
-use std::io::{Read, Write};
 
 // Records of apply_reloc_alloc, write_stub and write_thunk.
 const FIX: u8 = 2;
@@ -23,8 +19,7 @@ const THUNK: u8 = 4;
 
 // Whether a record is an answer that the port gives, too.
 fn holds(head: Head, body: &[u8]) -> bool {
-    let what = head.what;
-    match what {
+    match head.what {
         FIX => fixup::holds(head, body),
         STUB => stub::holds(head, body, true),
         THUNK => stub::holds(head, body, false),
@@ -32,23 +27,6 @@ fn holds(head: Head, body: &[u8]) -> bool {
     }
 }
 
-// Replays the next record.
-fn replay<R: Read, W: Write>(from: &mut R, to: &mut W, seen: Seen) -> io::Result<Seen>
-    requires { Bounded seen × (0 < seen.left) }
-    ensures { IfOk result (λ s. Bounded s × (s.left < seen.left)) }
-{
-    let mut body = [0u8; BODY];
-    let head = next(from, to, &mut body)?;
-    let len = head.len as usize;
-    seen.after(to, head.what, holds(head, &body[0..len]))
-}
-
 fn main(rt: HostRuntime) -> io::Result<()> {
-    let mut from = open(&rt)?;
-    let mut to = rt.stdout();
-    let mut seen = Seen::none();
-    while seen.left > 0 {
-        seen = replay(&mut from, &mut to, seen)?;
-    }
-    seen.print(&mut to)
+    replay(&mut open(&rt)?, &mut rt.stdout(), holds)
 }

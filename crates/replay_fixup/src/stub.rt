@@ -1,23 +1,9 @@
 // Answers of write_stub and write_thunk.
-use arm64_fixup::stub::{StubAnswer, write_stub, write_thunk};
-use macho::refusal::Check;
+use arm64_fixup::stub::{write_stub, write_thunk};
 use replay_list::head::Head;
 use replay_list::lent::put_pattern;
+use replay_list::replay::is_answer;
 use util::read64;
-
-// Whether an answer has a number, 0 for none, and says whether the stub's ADRP reaches.
-fn is_stub_answer(answer: StubAnswer, number: u8, reaches: u16) -> bool {
-    match answer {
-        StubAnswer::Refused(refusal) => refusal.number() == number,
-        StubAnswer::Reaches => number == 0 && reaches == 1,
-        StubAnswer::OutOfReach => number == 0 && reaches == 0,
-    }
-}
-
-// Whether an answer has a number, 0 for none.
-fn is_thunk_answer(answer: Check, number: u8) -> bool {
-    answer.number() == number
-}
 
 // Whether a stub entry, or a thunk entry, is answered so.
 fn answers(
@@ -29,9 +15,13 @@ fn answers(
     reaches: u16,
 ) -> bool {
     if is_stub {
-        return is_stub_answer(write_stub(buf, addr, target), number, reaches);
+        return is_answer(
+            write_stub(buf, addr, target).map(u16::from),
+            number,
+            reaches,
+        );
     }
-    is_thunk_answer(write_thunk(buf, addr, target), number)
+    is_answer(write_thunk(buf, addr, target), number, ())
 }
 
 // Whether an entry is answered so and becomes what a record says, with room for its bytes.

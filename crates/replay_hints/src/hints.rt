@@ -1,9 +1,10 @@
 // Answers of apply_hints.
 ghost use Rattle.std.specs.Prelude.{◌+◌, ◌≤◌, ◌<◌, length};
 
-use arm64_hint_run::run::{RunAnswer, run};
+use arm64_hint_run::run::run;
 use arm64_hint_work::tally::Tally;
 use replay_list::head::Head;
+use replay_list::replay::is_answer;
 use util::read32;
 
 // The tally at the front of a body.
@@ -15,22 +16,6 @@ fn tally_of(body: &[u8]) -> Tally
         skipped: read32(body, 4),
         declined: read32(body, 8),
         turned_down: read32(body, 12),
-    }
-}
-
-// Whether two tallies are the same.
-fn same_tally(a: Tally, b: Tally) -> bool {
-    a.rewritten == b.rewritten
-        && a.skipped == b.skipped
-        && a.declined == b.declined
-        && a.turned_down == b.turned_down
-}
-
-// Whether an answer has a number, 0 for none, and a tally.
-fn is_answer(answer: RunAnswer, number: u8, tally: Tally) -> bool {
-    match answer {
-        RunAnswer::Refused(refusal) => refusal.number() == number,
-        RunAnswer::Done(t) => number == 0 && same_tally(t, tally),
     }
 }
 

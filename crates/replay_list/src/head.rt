@@ -23,19 +23,12 @@ pub struct Head {
     pub v5: u16,
 }
 
-// The number of two bytes, the lower first.
-fn from_le_bytes(a: u8, b: u8) -> u16
-    ensures { result ≡ a + 0x100 * b }
-{
-    (a as u16) + 0x100 * (b as u16)
-}
-
 // The 2-byte number at `at`.
 fn read16(s: &[u8], at: usize) -> u16
     requires { at + 2 ≤ length s.now }
     ensures { result ≡ le 2 s.now at }
 {
-    from_le_bytes(s[at], s[at + 1])
+    u16::from_le_bytes([s[at], s[at + 1]])
 }
 
 impl Head {
@@ -56,6 +49,7 @@ impl Head {
     }
 
     // The head in 16 bytes.
+    #[tactic(auto, unfolding(crate::specs::Head::head_of))]
     pub fn read(s: &[u8]) -> Head
         requires { 16 ≤ length s.now }
         ensures { result ≡ head_of s.now }

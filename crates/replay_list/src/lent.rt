@@ -13,21 +13,21 @@ fn pattern(i: usize) -> u8
 pub fn put_pattern(slots: &mut [u8])
     ensures { (length slots.new ≡ length slots.old) × Filled slots.new [] }
 {
-    let mut i = 0;
-    while i < slots.len() {
+    for i in 0..slots.len() {
         slots[i] = pattern(i);
-        i += 1;
     }
 }
 
 // The byte due at i of slots after a call that filled records.
+#[tactic(auto, unfolding(crate::specs::Lent::due_at, util::specs::Choice::choose))]
 fn due(records: &[u8], i: usize) -> u8
     ensures { result ≡ due_at records.now i }
 {
     if i < records.len() {
-        return records[i];
+        records[i]
+    } else {
+        pattern(i)
     }
-    pattern(i)
 }
 
 // Whether slots have records from the front and are otherwise as before the call.
@@ -37,12 +37,10 @@ pub fn are_filled(slots: &[u8], records: &[u8]) -> bool
     if slots.len() < records.len() {
         return false;
     }
-    let mut i = 0;
-    while i < slots.len() {
+    for i in 0..slots.len() {
         if slots[i] != due(records, i) {
             return false;
         }
-        i += 1;
     }
     true
 }

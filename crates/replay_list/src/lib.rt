@@ -5,4 +5,5 @@
 pub mod head;
 pub mod lent;
 pub mod list;
+pub mod replay;
 pub mod seen;

@@ -21,6 +21,7 @@ pub fn open<F: Files>(files: &F) -> io::Result<F::File> {
 }
 
 // Reads the body of a record to the front of `body`, and writes a title out. After an error `body` has any bytes.
+#[tactic(auto, unfolding(util::specs::Choice::choose))]
 fn read_body<R: Read, W: Write>(
     from: &mut R,
     to: &mut W,
@@ -50,6 +51,7 @@ fn read_body<R: Read, W: Write>(
 }
 
 // The next record; its body is put at the front of `body`, and a title is written out. After an error `body` has any bytes.
+#[tactic(auto, unfolding(util::specs::Choice::choose))]
 pub fn next<R: Read, W: Write>(from: &mut R, to: &mut W, body: &mut [u8]) -> io::Result<Head>
     ensures fits { IfOk result (λ h. h.len ≤ length body.new) }
     ensures lent { OnErr result (length body.new ≡ length body.old) }

@@ -40,6 +40,7 @@ impl Seen {
     }
 
     // After a record, of which `holds` says whether it is an answer that the port gives, too. The count of a row and a difference are written out.
+    #[tactic(auto, unfolding(crate::specs::Seen::after, crate::specs::Seen::after_text, util::specs::Choice::choose))]
     pub fn after<W: Write>(self, to: &mut W, what: u8, holds: bool) -> io::Result<Seen>
         requires { Bounded self × (0 < self.left) }
         ensures written { OnOk result (Appends (W.contents to.old) (W.contents to.new) (after_text self what holds)) }
@@ -48,9 +49,8 @@ impl Seen {
         if what == END {
             return Ok(Seen {
                 left: 0,
-                row: self.row,
-                held: self.held,
                 is_whole: true,
+                ..self
             });
         }
         if what == TITLE {
@@ -58,8 +58,8 @@ impl Seen {
             return Ok(Seen {
                 left: self.left - 1,
                 row: 0,
-                held: self.held,
                 is_whole: false,
+                ..self
             });
         }
         if holds {
@@ -73,9 +73,8 @@ impl Seen {
         to.write_all(b" DIFFERENCE")?;
         Ok(Seen {
             left: 0,
-            row: self.row,
-            held: self.held,
             is_whole: false,
+            ..self
         })
     }
 
@@ -83,7 +82,7 @@ impl Seen {
     pub fn print<W: Write>(self, to: &mut W) -> io::Result<()>
         ensures { OnOk result (Appends (W.contents to.old) (W.contents to.new) (last_text self)) }
     {
-        let differences = !self.is_whole as u64;
+        let differences = u64::from(!self.is_whole);
         writeln!(to, "{} answers, {differences} differences", self.held)
     }
 }

@@ -7,7 +7,7 @@ ghost use Rattle.std.specs.Prelude.{◌≡◌, ◌≤◌, length};
 
 use hint_payload::read::read_hints;
 use hint_payload::write::write_hints;
-use macho::refusal::Answer;
+use macho::refusal::Refusal;
 use std::io::Write;
 use std::{fs, io};
 use text_io::read_full;
@@ -21,12 +21,12 @@ fn room() -> [u64; 4096]
 }
 
 // How many elements an answer says are filled, at most so many; 0 for a refusal.
-fn count_of(answer: Answer, most: usize) -> usize
+fn count_of(answer: Result<usize, Refusal>, most: usize) -> usize
     ensures { result ≤ most }
 {
     match answer {
-        Answer::Refused(_) => 0,
-        Answer::Filled(n) => if n < most { n } else { most },
+        Ok(n) => n.min(most),
+        Err(_) => 0,
     }
 }
 
@@ -35,14 +35,12 @@ fn size_of(row: &[u64], most: usize) -> usize
     ensures { result ≤ most }
 {
     let mut size = 0;
-    let mut i = 0;
-    while i < row.len() {
-        let n = uleb_size(row[i]);
+    for value in row {
+        let n = uleb_size(*value);
         if most - size < n {
             return most;
         }
         size += n;
-        i += 1;
     }
     size
 }
@@ -50,7 +48,7 @@ fn size_of(row: &[u64], most: usize) -> usize
 // Whether a row is written as the first bytes of a payload.
 fn is_written(row: &[u64], first: &[u8], out: &mut [u8]) -> bool {
     let n = count_of(write_hints(row, out), out.len());
-    &out[0..n] == first
+    &out[..n] == first
 }
 
 fn print_row<W: Write>(to: &mut W, row: &[u64]) -> io::Result<()> {
@@ -64,7 +62,7 @@ fn print_row<W: Write>(to: &mut W, row: &[u64]) -> io::Result<()> {
 fn print_written<W: Write>(to: &mut W, row: &[u64], payload: &[u8]) -> io::Result<()> {
     let mut out = [0u8; 65536];
     let size = size_of(row, payload.len());
-    if !is_written(row, &payload[0..size], &mut out) {
+    if !is_written(row, &payload[..size], &mut out) {
         return writeln!(to, "not written back");
     }
     writeln!(to, "{size} of {} bytes are written back", payload.len())
@@ -72,8 +70,8 @@ fn print_written<W: Write>(to: &mut W, row: &[u64], payload: &[u8]) -> io::Resul
 
 fn replay<W: Write>(to: &mut W, payload: &[u8], slots: &mut [u64]) -> io::Result<()> {
     let n = count_of(read_hints(payload, slots), slots.len());
-    print_row(to, &slots[0..n])?;
-    print_written(to, &slots[0..n], payload)
+    print_row(to, &slots[..n])?;
+    print_written(to, &slots[..n], payload)
 }
 
 fn main(rt: HostRuntime) -> io::Result<()> {

@@ -1,10 +1,9 @@
 // Rows by apply_reloc_alloc.
-ghost use Rattle.std.specs.Prelude.{◌+◌, ◌*◌, ◌/◌, ◌≤◌, length};
+ghost use Rattle.std.specs.Prelude.{◌*◌, ◌≤◌, length};
 
 use crate::row;
 use crate::row::ROW;
 use arm64_fixup::walk::apply_reloc_alloc;
-use macho::refusal::Answer;
 use macho::resolved::Resolved;
 use util::{read32, wrapping_sub, write64};
 
@@ -24,27 +23,21 @@ fn distance(k: usize) -> u32 {
 }
 
 // Puts the resolved targets of all rows: each has the address that lies, with the row's addend, at its distance.
-fn put_targets(s: &[u8], targets: &mut [u8])
-    requires { 48 * (length s.now / 120) ≤ length targets.old }
+fn put_targets(rows: &[[u8; ROW]], targets: &mut [u8])
+    requires { 48 * length rows.now ≤ length targets.old }
 {
-    let mut k = 0;
-    while k < s.len() / ROW {
-        let at = ROW * k;
-        let end = at + ROW;
+    for (k, row) in rows.iter().enumerate() {
         let address = IMAGE_BASE + distance(k) as u64;
         write64(
             targets,
             Resolved::SIZE * k,
-            wrapping_sub(address, row::addend(&s[at..end])),
+            wrapping_sub(address, row::addend(row)),
         );
-        k += 1;
     }
 }
 
 // Whether a row's finished word has the distance in its lower half, and the upper half that the assembler stored.
-fn word_agrees(row: &[u8], contents: &[u8], distance: u32) -> bool
-    requires { 120 ≤ length row.now }
-{
+fn word_agrees(row: &[u8; ROW], contents: &[u8], distance: u32) -> bool {
     let at = row::offset(row) as usize;
     if at + 8 > contents.len() {
         return false;
@@ -53,50 +46,46 @@ fn word_agrees(row: &[u8], contents: &[u8], distance: u32) -> bool
 }
 
 // How many rows from the front agree with the finished section.
-fn agreeing(s: &[u8], contents: &[u8]) -> usize
-    ensures { result ≤ length s.now / 120 }
+fn agreeing(rows: &[[u8; ROW]], contents: &[u8]) -> usize
+    ensures { result ≤ length rows.now }
 {
-    let mut k = 0;
-    while k < s.len() / ROW {
-        let at = ROW * k;
-        let end = at + ROW;
-        if !word_agrees(&s[at..end], contents, distance(k)) {
-            break;
+    for (k, row) in rows.iter().enumerate() {
+        if !word_agrees(row, contents, distance(k)) {
+            return k;
         }
-        k += 1;
     }
-    k
+    rows.len()
 }
 
 // Whether the fix-up takes every entry, and reports none.
 fn fixes(
-    s: &[u8],
+    rows: &[[u8; ROW]],
     contents: &mut [u8],
     entries: &[u8],
     targets: &mut [u8],
     slots: &mut [u8],
 ) -> bool
-    requires { 48 * (length s.now / 120) ≤ length targets.old }
+    requires { 48 * length rows.now ≤ length targets.old }
 {
-    put_targets(s, targets);
+    put_targets(rows, targets);
     match apply_reloc_alloc(
         contents, BASE, TLS_BEGIN, IMAGE_BASE, entries, targets, slots,
     ) {
-        Answer::Refused(_) => false,
-        Answer::Filled(n) => n == 0,
+        Err(_) => false,
+        Ok(n) => n == 0,
     }
 }
 
 // Fixes the section up by its entries. How many rows from the front agree with it; none where the fix-up refuses or reports.
-pub(crate) fn agreed(s: &[u8], contents: &mut [u8], entries: &[u8]) -> usize
-    requires { length s.now ≤ 65536 }
-    ensures { result ≤ length s.now / 120 }
+pub(crate) fn agreed(rows: &[[u8; ROW]], contents: &mut [u8], entries: &[u8]) -> usize
+    requires { 120 * length rows.now ≤ 65536 }
+    ensures { result ≤ length rows.now }
 {
     let mut targets = [0u8; 65536];
     let mut slots = [0u8; 65536];
-    let len = Resolved::SIZE * (s.len() / ROW);
-    if !fixes(s, contents, entries, &mut targets[0..len], &mut slots) {
+    let len = Resolved::SIZE * rows.len();
+    if !fixes(rows, contents, entries, &mut targets[0..len], &mut slots) {
         return 0;
     }
-    agreeing(s, contents)
+    agreeing(rows, contents)
 }

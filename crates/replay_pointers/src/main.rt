@@ -6,53 +6,49 @@ mod fixup;
 mod reader;
 mod row;
 
-ghost use Rattle.std.specs.Prelude.{◌*◌, ◌/◌, ◌≤◌, length};
+ghost use Rattle.std.specs.Prelude.{◌*◌, ◌≤◌, length};
 
 use macho::reloc::Reloc;
 use row::ROW;
 use std::io::Write;
 use std::{fs, io};
 use text_io::read_full;
+use text_io::row::print_row;
 
 // How many rows from the front agree, in reading and then in fix-up, with room for the section and its entries.
-fn replay_in(s: &[u8], contents: &mut [u8], entries: &mut [u8]) -> usize
-    requires { (length s.now ≤ 65536) × (24 * (length s.now / 120) ≤ length entries.old) }
-    ensures { result ≤ length s.now / 120 }
+fn replay_in(rows: &[[u8; ROW]], contents: &mut [u8], entries: &mut [u8]) -> usize
+    requires { (120 * length rows.now ≤ 65536) × (24 * length rows.now ≤ length entries.old) }
+    ensures { result ≤ length rows.now }
 {
-    let agreed = reader::agreed(s, contents, entries);
-    if agreed < s.len() / ROW {
+    let agreed = reader::agreed(rows, contents, entries);
+    if agreed < rows.len() {
         return agreed;
     }
-    fixup::agreed(s, contents, entries)
+    fixup::agreed(rows, contents, entries)
 }
 
 // How many rows from the front agree.
-fn replay(s: &[u8]) -> usize
-    requires { length s.now ≤ 65536 }
-    ensures { result ≤ length s.now / 120 }
+fn replay(rows: &[[u8; ROW]]) -> usize
+    requires { 120 * length rows.now ≤ 65536 }
+    ensures { result ≤ length rows.now }
 {
     let mut contents = [0u8; 65536];
     let mut entries = [0u8; 65536];
-    let section = 8 * (s.len() / ROW);
-    let list = Reloc::SIZE * (s.len() / ROW);
-    replay_in(s, &mut contents[0..section], &mut entries[0..list])
-}
-
-fn print_row<W: Write>(to: &mut W, s: &[u8]) -> io::Result<()> {
-    if s.len() < ROW {
-        return to.write_all(s);
-    }
-    to.write_all(&s[0..ROW])
+    let section = 8 * rows.len();
+    let list = Reloc::SIZE * rows.len();
+    replay_in(rows, &mut contents[0..section], &mut entries[0..list])
 }
 
 fn print_replay<W: Write>(to: &mut W, s: &[u8]) -> io::Result<()>
     requires { length s.now ≤ 65536 }
 {
-    let agreed = replay(s);
-    let at = ROW * agreed;
-    if at < s.len() {
-        writeln!(to, "the first row that disagrees:")?;
-        return print_row(to, &s[at..]);
+    let (rows, rest) = s.as_chunks::<ROW>();
+    let agreed = replay(rows);
+    if agreed < rows.len() {
+        return print_row(to, &rows[agreed]);
+    }
+    if !rest.is_empty() {
+        return print_row(to, rest);
     }
     writeln!(to, "{agreed} pointers agree")
 }

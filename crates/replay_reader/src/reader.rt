@@ -2,28 +2,17 @@
 ghost use Rattle.std.specs.Prelude.{◌≡◌, ◌+◌, ◌*◌, ◌≤◌, length};
 
 use arm64_reader::read::read_relocs;
-use macho::refusal::Answer;
+use macho::refusal::Refusal;
 use replay_list::head::Head;
 use replay_list::lent::{are_filled, put_pattern};
+use replay_list::replay::is_answer;
 use util::read64;
 use x86_64_reader::read::read_relocs as read_relocs_of_x86_64;
 
 // Puts the addresses of sections at the front of a list.
-fn put_addresses(list: &mut [u64], bytes: &[u8])
-    requires { length bytes.now ≤ 8 * length list.old }
-{
-    let mut i = 0;
-    while i < bytes.len() / 8 {
-        list[i] = read64(bytes, 8 * i);
-        i += 1;
-    }
-}
-
-// Whether an answer has a number, 0 for none, and says how many entries were filled.
-fn is_answer(answer: Answer, number: u8, filled: usize) -> bool {
-    match answer {
-        Answer::Refused(refusal) => refusal.number() == number,
-        Answer::Filled(n) => number == 0 && n == filled,
+fn put_addresses(list: &mut [u64], bytes: &[u8]) {
+    for (address, word) in list.iter_mut().zip(bytes.chunks_exact(8)) {
+        *address = read64(word, 0);
     }
 }
 
@@ -34,7 +23,7 @@ fn answer_to(
     sections: &[u64],
     address: &[u8],
     slots: &mut [u8],
-) -> Answer {
+) -> Result<usize, Refusal> {
     if address.len() < 8 {
         return read_relocs(contents, records, sections, slots);
     }
@@ -49,7 +38,7 @@ fn answer_in(
     address: usize,
     list: &mut [u64],
     slots: &mut [u8],
-) -> Answer
+) -> Result<usize, Refusal>
     requires { (records ≤ sections) × (sections + 8 * length list.old ≡ address) × (address ≤ length given.now) }
 {
     put_addresses(list, &given[sections..address]);

@@ -2,14 +2,13 @@
 // print of them. Writes how many rows agree with the crate macho, or the first that does not.
 #![tactic(auto)]
 
-ghost use Rattle.std.specs.Prelude.{◌+◌, ◌≤◌, ◌<◌, length};
-
 use macho::consts;
 use macho::hint::word_count;
 use macho::mach_rel::MachRel;
 use std::io::Write;
 use std::{fs, io};
 use text_io::read_full;
+use text_io::row::{byte, digit, number, print_row};
 
 // A row, with its newline.
 const ROW: usize = 78;
@@ -47,158 +46,81 @@ const NUMBERS: [u8; 29] = [
     consts::X86_64_RELOC_TLV,
 ];
 
-// How many rows of each letter agreed, and where the first row starts that did not.
-#[derive(Clone, Copy)]
-struct Agreed {
-    records: u64,
-    names: u64,
-    hints: u64,
-    at: usize,
-}
-
-// A hexadecimal digit; any other byte counts as 0.
-fn digit(b: u8) -> u8
-    ensures { result < 16 }
-{
-    match b {
-        b'0'..=b'9' => b - b'0',
-        b'a'..=b'f' => b - b'a' + 10,
-        _ => 0,
-    }
-}
-
-// The number of two digits.
-fn byte(s: &[u8], at: usize) -> u8
-    requires { at + 2 ≤ length s.now }
-{
-    digit(s[at]) * 16 + digit(s[at + 1])
-}
-
-// The number of eight digits.
-fn word(s: &[u8], at: usize) -> u32
-    requires { at + 8 ≤ length s.now }
-{
-    let low = [
-        byte(s, at + 6),
-        byte(s, at + 4),
-        byte(s, at + 2),
-        byte(s, at),
-    ];
-    util::read32(&low, 0)
-}
-
 // The record whose bytes a row has.
-fn record_of(s: &[u8], at: usize) -> MachRel
-    requires { at + 78 ≤ length s.now }
-{
+fn record_of(row: &[u8; ROW]) -> MachRel {
     let bytes = [
-        byte(s, at + 2),
-        byte(s, at + 4),
-        byte(s, at + 6),
-        byte(s, at + 8),
-        byte(s, at + 10),
-        byte(s, at + 12),
-        byte(s, at + 14),
-        byte(s, at + 16),
+        byte(row, 2),
+        byte(row, 4),
+        byte(row, 6),
+        byte(row, 8),
+        byte(row, 10),
+        byte(row, 12),
+        byte(row, 14),
+        byte(row, 16),
     ];
     MachRel::read(&bytes, 0)
 }
 
 // Whether a record's bytes say what llvm-readobj prints.
-fn record_agrees(s: &[u8], at: usize) -> bool
-    requires { at + 78 ≤ length s.now }
-{
-    let r = record_of(s, at);
-    let is_pcrel = digit(s[at + 28]);
-    let p2size = digit(s[at + 30]);
-    let is_extern = digit(s[at + 32]);
-    r.offset == word(s, at + 19)
-        && r.is_pcrel() as u8 == is_pcrel
-        && r.p2size() == p2size as u32
-        && r.is_extern() as u8 == is_extern
-        && r.form() == is_pcrel as u32 + 2 * (p2size as u32) + 8 * (is_extern as u32)
-        && r.ty() == byte(s, at + 34)
-        && r.idx() == word(s, at + 37)
+fn record_agrees(row: &[u8; ROW]) -> bool {
+    let r = record_of(row);
+    let is_pcrel = digit(row[28]);
+    let p2size = digit(row[30]);
+    let is_extern = digit(row[32]);
+    r.offset == number(row, 19)
+        && u8::from(r.is_pcrel()) == is_pcrel
+        && r.p2size() == u32::from(p2size)
+        && u8::from(r.is_extern()) == is_extern
+        && r.form() == u32::from(is_pcrel) + 2 * u32::from(p2size) + 8 * u32::from(is_extern)
+        && r.ty() == byte(row, 34)
+        && r.idx() == number(row, 37)
 }
 
 // Whether a type or kind has the number that the tools print for its name.
-fn name_agrees(s: &[u8], at: usize) -> bool
-    requires { at + 78 ≤ length s.now }
-{
-    let i = byte(s, at + 2) as usize;
-    i < NUMBERS.len() && NUMBERS[i] == byte(s, at + 5)
+fn name_agrees(row: &[u8; ROW]) -> bool {
+    let n = byte(row, 5);
+    NUMBERS
+        .get(usize::from(byte(row, 2)))
+        .is_some_and(|found| *found == n)
 }
 
 // Whether a hint of a kind has as many words as llvm-objdump prints arguments.
-fn hint_agrees(s: &[u8], at: usize) -> bool
-    requires { at + 78 ≤ length s.now }
-{
-    let kind = byte(s, at + 2);
-    kind == byte(s, at + 5) && word_count(kind) == byte(s, at + 8)
+fn hint_agrees(row: &[u8; ROW]) -> bool {
+    let kind = byte(row, 2);
+    kind == byte(row, 5) && word_count(kind) == byte(row, 8)
 }
 
-fn row_agrees(s: &[u8], at: usize) -> bool
-    requires { at + 78 ≤ length s.now }
-{
-    match s[at] {
-        b'r' => record_agrees(s, at),
-        b'n' => name_agrees(s, at),
-        b'h' => hint_agrees(s, at),
+fn row_agrees(row: &[u8; ROW]) -> bool {
+    match row[0] {
+        b'r' => record_agrees(row),
+        b'n' => name_agrees(row),
+        b'h' => hint_agrees(row),
         _ => false,
     }
 }
 
-// 1 for a row of the letter, else 0.
-fn counts(b: u8, letter: u8) -> u64
-    ensures { result < 2 }
-{
-    if b == letter { 1 } else { 0 }
-}
-
-fn replay(s: &[u8]) -> Agreed {
-    let mut at = 0;
-    let mut records = 0;
-    let mut names = 0;
-    let mut hints = 0;
-    while s.len() - at >= ROW {
-        if !row_agrees(s, at) {
-            break;
-        }
-        records += counts(s[at], b'r');
-        names += counts(s[at], b'n');
-        hints += counts(s[at], b'h');
-        at += ROW;
-    }
-    Agreed {
-        records,
-        names,
-        hints,
-        at,
-    }
-}
-
-fn print_count<W: Write>(to: &mut W, n: u64, what: &[u8]) -> io::Result<()> {
-    write!(to, "{n}")?;
-    to.write_all(what)
-}
-
-fn print_row<W: Write>(to: &mut W, s: &[u8]) -> io::Result<()> {
-    if s.len() < ROW {
-        return to.write_all(s);
-    }
-    to.write_all(&s[0..ROW])
+// How many rows have a letter.
+fn count_of(rows: &[[u8; ROW]], letter: u8) -> usize {
+    rows.iter().filter(|row| row[0] == letter).count()
 }
 
 fn print_replay<W: Write>(to: &mut W, s: &[u8]) -> io::Result<()> {
-    let seen = replay(s);
-    let at = seen.at;
-    if at < s.len() {
-        writeln!(to, "the first row that disagrees:")?;
-        return print_row(to, &s[at..]);
+    let (rows, rest) = s.as_chunks::<ROW>();
+    for row in rows {
+        if !row_agrees(row) {
+            return print_row(to, row);
+        }
     }
-    print_count(to, seen.records, b" records agree\n")?;
-    print_count(to, seen.names, b" numbers of types and kinds agree\n")?;
-    print_count(to, seen.hints, b" word counts agree\n")
+    if !rest.is_empty() {
+        return print_row(to, rest);
+    }
+    writeln!(to, "{} records agree", count_of(rows, b'r'))?;
+    writeln!(
+        to,
+        "{} numbers of types and kinds agree",
+        count_of(rows, b'n')
+    )?;
+    writeln!(to, "{} word counts agree", count_of(rows, b'h'))
 }
 
 fn main(rt: HostRuntime) -> io::Result<()> {

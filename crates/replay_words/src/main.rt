@@ -1,77 +1,43 @@
 // Replays data/words: what an assembler and a disassembler say of A64 words. tools/make-words makes that list and says what its rows hold.
 #![tactic(auto)]
 
-ghost use Rattle.std.specs.Prelude.{◌≤◌, ◌<◌};
+ghost use Rattle.std.specs.Prelude.{◌≤◌, ◌<◌, length};
 
-use arm64_insn::add::{Add, AddWord};
-use arm64_insn::adrp::{Adrp, AdrpWord};
-use arm64_insn::fix::OffsetWord;
-use arm64_insn::ldst::{LoadStore, LoadStoreWord};
+use arm64_insn::add::Add;
+use arm64_insn::adrp::Adrp;
+use arm64_insn::ldst::LoadStore;
 use arm64_insn::stub::Words3;
 use arm64_ldst_table::lookup;
 use std::io::{Read, Write};
 use std::{fs, io};
 use text_io::read_full;
 
-// The two letters of each kind of row.
-const AR: u32 = 0x6172;
+// What no row has as its answer.
+const NO_ANSWER: u64 = u64::MAX;
 
-const AP: u32 = 0x6170;
-
-const PG: u32 = 0x7067;
-
-const BR: u32 = 0x6272;
-
-const HL: u32 = 0x686c;
-
-const OF: u32 = 0x6f66;
-
-const RX: u32 = 0x7278;
-
-const AD: u32 = 0x6164;
-
-const LS: u32 = 0x6c73;
-
-const LI: u32 = 0x6c69;
-
-const BA: u32 = 0x6261;
-
-const SU: u32 = 0x7375;
-
-const TH: u32 = 0x7468;
-
-const CO: u32 = 0x636f;
-
-const CL: u32 = 0x636c;
-
-// What no row has as its answer: the code has none, or another column differs.
-const DIFFERS: u64 = u64::MAX;
+// The most rows.
+const MOST: u64 = 1_000_000;
 
 // The value of a hexadecimal digit, of lower case.
 fn digit(b: u8) -> u32
     ensures { result < 16 }
 {
-    ((b % 16 + b / 64 * 9) % 16) as u32
+    u32::from((b % 16 + b / 64 * 9) % 16)
 }
 
-// The number of four digits, and those of eight and sixteen at `at` of a row.
-fn of_digits(a: u8, b: u8, c: u8, d: u8) -> u32
-    ensures { result < 0x10000 }
-{
-    digit(a) * 0x1000 + digit(b) * 0x100 + digit(c) * 0x10 + digit(d)
+// The number of eight digits, and that of sixteen.
+fn hex8(digits: &[u8]) -> u32 {
+    let mut n: u32 = 0;
+    for b in digits {
+        n = (n << 4) | digit(*b);
+    }
+    n
 }
 
-fn hex8(row: &[u8; 108], at: usize) -> u32
-    requires { at < 100 }
+fn hex16(digits: &[u8]) -> u64
+    requires { 8 ≤ length digits.now }
 {
-    of_digits(row[at], row[at + 1], row[at + 2], row[at + 3]) * 0x10000
-        + of_digits(row[at + 4], row[at + 5], row[at + 6], row[at + 7])
-}
-
-fn hex16(row: &[u8; 108], at: usize) -> u64
-    requires { at < 92 }
-{
-    (hex8(row, at) as u64) * 0x1_0000_0000 + (hex8(row, at + 8) as u64)
+    (u64::from(hex8(&digits[..8])) << 32) | u64::from(hex8(&digits[8..]))
 }
 
 // The value of a flag that is set, else 0.
@@ -81,230 +47,173 @@ fn flag(is_set: bool, value: u64) -> u64
     if is_set { value } else { 0 }
 }
 
-fn adr_word(rd: u32, target: u64, pc: u64) -> u64 {
+fn adr_word(rd: u32, target: u64, pc: u64) -> Option<u64> {
     if rd < 32 {
-        arm64_insn::adrp::adr(rd, target, pc) as u64
+        Some(u64::from(arm64_insn::adrp::adr(rd, target, pc)))
     } else {
-        DIFFERS
+        None
     }
 }
 
-fn page_of(word: u32, pc: u64, rd: u64) -> u64 {
-    match Adrp::decode(word) {
-        AdrpWord::Adrp(a) => {
-            if a.rd as u64 == rd {
-                a.page(pc)
-            } else {
-                DIFFERS
-            }
-        }
-        AdrpWord::Other => DIFFERS,
+fn page_of(word: u32, pc: u64, rd: u64) -> Option<u64> {
+    let a = Adrp::decode(word)?;
+    (u64::from(a.rd) == rd).then_some(a.page(pc))
+}
+
+fn immediate_of(word: u32, rd: u64, rn: u64) -> Option<u64> {
+    let a = Add::decode(word)?;
+    (u64::from(a.rd) == rd && u64::from(a.rn) == rn).then_some(a.imm)
+}
+
+fn offset_word(word: u32, val: u64) -> Option<u64> {
+    let fixed = arm64_insn::fix::write_add_ldst_word(word, val).ok()?;
+    Some(u64::from(fixed))
+}
+
+fn access_of(word: u32, registers: u64, offset: u64) -> Option<u64> {
+    let l = LoadStore::decode(word)?;
+    if registers / 32 != u64::from(l.reg) || registers % 32 != u64::from(l.base) {
+        return None;
+    }
+    if offset != l.offset {
+        return None;
+    }
+    Some(
+        flag(l.is_store, 0x100)
+            + flag(l.is_float, 0x200)
+            + flag(l.is_ldrsw, 0x400)
+            + l.size % 0x100,
+    )
+}
+
+fn literal_word(word: u32, target: u64, pc: u64) -> Option<u64> {
+    let l = LoadStore::decode(word)?;
+    if l.reg < 32 && l.has_literal_form() {
+        Some(u64::from(l.to_literal(target, pc)))
+    } else {
+        None
     }
 }
 
-fn immediate_of(word: u32, rd: u64, rn: u64) -> u64 {
-    match Add::decode(word) {
-        AddWord::Add(a) => {
-            if a.rd as u64 == rd && a.rn as u64 == rn {
-                a.imm
-            } else {
-                DIFFERS
-            }
-        }
-        AddWord::Other => DIFFERS,
+fn based_word(word: u32, base: u64, offset: u64) -> Option<u64> {
+    let l = LoadStore::decode(word)?;
+    let size = l.size;
+    if size == 0 || base > 31 {
+        return None;
     }
+    if offset / size > 4095 {
+        return None;
+    }
+    Some(u64::from(l.with_base(base as u32, offset)))
 }
 
-fn offset_word(word: u32, val: u64) -> u64 {
-    match arm64_insn::fix::write_add_ldst_word(word, val) {
-        OffsetWord::Word(w) => w as u64,
-        OffsetWord::Misaligned(_) => DIFFERS,
-    }
-}
-
-fn access_of(word: u32, registers: u64, offset: u64) -> u64 {
-    match LoadStore::decode(word) {
-        LoadStoreWord::LoadStore(l) => {
-            if registers / 32 != l.reg as u64 || registers % 32 != l.base as u64 {
-                return DIFFERS;
-            }
-            if offset != l.offset {
-                return DIFFERS;
-            }
-            flag(l.is_store, 0x100)
-                + flag(l.is_float, 0x200)
-                + flag(l.is_ldrsw, 0x400)
-                + l.size % 0x100
-        }
-        LoadStoreWord::Other => DIFFERS,
-    }
-}
-
-fn literal_word(word: u32, target: u64, pc: u64) -> u64 {
-    match LoadStore::decode(word) {
-        LoadStoreWord::LoadStore(l) => {
-            if l.reg < 32 && l.has_literal_form() {
-                l.to_literal(target, pc) as u64
-            } else {
-                DIFFERS
-            }
-        }
-        LoadStoreWord::Other => DIFFERS,
-    }
-}
-
-fn based_word(word: u32, base: u64, offset: u64) -> u64 {
-    match LoadStore::decode(word) {
-        LoadStoreWord::LoadStore(l) => {
-            let size = l.size;
-            if size == 0 || base > 31 {
-                return DIFFERS;
-            }
-            if offset / size > 4095 {
-                return DIFFERS;
-            }
-            l.with_base(base as u32, offset) as u64
-        }
-        LoadStoreWord::Other => DIFFERS,
-    }
-}
-
-fn one_of(words: Words3, k: u32) -> u64 {
+fn one_of(words: Words3, k: u32) -> Option<u64> {
     match k {
-        0 => words.first as u64,
-        1 => words.second as u64,
-        2 => words.third as u64,
-        _ => DIFFERS,
+        0 => Some(u64::from(words.first)),
+        1 => Some(u64::from(words.second)),
+        2 => Some(u64::from(words.third)),
+        _ => None,
     }
 }
 
 // 3 for ADRP, 4 for ADD, else 0.
 fn other_class(word: u32) -> u64 {
-    match Adrp::decode(word) {
-        AdrpWord::Adrp(_) => 3,
-        AdrpWord::Other => match Add::decode(word) {
-            AddWord::Add(_) => 4,
-            AddWord::Other => 0,
-        },
+    if Adrp::decode(word).is_some() {
+        3
+    } else if Add::decode(word).is_some() {
+        4
+    } else {
+        0
     }
 }
 
 // The vector register and LDRSW flags, where the class and the bytes moved are those of the row.
-fn class_of(word: u32, class: u64, bytes: u64) -> u64 {
-    match LoadStore::decode(word) {
-        LoadStoreWord::LoadStore(l) => {
-            if class != 1 + flag(l.is_store, 1) || bytes != l.size {
-                return DIFFERS;
-            }
-            flag(l.is_float, 1) + flag(l.is_ldrsw, 2)
-        }
-        LoadStoreWord::Other => {
-            if class == other_class(word) && bytes == 0 {
-                0
-            } else {
-                DIFFERS
-            }
-        }
+fn class_of(word: u32, class: u64, bytes: u64) -> Option<u64> {
+    let Some(l) = LoadStore::decode(word) else {
+        return (class == other_class(word) && bytes == 0).then_some(0);
+    };
+    if class != 1 + flag(l.is_store, 1) || bytes != l.size {
+        return None;
     }
+    Some(flag(l.is_float, 1) + flag(l.is_ldrsw, 2))
 }
 
 // The same by the table of classes.
-fn table_class_of(word: u32, class: u64, bytes: u64) -> u64 {
-    let entry = lookup(word) as u64;
+fn table_class_of(word: u32, class: u64, bytes: u64) -> Option<u64> {
+    let entry = u64::from(lookup(word));
     if entry == 0 {
-        if class == other_class(word) && bytes == 0 {
-            return 0;
-        }
-        return DIFFERS;
+        return (class == other_class(word) && bytes == 0).then_some(0);
     }
-    if class != 1 + entry / 4 % 2 || bytes != entry / 8 {
-        return DIFFERS;
-    }
-    entry / 2 % 2 + entry % 2 * 2
+    (class == 1 + entry / 4 % 2 && bytes == entry / 8).then_some(entry / 2 % 2 + entry % 2 * 2)
 }
 
 // An answer that two agree on.
-fn common(a: u64, b: u64) -> u64 {
-    if a == b { a } else { DIFFERS }
+fn common(a: Option<u64>, b: Option<u64>) -> Option<u64> {
+    if a == b { a } else { None }
 }
 
-// Two letters as a number.
-fn letters(a: u8, b: u8) -> u32 {
-    (a as u32) * 0x100 + (b as u32)
-}
-
-// What the code says of a row.
-fn answer(kind: u32, word: u32, x: u64, y: u64) -> u64 {
+// What the code says of a row, by its two letters; none where another column differs.
+fn answer(kind: &[u8], word: u32, x: u64, y: u64) -> Option<u64> {
     match kind {
-        AR => adr_word(word, x, y),
-        AP => arm64_insn::fix::write_adrp_word(word, x, y) as u64,
-        PG => page_of(word, x, y),
-        BR => arm64_insn::branch::branch_word(word, x) as u64,
-        HL => arm64_insn::branch::helper_word(word == 1, x) as u64,
-        OF => offset_word(word, x),
-        RX => arm64_insn::fix::relaxed_word(word, x) as u64,
-        AD => immediate_of(word, x, y),
-        LS => access_of(word, x, y),
-        LI => literal_word(word, x, y),
-        BA => based_word(word, x, y),
-        SU => one_of(arm64_insn::stub::stub_words(x, y), word),
-        TH => one_of(arm64_insn::stub::thunk_words(x, y), word),
-        CO => {
-            if word == 0 {
-                arm64_insn::fix::NOP as u64
-            } else {
-                arm64_insn::fix::IS_ENABLED as u64
-            }
-        }
-        CL => common(class_of(word, x, y), table_class_of(word, x, y)),
-        _ => DIFFERS,
+        b"ar" => adr_word(word, x, y),
+        b"ap" => Some(u64::from(arm64_insn::fix::write_adrp_word(word, x, y))),
+        b"pg" => page_of(word, x, y),
+        b"br" => Some(u64::from(arm64_insn::branch::branch_word(word, x))),
+        b"hl" => Some(u64::from(arm64_insn::branch::helper_word(word == 1, x))),
+        b"of" => offset_word(word, x),
+        b"rx" => Some(u64::from(arm64_insn::fix::relaxed_word(word, x))),
+        b"ad" => immediate_of(word, x, y),
+        b"ls" => access_of(word, x, y),
+        b"li" => literal_word(word, x, y),
+        b"ba" => based_word(word, x, y),
+        b"su" => one_of(arm64_insn::stub::stub_words(x, y), word),
+        b"th" => one_of(arm64_insn::stub::thunk_words(x, y), word),
+        b"co" if word == 0 => Some(u64::from(arm64_insn::fix::NOP)),
+        b"co" => Some(u64::from(arm64_insn::fix::IS_ENABLED)),
+        b"cl" => common(class_of(word, x, y), table_class_of(word, x, y)),
+        _ => None,
     }
 }
 
 // Whether the code says of a row what the row has.
 fn holds(row: &[u8; 108]) -> bool {
-    answer(
-        letters(row[0], row[1]),
-        hex8(row, 3),
-        hex16(row, 12),
-        hex16(row, 29),
-    ) == hex16(row, 46)
+    let said = answer(
+        &row[..2],
+        hex8(&row[3..11]),
+        hex16(&row[12..28]),
+        hex16(&row[29..45]),
+    );
+    said.unwrap_or(NO_ANSWER) == hex16(&row[46..62])
 }
 
-// What became of a row: the list was at its end, or the row held, or it did not. An odd number counts as held.
-const END: u64 = 0;
-
-const HELD: u64 = 1;
-
-const BROKEN: u64 = 2;
-
-// Reads a row, and writes it out if it does not hold.
-fn replay<R: Read, W: Write>(from: &mut R, to: &mut W) -> io::Result<u64> {
+// Reads a row, and writes it out if it does not hold; none at the list's end.
+fn replay<R: Read, W: Write>(from: &mut R, to: &mut W) -> io::Result<Option<bool>> {
     let mut row = [0u8; 108];
     let n = read_full(from, &mut row)?;
     if n < 108 {
-        return Ok(END);
+        return Ok(None);
     }
-    if holds(&row) {
-        return Ok(HELD);
+    let is_held = holds(&row);
+    if !is_held {
+        to.write_all(&row)?;
     }
-    to.write_all(&row)?;
-    Ok(BROKEN)
+    Ok(Some(is_held))
 }
 
-// Replays the rows, at most a million, and writes how many held, of how many.
+fn print_held<W: Write>(to: &mut W, held: u64, rows: u64) -> io::Result<()> {
+    writeln!(to, "{held} of {rows} rows hold")
+}
+
+// Replays the rows, and writes how many held, of how many.
 fn replay_all<R: Read, W: Write>(from: &mut R, to: &mut W) -> io::Result<()> {
-    let mut left: u64 = 1_000_000;
     let mut held: u64 = 0;
-    while left > 0 {
-        let outcome = replay(from, to)?;
-        if outcome == END {
-            break;
-        }
-        held += outcome % 2;
-        left -= 1;
+    for rows in 0..MOST {
+        let Some(is_held) = replay(from, to)? else {
+            return print_held(to, held, rows);
+        };
+        held += u64::from(is_held);
     }
-    writeln!(to, "{held} of {} rows hold", 1_000_000 - left)
+    print_held(to, held, MOST)
 }
 
 fn main(rt: HostRuntime) -> io::Result<()> {

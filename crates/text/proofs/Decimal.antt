@@ -10,13 +10,13 @@ use Rattle.util.specs.Choice.{choose}
 use Rattle.util.proofs.Choice.{chosen}
 use Rattle.text.specs.Digits.{digit_of, digits, decimal}
 
-pub one-digit : (x a : ℕ) → a ≡ digit_of (x % 10) → x < 10 → a ∷ [] ≡ decimal x
+pub one_digit : (x a : ℕ) → a ≡ digit_of (x % 10) → x < 10 → a ∷ [] ≡ decimal x
 unfolding choose
-one-digit x a e h = rw (e, lt-ltb x 10 h, div-one)
+one_digit x a e h = rw (e, lt-ltb x 10 h, div-one)
 
 pub two_digits : (x a b : ℕ) → a ≡ digit_of (x / 10 % 10) → b ≡ digit_of (x % 10) → 10 ≤ x → a ∷ b ∷ [] ≡ decimal x
 unfolding choose
 two_digits x a b e f h = rw (e, f, le-ltb x 10 h, div-one)
 
-pub decimal-length : (x : ℕ) → length (decimal x) ≤ 2
-decimal-length x = chosen (λ (l : List ℕ). length l ≤ 2) (ltb x 10) (digits 10 1 x) (digits 10 2 x) (lit≤ tt) (lit≤ tt)
+pub decimal_length : (x : ℕ) → length (decimal x) ≤ 2
+decimal_length x = chosen (λ (l : List ℕ). length l ≤ 2) (ltb x 10) (digits 10 1 x) (digits 10 2 x) (lit≤ tt) (lit≤ tt)

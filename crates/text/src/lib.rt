@@ -1,43 +1,49 @@
 // Texts put into lent bytes: a text, a digit, a number below 100.
 #![tactic(auto)]
 
-ghost use Rattle.std.specs.Prelude.{◌≡◌, ◌+◌, ◌≤◌, ◌<◌, length};
+ghost use Rattle.std.specs.Prelude.{◌≡◌, ◌<◌, length};
 ghost use Rattle.text.specs.Digits.{digit_of, decimal};
-ghost use Rattle.util.specs.Puts.{Puts};
+ghost use Rattle.text.specs.Prints.{HasRoom, Prints};
 
-// Puts a text at `at`, and answers where it ends.
-pub fn put(out: &mut [u8], at: usize, text: &[u8]) -> usize
-    requires { at + length text.now ≤ length out.old }
-    ensures { Puts out.old at text.now result out.new }
-{
-    let mut i = 0;
-    while i < text.len() {
-        out[at + i] = text[i];
-        i += 1;
+// A page that texts are put on: the lent bytes, and where the next text goes.
+#[derive(Drop)]
+pub struct Page<'a> {
+    pub out: &'a mut [u8],
+    pub at: usize,
+}
+
+impl Page<'_> {
+    // Puts a text.
+    pub fn put(&mut self, text: &[u8])
+        requires { HasRoom self.old (length text.now) }
+        ensures { Prints self.old text.now self.new }
+    {
+        let end = self.at + text.len();
+        self.out[self.at..end].copy_from_slice(text);
+        self.at = end;
     }
-    at + i
+
+    // Puts a number below 100 in decimal; of a larger one the last two digits.
+    #[tactic(auto, using(crate::proofs::Decimal::one_digit, crate::proofs::Decimal::two_digits))]
+    pub fn put_decimal(&mut self, x: u64)
+        requires { HasRoom self.old 2 }
+        ensures { Prints self.old (decimal x) self.new }
+    {
+        let last = digit((x % 10) as u32);
+        if x < 10 {
+            self.put(&[last]);
+        } else {
+            self.put(&[digit((x / 10 % 10) as u32), last]);
+        }
+    }
 }
 
 // The ASCII code of a digit.
+#[tactic(auto, unfolding(util::specs::Choice::choose))]
 pub fn digit(d: u32) -> u8
     requires { d < 16 }
     ensures { result ≡ digit_of d }
 {
-    if d < 10 {
-        return (48 + d) as u8;
-    }
-    (87 + d) as u8
-}
-
-// Puts a number below 100 in decimal; of a larger one the last two digits.
-pub fn put_decimal(out: &mut [u8], at: usize, x: u64) -> usize
-    requires { at + 2 ≤ length out.old }
-    ensures { Puts out.old at (decimal x) result out.new }
-{
-    if x < 10 {
-        let text = [digit((x % 10) as u32)];
-        return put(out, at, &text);
-    }
-    let text = [digit((x / 10 % 10) as u32), digit((x % 10) as u32)];
-    put(out, at, &text)
+    let d = d as u8;
+    if d < 10 { b'0' + d } else { b'a' + (d - 10) }
 }

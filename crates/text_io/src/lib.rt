@@ -1,6 +1,8 @@
 // Bytes from a reader, and a text to a writer. Where a reader or a writer says which bytes it has, the contracts say what becomes of them.
 #![tactic(auto)]
 
+pub mod row;
+
 ghost use Rattle.std.specs.Prelude.{◌≡◌, ℕ, ◌<◌, ◌≤◌, length, take, IfOk, OnErr, OnOk};
 ghost use Rattle.std.specs.Io.KnownBytes.{Appends, Consumes, IsAtEnd};
 

@@ -1,4 +1,5 @@
 -- What a value that was read at a place says of the bytes there.
+use Rattle.std.specs.Prelude.{Option, Some, None}
 use mathlib.Core.Path.{◌≡◌, refl, sym, ap, ◌∙◌}
 use mathlib.Core.Bool.{Bool, true, false}
 use mathlib.Core.List.{List}
@@ -8,10 +9,9 @@ use borrow.Author.Tests.{ltb-true}
 use lib.Dec.{ltb}
 use lib.ListN.{length, drop, length-drop}
 use lib.Seq.{drop-drop}
+use Rattle.std.proofs.lemmas.Option.{none-some, some_pair_parts}
 use Rattle.util.specs.Choice.{choose}
 use Rattle.uleb.specs.Values.{Values, ended, cut, next, values_of, first_of, uleb_at}
-use Rattle.uleb.specs.declared.Uleb.{Uleb}
-use Rattle.uleb.specs.declared.Uleb.TheVariants.{Value, NoValue}
 use Rattle.uleb.proofs.Spelled.{each-value, rest-is}
 use Rattle.uleb.proofs.Reading.{Stands}
 
@@ -34,15 +34,16 @@ pub record Read (l : List ℕ) (at v end : ℕ) : Type 0 where
   pub onward : at < end
   pub within : end ≤ length l
 
-pub read-value : (l : List ℕ) (at v end : ℕ) (u : Uleb) → at ≤ length l → u ≡ Value v end → u ≡ uleb_at l at → Read l at v end
+pub read-value : (l : List ℕ) (at v end : ℕ) (u : Option (ℕ × ℕ)) → at ≤ length l → u ≡ Some (v, end) → u ≡ uleb_at l at → Read l at v end
 unfolding uleb_at choose
 read-value l at v end u h e f = go (values_of (drop at l)) refl (sym e ∙ f)
   where
     known : (w : ℕ) (after : List ℕ) (rest : Values) (t : Bool) → ltb w (2 ^ 64) ≡ t → values_of (drop at l) ≡ next w after rest
-        → Value v end ≡ choose t (Value w (length l - length after)) NoValue → Read l at v end
+        → ◌≡◌ {A = Option (ℕ × ℕ)} (Some (v, end)) (choose t (Some (w, length l - length after)) None) → Read l at v end
     known w after rest true b s q =
-        let value : v ≡ w = cc in
-        let place : end ≡ length l - length after = cc in
+        let parts = some_pair_parts v w end (length l - length after) q in
+        let value = parts.0 in
+        let place = parts.1 in
         let p = after-drop (drop at l) w after rest s in
         let n = length-drop at l in
         let k : at + (length (drop at l) - length after) ≡ end = omega (arith, p.0, n) in
@@ -53,14 +54,14 @@ read-value l at v end u h e f = go (values_of (drop at l)) refl (sym e ∙ f)
           onward = omega (arith, p.0, n);
           within = omega arith;
         }
-    known w after rest false b s q = let z : ◌≡◌ {A = ℕ} 0 1 = cc in absurd (omega arith)
+    known w after rest false b s q = absurd (none-some (v, end) (sym q))
 
-    go : (ns : Values) → values_of (drop at l) ≡ ns → Value v end ≡ first_of (length l) ns → Read l at v end
-    go ended s q = let z : ◌≡◌ {A = ℕ} 0 1 = cc in absurd (omega arith)
-    go cut s q = let z : ◌≡◌ {A = ℕ} 0 1 = cc in absurd (omega arith)
+    go : (ns : Values) → values_of (drop at l) ≡ ns → Some (v, end) ≡ first_of (length l) ns → Read l at v end
+    go ended s q = absurd (none-some (v, end) (sym q))
+    go cut s q = absurd (none-some (v, end) (sym q))
     go (next w after rest) s q = known w after rest (ltb w (2 ^ 64)) refl s q
 
 -- and none was read where none can be
-pub read-refused : (l : List ℕ) (at : ℕ) (u : Uleb) → u ≡ NoValue → u ≡ uleb_at l at → first_of (length l) (values_of (drop at l)) ≡ NoValue
+pub read-refused : (l : List ℕ) (at : ℕ) (u : Option (ℕ × ℕ)) → u ≡ None → u ≡ uleb_at l at → first_of (length l) (values_of (drop at l)) ≡ None
 unfolding uleb_at
 read-refused l at u e f = sym f ∙ e

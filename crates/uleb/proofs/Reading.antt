@@ -1,4 +1,5 @@
 -- The value at a place, from its last byte down: each byte before it that says that more follow puts seven bits below.
+use Rattle.std.specs.Prelude.{Some, None}
 use mathlib.Core.Path.{◌≡◌, refl, sym, ap, ◌∙◌, subst}
 use mathlib.Core.Bool.{Bool, true, false}
 use mathlib.Core.List.{List, [], ◌∷◌}
@@ -13,7 +14,6 @@ use lib.Seq.{drop-cons, drop-drop, drop-length, get_or-drop}
 use Rattle.util.specs.Choice.{choose}
 use Rattle.util.proofs.Choice.{split}
 use Rattle.uleb.specs.Values.{Values, ended, cut, next, below, values_of, unended, first_of, uleb_at}
-use Rattle.uleb.specs.declared.Uleb.TheVariants.{Value, NoValue}
 use Rattle.uleb.proofs.Spelled.{final-byte, more_bytes}
 
 -- ---- the bytes that say that more follow
@@ -73,12 +73,12 @@ cut_below (b ∷ l) e x = go (ltb b 128) refl (λ h. cut_below l h (b % 128)) e
     go true f k w = absurd (omega arith)
     go false f k w = ap (below x) (k (omega arith))
 
-first-cut : (n x : ℕ) (ns : Values) → below x ns ≡ cut → first_of n ns ≡ NoValue
+first-cut : (n x : ℕ) (ns : Values) → below x ns ≡ cut → first_of n ns ≡ None
 first-cut n x ended e = refl
 first-cut n x cut e = refl
 first-cut n x (next v a r) e = let z : ◌≡◌ {A = ℕ} 0 1 = cc in absurd (omega arith)
 
-pub read-cut : (l : List ℕ) (at : ℕ) → at ≤ length l → at + unended (drop at l) ≡ length l → NoValue ≡ uleb_at l at
+pub read-cut : (l : List ℕ) (at : ℕ) → at ≤ length l → at + unended (drop at l) ≡ length l → None ≡ uleb_at l at
 unfolding uleb_at
 read-cut l at h e =
     let w : unended (drop at l) ≡ length (drop at l) = rw (length-drop at l) (omega arith) in
@@ -134,7 +134,7 @@ grown (b ∷ l) (suc j) v a r h e =
 
 -- so one that no longer fits stays so
 pub read-large : (l : List ℕ) (at last i v end : ℕ) → at ≤ length l → last ≡ at + unended (drop at l) → at < i → i ≤ last → last ≤ length l
-    → 2 ^ 57 ≤ v → Stands l i v end → NoValue ≡ uleb_at l at
+    → 2 ^ 57 ≤ v → Stands l i v end → None ≡ uleb_at l at
 unfolding uleb_at choose
 read-large l at last i v end h e a b c w s =
     let place : at + (i - 1 - at) ≡ i - 1 = omega arith in
@@ -145,7 +145,7 @@ read-large l at last i v end h e a b c w s =
     rw (k.1.0, le-ltb k.0 (2 ^ 64) big)
 
 -- and one that was put together whole is what stands there
-pub read_whole : (l : List ℕ) (at v end : ℕ) → end ≤ length l → v < 2 ^ 64 → Stands l at v end → Value v end ≡ uleb_at l at
+pub read_whole : (l : List ℕ) (at v end : ℕ) → end ≤ length l → v < 2 ^ 64 → Stands l at v end → Some (v, end) ≡ uleb_at l at
 unfolding uleb_at choose
 read_whole l at v end h w s =
     let n : length l - length (drop end l) ≡ end = rw (length-drop end l) (omega arith) in

@@ -1,7 +1,7 @@
 // Unsigned LEB128 (macho/util/mod.rs): seven bits a byte, the lowest first, bit 7 set where more follow.
 #![tactic(auto)]
 
-ghost use Rattle.std.specs.Prelude.{◌≡◌, ◌+◌, ◌≤◌, length, drop};
+ghost use Rattle.std.specs.Prelude.{◌≡◌, ◌+◌, ◌<◌, ◌≤◌, length, drop, MatchOption};
 ghost use Rattle.util.specs.Puts.{Puts};
 ghost use Rattle.uleb.specs.Values.{unended, uleb_at};
 ghost use Rattle.uleb.specs.Shortest.{uleb_of};
@@ -9,70 +9,52 @@ ghost use Rattle.uleb.specs.Shortest.{uleb_of};
 // The most bytes that the shortest spelling of a value below 2^64 has.
 pub const MOST_BYTES: usize = 10;
 
-// What stands at a place: a value and the place after its last byte, or none that has a last byte and is below 2^64.
-#[derive(Clone, Copy)]
-pub enum Uleb {
-    Value(u64, usize),
-    NoValue,
-}
-
-// The place of the first byte from `at` on after which no more follow, or one past the bytes.
-fn last_byte(bytes: &[u8], at: usize) -> usize
+// The place of the first byte from `at` on after which no more follow.
+fn last_byte(bytes: &[u8], at: usize) -> Option<usize>
     requires { at ≤ length bytes.now }
-    ensures { (result ≡ at + unended (drop at bytes.now)) × (result ≤ length bytes.now) }
+    ensures { MatchOption result (at + unended (drop at bytes.now) ≡ length bytes.now)
+        (λ i. (i ≡ at + unended (drop at bytes.now)) × (i < length bytes.now)) }
 {
-    let mut i = at;
-    while i < bytes.len() {
+    for i in at..bytes.len() {
         if bytes[i] < 0x80 {
-            return i;
+            return Some(i);
         }
-        i += 1;
     }
-    i
+    None
 }
 
 // The value at `at`, however many bytes spell it. It is put together from its last byte down, so that no bit is lost unseen.
-fn read_long(bytes: &[u8], at: usize) -> Uleb
+fn read_long(bytes: &[u8], at: usize) -> Option<(u64, usize)>
     requires { at ≤ length bytes.now }
     ensures { result ≡ uleb_at bytes.now at }
 {
-    let last = last_byte(bytes, at);
-    if last == bytes.len() {
-        return Uleb::NoValue;
+    let last = last_byte(bytes, at)?;
+    let mut value = u64::from(bytes[last]);
+    for i in (at..last).rev() {
+        value = value.checked_mul(128)? + u64::from(bytes[i] % 0x80);
     }
-    let mut value = bytes[last] as u64;
-    let mut i = last;
-    while at < i {
-        if value >= 0x200_0000_0000_0000 {
-            return Uleb::NoValue;
-        }
-        i -= 1;
-        value = 128 * value + (bytes[i] % 0x80) as u64;
-    }
-    Uleb::Value(value, last + 1)
+    Some((value, last + 1))
 }
 
 // The value at `at`: nine bytes, which have 63 bits, are put together from the first up; a longer spelling is left to `read_long`.
-pub fn read_uleb(bytes: &[u8], at: usize) -> Uleb
+pub fn read_uleb(bytes: &[u8], at: usize) -> Option<(u64, usize)>
     requires { at ≤ length bytes.now }
     ensures { result ≡ uleb_at bytes.now at }
 {
     let mut value = 0;
     let mut scale = 1;
-    let mut i = at;
-    while i < bytes.len() {
+    for i in at..bytes.len() {
         let byte = bytes[i];
         if byte < 0x80 {
-            return Uleb::Value(value + scale * byte as u64, i + 1);
+            return Some((value + scale * u64::from(byte), i + 1));
         }
         if scale > 0x2_0000_0000_0000 {
             return read_long(bytes, at);
         }
-        value = value + scale * (byte % 0x80) as u64;
-        scale = 128 * scale;
-        i += 1;
+        value += scale * u64::from(byte % 0x80);
+        scale *= 128;
     }
-    Uleb::NoValue
+    None
 }
 
 // How many bytes the shortest spelling of a value has.
@@ -82,7 +64,7 @@ pub fn uleb_size(value: u64) -> usize
     let mut rest = value;
     let mut n = 1;
     while rest >= 0x80 {
-        rest = rest / 128;
+        rest /= 128;
         n += 1;
     }
     n
@@ -97,7 +79,7 @@ pub fn write_uleb(out: &mut [u8], at: usize, value: u64) -> usize
     let mut i = at;
     while rest >= 0x80 {
         out[i] = (rest % 128 + 128) as u8;
-        rest = rest / 128;
+        rest /= 128;
         i += 1;
     }
     out[i] = rest as u8;

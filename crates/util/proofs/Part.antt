@@ -1,6 +1,7 @@
 -- Parts of a list: a write in a part, seen in the whole.
-use Rattle.std.proofs.Common.{◌≡◌, ℕ, zero, suc, ◌+◌, ◌*◌, ◌/◌, ◌%◌, ◌^◌, ◌<◌, ◌≤◌, List, [], ◌∷◌, ◌++◌, length, get_or, take, drop, set, sym, refl, ap, ◌∙◌, append_assoc, add-zero, add_assoc, add-suc, suc-add, zero-add, arith, length-append, length-drop, take-append-drop, length-take, length-take-le, drop-cons}
-use lib.Seq.{set-append_left, set_at}
+use Rattle.std.proofs.Common.{◌≡◌, ℕ, zero, suc, ◌+◌, ◌-◌, ◌*◌, ◌/◌, ◌%◌, ◌^◌, ◌<◌, ◌≤◌, List, [], ◌∷◌, ◌++◌, length, get_or, take, drop, set, sym, refl, ap, ◌∙◌, append_assoc, add-zero, add_assoc, add-suc, suc-add, zero-add, arith, length-append, length-drop, take-append-drop, length-take, length-take-le, drop-cons}
+use borrow.Rule.Slice.PartMut.{put_mid}
+use lib.Seq.{set-append_left, set_at, drop-drop}
 use Rattle.util.specs.Word.{put, bytes}
 use Rattle.util.specs.Part.{part, splice}
 use Rattle.util.proofs.Word.{length-put}
@@ -60,3 +61,9 @@ put-splice (suc n) xs at v h =
     (set_at (take at xs ++ bytes n v) _ _ _ (at + n) (simp (length-append, length-take-le at xs (omega arith), length-bytes n v))
     ∙ append_assoc (take at xs) (bytes n v) _
     ∙ ap (λ (l : List ℕ). take at xs ++ l) (rw (add-suc at n) (sym (append_assoc (bytes n v) (v / 2 ^ (8 * n) % 256 ∷ []) (drop (suc (at + n)) xs))))))
+
+-- and so is one that is copied over them
+pub put_copied : (n : ℕ) (s ys : List ℕ) (at v : ℕ) → at + n ≤ length s → ys ≡ bytes n v → put_mid at (at + n - at) s ys ≡ put n s at v
+put_copied n s ys at v h e =
+    let k : at + n - at ≡ n = omega arith in
+    rw (k, e, drop-drop n at s) (sym (put-splice n s at v h))

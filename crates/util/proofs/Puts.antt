@@ -1,18 +1,8 @@
 -- Bytes stored one after another: a run of stores is one run after another.
-use Rattle.std.proofs.Common.{◌≡◌, ℕ, ◌+◌, ◌<◌, ◌≤◌, List, [], ◌∷◌, ◌++◌, length, get_or, take, drop, set, sym, ap, ◌∙◌, add-one, arith, length-append, length-take-le, take-suc}
-use lib.Seq.{sets, sets-eq, take-length}
+use Rattle.std.proofs.Common.{◌≡◌, ℕ, ◌+◌, ◌≤◌, List, ◌++◌, length, drop, sym, ap, ◌∙◌, arith, length-append}
+use lib.Seq.{sets, sets-eq}
 use Rattle.util.proofs.Bytes.{sets-append}
 use Rattle.util.specs.Puts.{Puts}
-
--- one byte more
-pub put_next : (l t : List ℕ) (at i : ℕ) → i < length t → set (sets l at (take i t)) (at + i) (get_or t i 0) ≡ sets l at (take (i + 1) t)
-put_next l t at i h =
-    rw (add-one i, take-suc t i 0)
-    (sym (sets-append (take i t) (get_or t i 0 ∷ []) l at (at + i) (ap (λ (n : ℕ). at + n) (length-take-le i t (omega arith)))))
-
--- all of them
-pub put_all : (l t : List ℕ) (at i : ℕ) → i ≡ length t → sets l at (take i t) ≡ sets l at t
-put_all l t at i e = rw (e, take-length)
 
 -- one text after another is both in one
 pub put_then : {l m n s t : List ℕ} {at i j : ℕ} → Puts l at s i m → Puts m i t j n → Puts l at (s ++ t) j n

@@ -11,7 +11,7 @@ ghost use Rattle.util.specs.Choice.{flag};
 pub fn bit(set: bool) -> u32
     ensures { (result ≡ flag set) × (result < 2) }
 {
-    set as u32
+    u32::from(set)
 }
 
 // Bits hi to lo of a value.
@@ -35,26 +35,13 @@ pub fn sign_extend(value: u64, n: u32) -> u64
     }
 }
 
-// The number of four bytes, the lowest first.
-fn from_le_bytes(a: u8, b: u8, c: u8, d: u8) -> u32
-    ensures { result ≡ a + 0x100 * b + 0x10000 * c + 0x1000000 * d }
-{
-    (a as u32) + 0x100 * (b as u32) + 0x10000 * (c as u32) + 0x1000000 * (d as u32)
-}
-
-// The number of two words, the lower first.
-fn from_halves(a: u32, b: u32) -> u64
-    ensures { result ≡ a + 0x1_0000_0000 * b }
-{
-    (a as u64) + 0x1_0000_0000 * (b as u64)
-}
-
 // The 4-byte word at `at`.
+#[tactic(auto, using(crate::proofs::Word::le_four))]
 pub fn read32(s: &[u8], at: usize) -> u32
     requires { at + 4 ≤ length s.now }
     ensures { result ≡ le 4 s.now at }
 {
-    from_le_bytes(s[at], s[at + 1], s[at + 2], s[at + 3])
+    u32::from_le_bytes([s[at], s[at + 1], s[at + 2], s[at + 3]])
 }
 
 // The 8-byte word at `at`.
@@ -62,7 +49,7 @@ pub fn read64(s: &[u8], at: usize) -> u64
     requires { at + 8 ≤ length s.now }
     ensures { result ≡ le 8 s.now at }
 {
-    from_halves(read32(s, at), read32(s, at + 4))
+    u64::from(read32(s, at)) + (u64::from(read32(s, at + 4)) << 32)
 }
 
 // Stores a 4-byte word at `at`.
@@ -70,10 +57,7 @@ pub fn write32(s: &mut [u8], at: usize, v: u32)
     requires { at + 4 ≤ length s.old }
     ensures { s.new ≡ put 4 s.old at v }
 {
-    s[at] = (v % 0x100) as u8;
-    s[at + 1] = (v / 0x100 % 0x100) as u8;
-    s[at + 2] = (v / 0x10000 % 0x100) as u8;
-    s[at + 3] = (v / 0x1000000 % 0x100) as u8;
+    s[at..at + 4].copy_from_slice(&v.to_le_bytes());
 }
 
 // Stores an 8-byte word at `at`.
@@ -81,22 +65,21 @@ pub fn write64(s: &mut [u8], at: usize, v: u64)
     requires { at + 8 ≤ length s.old }
     ensures { s.new ≡ put 8 s.old at v }
 {
-    write32(s, at, (v % 0x1_0000_0000) as u32);
-    write32(s, at + 4, (v / 0x1_0000_0000) as u32);
+    s[at..at + 8].copy_from_slice(&v.to_le_bytes());
 }
 
 // a + b modulo 2^64.
 pub fn wrapping_add(a: u64, b: u64) -> u64
     ensures { result ≡ sum a b }
 {
-    std::num::wrapping_add_u64(a, b)
+    a.wrapping_add(b)
 }
 
 // a - b modulo 2^64.
 pub fn wrapping_sub(a: u64, b: u64) -> u64
     ensures { result ≡ diff a b }
 {
-    std::num::wrapping_sub_u64(a, b)
+    a.wrapping_sub(b)
 }
 
 // Whether d, as a signed number, is at least -below and less than above.

@@ -1,5 +1,6 @@
 -- What a table reads to, record by record: an entry for each where none has a number, else the number of the first that has one. By induction over the list,
 -- whose first record is read before the rest (`read-append`).
+use Rattle.std.specs.Prelude.{Result, Ok, Err, ⊤}
 use mathlib.Core.Path.{◌≡◌, refl, sym, ap, ◌∙◌}
 use mathlib.Core.Bool.{Bool, false}
 use mathlib.Core.List.{List, [], ◌∷◌, ◌++◌}
@@ -10,13 +11,9 @@ use Rattle.util.specs.Choice.{choose}
 use Rattle.macho.specs.declared.mach_rel.MachRel.{MachRel}
 use Rattle.macho.specs.declared.reloc.Reloc.{Reloc}
 use Rattle.macho.specs.declared.refusal.Refusal.{Refusal}
-use Rattle.macho.specs.declared.refusal.Answer.TheVariants.{Filled}
-use Rattle.macho.specs.declared.refusal.Check.{Check}
-use Rattle.macho.specs.declared.refusal.Check.TheVariants as C
 use Rattle.arch.specs.Join.{joined}
 use Rattle.arch.specs.Table.{records_of, subtracted_at}
 use Rattle.arch.specs.Walk.{Reading, refused, entries, passing, before, after, read_from, read_all, answer_of}
-use Rattle.arch.specs.declared.step.Step.TheVariants as S
 use Rattle.arch.proofs.Records.{length-records}
 use Rattle.x86_64_reader.specs.Record.{check_reloc, entry_in, entry_at, step_at}
 use Rattle.x86_64_reader.specs.Read.{read_records, read_table}
@@ -24,7 +21,7 @@ use Rattle.x86_64_reader.specs.Fields.{is_subtractor, entries_of, AllFit}
 use Rattle.x86_64_reader.proofs.Tables.{read-append}
 
 module _ (contents sections : List ℕ) (address : ℕ) where
-  abbrev Check' : MachRel → Check
+  abbrev Check' : MachRel → Result ⊤ Refusal
   Check' r = check_reloc (length contents) (length sections) r
 
   abbrev Read' : Bool → List MachRel → Reading
@@ -36,19 +33,19 @@ module _ (contents sections : List ℕ) (address : ℕ) where
   read-nil first = refl
 
   read_one : (first : Bool) (r : MachRel)
-      → Read' first (r ∷ []) ≡ after (passing (Check' r) (S.Read (entry_in contents sections address r first) 1)) (λ _. entries [])
+      → Read' first (r ∷ []) ≡ after (passing (Check' r) (Ok (entry_in contents sections address r first, 1))) (λ _. entries [])
   unfolding read_records read_all read_from step_at entry_at subtracted_at choose
   read_one first r = refl
 
-  after-joined : (s : Check) (e : Reloc) (a : Reading)
-      → joined (after (passing s (S.Read e 1)) (λ _. entries [])) a ≡ after (passing s (S.Read e 1)) (λ _. a)
-  after-joined C.Fit e (refused x) = refl
-  after-joined C.Fit e (entries es) = refl
-  after-joined (C.Refused x) e a = refl
+  after-joined : (s : Result ⊤ Refusal) (e : Reloc) (a : Reading)
+      → joined (after (passing s (Ok (e, 1))) (λ _. entries [])) a ≡ after (passing s (Ok (e, 1))) (λ _. a)
+  after-joined (Ok tt) e (refused x) = refl
+  after-joined (Ok tt) e (entries es) = refl
+  after-joined (Err x) e a = refl
 
   -- a first record, then the rest
   pub read-cons : (first : Bool) (r : MachRel) (rs : List MachRel)
-      → Read' first (r ∷ rs) ≡ after (passing (Check' r) (S.Read (entry_in contents sections address r first) 1)) (λ _. Read' (is_subtractor r) rs)
+      → Read' first (r ∷ rs) ≡ after (passing (Check' r) (Ok (entry_in contents sections address r first, 1))) (λ _. Read' (is_subtractor r) rs)
   unfolding subtracted_at choose
   read-cons first r rs =
       read-append contents sections address first (r ∷ []) rs
@@ -65,7 +62,7 @@ module _ (contents sections : List ℕ) (address : ℕ) where
 
   -- the first that has one decides
   pub first-refused : (first : Bool) (xs : List MachRel) (r : MachRel) (ys : List MachRel) (x : Refusal) → AllFit (length contents) (length sections) xs
-      → Check' r ≡ C.Refused x → Read' first (xs ++ (r ∷ ys)) ≡ refused x
+      → Check' r ≡ Err x → Read' first (xs ++ (r ∷ ys)) ≡ refused x
   first-refused first [] r ys x h e = read-cons first r ys ∙ rw e
   first-refused first (q ∷ xs) r ys x h e =
       read-cons first q (xs ++ (r ∷ ys))
@@ -85,12 +82,12 @@ module _ (contents sections : List ℕ) (address : ℕ) where
       E : Reloc
       E = entry_in contents sections address r first
 
-      go : (c : Check) → Check' r ≡ c → after (passing (Check' r) (S.Read E 1)) (λ _. Read' (is_subtractor r) rs) ≡ entries es
+      go : (c : Result ⊤ Refusal) → Check' r ≡ c → after (passing (Check' r) (Ok (E, 1))) (λ _. Read' (is_subtractor r) rs) ≡ entries es
           → ((fs : List Reloc) → Read' (is_subtractor r) rs ≡ entries fs
           → AllFit (length contents) (length sections) rs × (fs ≡ entries_of contents sections address (is_subtractor r) rs))
           → AllFit (length contents) (length sections) (r ∷ rs) × (es ≡ entries_of contents sections address first (r ∷ rs))
-      go (C.Refused x) e p f = let q = rw e at p in let z : ◌≡◌ {A = ℕ} 0 1 = cc in absurd (omega arith)
-      go C.Fit e p f =
+      go (Err x) e p f = let q = rw e at p in let z : ◌≡◌ {A = ℕ} 0 1 = cc in absurd (omega arith)
+      go (Ok tt) e p f =
           before-entries E (Read' (is_subtractor r) rs) es (rw e at p)
           (λ fs a b.
           let t = f fs a in
@@ -113,7 +110,7 @@ before_same : (e f : Reloc) (a b : Reading) → answer_of a ≡ answer_of b → 
 before_same e f (refused x) (refused y) h = h
 before_same e f (refused x) (entries fs) h = let z : ◌≡◌ {A = ℕ} 0 1 = cc in absurd (omega arith)
 before_same e f (entries es) (refused y) h = let z : ◌≡◌ {A = ℕ} 0 1 = cc in absurd (omega arith)
-before_same e f (entries es) (entries fs) h = let z : length es ≡ length fs = cc in ap Filled (ap suc z)
+before_same e f (entries es) (entries fs) h = let z : length es ≡ length fs = cc in ap Ok (ap suc z)
 
 module _ (contents others sections addresses : List ℕ) (address elsewhere : ℕ) (size : length contents ≡ length others)
     (ordinals : length sections ≡ length addresses) where
@@ -125,14 +122,14 @@ module _ (contents others sections addresses : List ℕ) (address elsewhere : �
       ∙ go (check_reloc (length others) (length addresses) r) refl (by_lengths (is_subtractor r) (is_subtractor r) rs)
       ∙ sym (ap answer_of (read-cons others addresses elsewhere second r rs))
     where
-      go : (c : Check) → check_reloc (length others) (length addresses) r ≡ c
+      go : (c : Result ⊤ Refusal) → check_reloc (length others) (length addresses) r ≡ c
           → answer_of (read_records contents sections address (is_subtractor r) rs) ≡ answer_of (read_records others addresses elsewhere (is_subtractor r) rs)
           → answer_of
-          (after (passing (check_reloc (length contents) (length sections) r) (S.Read (entry_in contents sections address r first) 1))
+          (after (passing (check_reloc (length contents) (length sections) r) (Ok (entry_in contents sections address r first, 1)))
           (λ _. read_records contents sections address (is_subtractor r) rs))
           ≡ answer_of
-          (after (passing (check_reloc (length others) (length addresses) r) (S.Read (entry_in others addresses elsewhere r second) 1))
+          (after (passing (check_reloc (length others) (length addresses) r) (Ok (entry_in others addresses elsewhere r second, 1)))
           (λ _. read_records others addresses elsewhere (is_subtractor r) rs))
-      go C.Fit e h = rw (size, ordinals, e) (before_same (entry_in contents sections address r first) (entry_in others addresses elsewhere r second) (read_records contents sections address (is_subtractor r) rs)
+      go (Ok tt) e h = rw (size, ordinals, e) (before_same (entry_in contents sections address r first) (entry_in others addresses elsewhere r second) (read_records contents sections address (is_subtractor r) rs)
           (read_records others addresses elsewhere (is_subtractor r) rs) h)
-      go (C.Refused x) e h = rw (size, ordinals, e)
+      go (Err x) e h = rw (size, ordinals, e)

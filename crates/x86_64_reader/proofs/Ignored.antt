@@ -20,7 +20,7 @@ use Rattle.x86_64_reader.specs.Addend.{width_of, bias_of, embedded_at, own_in, a
 use Rattle.x86_64_reader.specs.Record.{entry_in, entry_at, step_at}
 use Rattle.x86_64_reader.specs.Read.{read_records, read_relocs}
 use Rattle.x86_64_reader.specs.Fields.{Alike}
-use Rattle.x86_64_reader.proofs.Steps.{step-onward}
+use Rattle.x86_64_reader.specs.Onward.{step-onward}
 
 -- slots count by their length
 pub slots-ignored : (contents records sections : List ℕ) (address : ℕ) (slots others : List ℕ) → length slots ≡ length others

@@ -1,5 +1,6 @@
 -- The append law: a list of records read after another. A step looks at its own record and at the type of the one before, so the steps of the whole are
 -- those of the two lists, and `arch` joins the walks.
+use Rattle.std.specs.Prelude.{Result, Ok, Err, ⊤}
 use mathlib.Core.Path.{◌≡◌, refl, ap, ◌∙◌}
 use mathlib.Core.Logic.{inl}
 use mathlib.Core.Bool.{Bool, false}
@@ -10,22 +11,21 @@ use lib.ListN.{length, length-append}
 use Rattle.macho.specs.Types.{X86_64_RELOC_SUBTRACTOR}
 use Rattle.macho.specs.declared.mach_rel.MachRel.{MachRel}
 use Rattle.macho.specs.declared.reloc.Reloc.{Reloc}
-use Rattle.macho.specs.declared.refusal.Check.{Check}
-use Rattle.macho.specs.declared.refusal.Check.TheVariants as C
+use Rattle.macho.specs.declared.refusal.Refusal.{Refusal}
 use Rattle.arch.specs.Join.{joined, moved}
 use Rattle.arch.specs.Table.{records_of, record_at, ends_in}
 use Rattle.arch.specs.Walk.{passing, read_all}
-use Rattle.arch.specs.declared.step.Step.TheVariants as S
 use Rattle.arch.proofs.Records.{records-append, left_at, right-at, left-subtracted, right-subtracted}
 use Rattle.arch.proofs.Append.{carries_same, follows-moved, append, mapped-same}
 use Rattle.x86_64_reader.specs.Record.{check_reloc, entry_at, step_at}
 use Rattle.x86_64_reader.specs.Read.{read_records, read_table}
-use Rattle.x86_64_reader.proofs.Steps.{step-onward, step-within}
+use Rattle.x86_64_reader.specs.Onward.{step-onward}
+use Rattle.x86_64_reader.proofs.Steps.{step-within}
 
 -- a checked step that stands d records further on
-passing-moved : (d : ℕ) (c : Check) (e : Reloc) (m n : ℕ) → m ≡ d + n → passing c (S.Read e m) ≡ moved d (λ (x : Reloc). x) (passing c (S.Read e n))
-passing-moved d C.Fit e m n h = ap (S.Read e) h
-passing-moved d (C.Refused x) e m n h = refl
+passing-moved : (d : ℕ) (c : Result ⊤ Refusal) (e : Reloc) (m n : ℕ) → m ≡ d + n → passing c (Ok (e, m)) ≡ moved d (λ (x : Reloc). x) (passing c (Ok (e, n)))
+passing-moved d (Ok tt) e m n h = ap (λ (k : ℕ). Ok (e, k)) h
+passing-moved d (Err x) e m n h = refl
 
 module _ (contents sections : List ℕ) (address : ℕ) (before : Bool) (xs ys : List MachRel) where
   -- a step of the first list

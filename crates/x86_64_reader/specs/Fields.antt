@@ -1,11 +1,10 @@
 -- What the entries of a table hold, record by record (RULES 15.2 to 15.9), and what a record looks at (RULES 15.11).
-use Rattle.std.specs.Prelude.{◌≡◌, Bool, true, false, List, [], ◌∷◌, ℕ, ◌-◌, eqb, get_or}
+use Rattle.std.specs.Prelude.{◌≡◌, Bool, true, false, List, [], ◌∷◌, ℕ, ◌-◌, eqb, get_or, Ok}
 use Rattle.util.specs.Word.{le}
 use Rattle.macho.specs.MachRel.{idx_of, pcrel_of, p2size_of, extern_of, type_of}
 use Rattle.macho.specs.Types.{X86_64_RELOC_SUBTRACTOR}
 use Rattle.macho.specs.declared.mach_rel.MachRel.{MachRel}
 use Rattle.macho.specs.declared.reloc.Reloc.{Reloc}
-use Rattle.macho.specs.declared.refusal.Check.TheVariants.{Fit}
 use Rattle.x86_64_reader.specs.Addend.{width_of}
 use Rattle.x86_64_reader.specs.Record.{check_reloc, entry_in}
 
@@ -22,7 +21,7 @@ entries_of contents sections address before (r ∷ rs) =
 -- no record has a number
 abbrev pub AllFit : ℕ → ℕ → List MachRel → Type 0
 AllFit size count [] = Unit {0}
-AllFit size count (r ∷ rs) = (check_reloc size count r ≡ Fit) × AllFit size count rs
+AllFit size count (r ∷ rs) = (check_reloc size count r ≡ Ok tt) × AllFit size count rs
 
 -- two contents, two section lists and two addresses that a record does not tell apart: the bytes that it reads, the address of the section that it names, and
 -- where it is a pc-relative one of a section the section's own

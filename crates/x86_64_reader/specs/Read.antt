@@ -1,7 +1,7 @@
 -- Relocation records into entries (arch/x86_64.rs, `read_relocs`; RULES 15.1, 15.2).
-use Rattle.std.specs.Prelude.{Bool, false, List, ℕ, length}
+use Rattle.std.specs.Prelude.{Bool, false, List, ℕ, length, Result}
 use Rattle.macho.specs.declared.mach_rel.MachRel.{MachRel}
-use Rattle.macho.specs.declared.refusal.Answer.{Answer}
+use Rattle.macho.specs.declared.refusal.Refusal.{Refusal}
 use Rattle.arch.specs.Table.{records_of, lengths_of}
 use Rattle.arch.specs.Walk.{Reading, read_all, checked, answer_of, slots_after}
 use Rattle.x86_64_reader.specs.Record.{step_at}
@@ -20,7 +20,7 @@ read_relocs contents records sections address slots =
     checked (lengths_of (length records) (length sections) (length slots)) (read_table contents records sections address)
 
 -- what it answers to what was lent
-abbrev pub answer_to : List ℕ → List ℕ → List ℕ → ℕ → List ℕ → Answer
+abbrev pub answer_to : List ℕ → List ℕ → List ℕ → ℕ → List ℕ → Result ℕ Refusal
 answer_to contents records sections address slots = answer_of (read_relocs contents records sections address slots)
 
 -- the slots after it

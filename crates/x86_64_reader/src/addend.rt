@@ -9,6 +9,7 @@ use macho::mach_rel::MachRel;
 use util::{read32, read64, sign_extend, wrapping_add};
 
 // How many bytes are read for a power of two: 1, 4 or 8.
+#[tactic(auto, unfolding(crate::specs::Addend::width_of, util::specs::Choice::choose))]
 pub fn width(p2size: u32) -> usize
     ensures { result ≡ width_of p2size }
 {
@@ -25,6 +26,7 @@ const BIAS: u64 = (1 << (4 * X86_64_RELOC_SIGNED_1))
     + (4 << (4 * X86_64_RELOC_SIGNED_4));
 
 // The bias of a record, by its type.
+#[tactic(auto, unfolding(crate::specs::Addend::bias_of, util::specs::Choice::choose))]
 fn reloc_bias(r: MachRel) -> u64
     ensures { result ≡ bias_of (type_of r.bits) }
 {
@@ -32,6 +34,7 @@ fn reloc_bias(r: MachRel) -> u64
 }
 
 // The signed number in the bytes at `at`.
+#[tactic(auto, unfolding(crate::specs::Addend::embedded_at, crate::specs::Addend::width_of, util::specs::Choice::choose))]
 fn embedded(contents: &[u8], at: usize, p2size: u32) -> u64
     requires { at + width_of p2size ≤ length contents.now }
     ensures { result ≡ embedded_at contents.now at p2size }
@@ -55,16 +58,15 @@ fn own_addend(contents: &[u8], r: MachRel) -> u64
 }
 
 // What a record adds: for a symbol that number; for a section the address that is meant, which a pc-relative field counts from its own end.
+#[tactic(auto, unfolding(crate::specs::Addend::added_by, util::specs::Choice::choose))]
 pub fn added_by(contents: &[u8], address: u64, r: MachRel) -> u64
     requires { r.offset + width_of (p2size_of r.bits) ≤ length contents.now }
     ensures { result ≡ added_by contents.now address r }
 {
     let own = own_addend(contents, r);
-    if r.is_extern() {
-        return own;
+    if r.is_pcrel() && !r.is_extern() {
+        wrapping_add(wrapping_add(address, r.offset as u64 + 4), own)
+    } else {
+        own
     }
-    if r.is_pcrel() {
-        return wrapping_add(wrapping_add(address, r.offset as u64 + 4), own);
-    }
-    own
 }

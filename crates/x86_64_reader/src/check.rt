@@ -6,20 +6,21 @@ use crate::addend::width;
 use crate::support::is_supported;
 use arch::target::has_target;
 use macho::mach_rel::MachRel;
-use macho::refusal::{Check, Refusal};
+use macho::refusal::Refusal;
 
 // A record of a section of `size` bytes, where there are `count` sections.
-pub fn check_reloc(r: MachRel, size: usize, count: usize) -> Check
+#[tactic(auto, using(crate::proofs::Steps::width_most), unfolding(crate::specs::Record::check_reloc, util::specs::Choice::choose))]
+pub fn check_reloc(r: MachRel, size: usize, count: usize) -> Result<(), Refusal>
     ensures { result ≡ check_reloc size count r }
 {
     if !is_supported(r) {
-        return Check::Refused(Refusal::Unsupported);
+        return Err(Refusal::Unsupported);
     }
     if size < r.offset as usize + width(r.p2size()) {
-        return Check::Refused(Refusal::Bounds);
+        return Err(Refusal::Bounds);
     }
     if !has_target(r, count) {
-        return Check::Refused(Refusal::NoSection);
+        return Err(Refusal::NoSection);
     }
-    Check::Fit
+    Ok(())
 }

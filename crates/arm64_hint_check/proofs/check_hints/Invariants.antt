@@ -1,18 +1,12 @@
 -- `check_hints`: the hints before position k are fit, with whether their object numbers never fall; the first that is not fit ends the walk.
+use Rattle.std.specs.Prelude.{Ok}
 use mathlib.Core.Path.{◌≡◌}
-use Prim.Native.Nat.{◌-◌, ◌≤◌}
-use Rattle.macho.specs.Hint.{hint_count}
-use Rattle.macho.specs.declared.refusal.Check.TheVariants.{Fit}
 use Rattle.arm64_hint_order.specs.Cursor.{object_at}
 use Rattle.arm64_hint_order.specs.Walk.{grouped, last_of}
 use Rattle.arm64_hint_check.specs.Check.{check_to}
 use Rattle.arm64_hint_check.proofs.check_hints.Given as goal
 
 abbrev pub invariant-loop-k : goal.invariant-loop-k
-invariant-loop-k l = (l.k ≤ hint_count l.hints)
-    × (check_to l.len l.count l.hints l.k ≡ Fit)
+invariant-loop-k l = (check_to l.len l.count l.hints l.k ≡ Ok tt)
     × (l.grouped ≡ grouped (object_at l.hints) l.k)
     × (l.last ≡ last_of (object_at l.hints) l.k)
-
-abbrev pub decreases-loop-k : goal.decreases-loop-k
-decreases-loop-k l = hint_count l.hints - l.k

@@ -1,5 +1,7 @@
 -- `run_listed`: the check decides.
-use mathlib.Core.Path.{sym, ◌∙◌}
+use Rattle.std.specs.Prelude.{Err}
+use mathlib.Core.Path.{sym, ap, ◌∙◌}
+use Rattle.std.proofs.lemmas.Result.{err_from_is_err_and}
 use Rattle.util.specs.Choice.{choose}
 use Rattle.arm64_hint_check.proofs.Checks.{told_fit, told-refused}
 use Rattle.arm64_hint_check.proofs.Listed.{listed-fit}
@@ -8,7 +10,7 @@ use Rattle.arm64_hint_listed.proofs.run_listed.Goals as goal
 
 pub work_and_list-requires : goal.work_and_list-requires
 work_and_list-requires c =
-    let fit = told_fit _ _ _ (sym c.check_listed.ensures ∙ c.in-Fit.is) in
+    let fit = told_fit _ _ _ (sym c.check_listed.ensures ∙ c.in_ok-rises.was) in
     let run = listed-fit _ _ _ _ fit.0 in
     record {
       entries_value = run.0;
@@ -16,19 +18,22 @@ work_and_list-requires c =
       rises_value = fit.1;
     }
 
-pub returns-in-Refused : goal.returns-in-Refused
-returns-in-Refused c =
+pub returns-in_err-rises : goal.returns-in_err-rises
+returns-in_err-rises c =
+    let p = err_from_is_err_and c.from_residual.result c.from_residual.ensures.1 in
+    let told = listed-refused _ _ _ _ _ (told-refused _ _ _ (sym c.check_listed.ensures ∙ c.in_err-rises.was)) in
     record {
-      answer = (listed-refused _ _ _ _ _ (told-refused _ _ _ (sym c.check_listed.ensures ∙ c.in-Refused.is))).0;
-      image = (listed-refused _ _ _ _ _ (told-refused _ _ _ (sym c.check_listed.ensures ∙ c.in-Refused.is))).1.0;
-      slots = (listed-refused _ _ _ _ _ (told-refused _ _ _ (sym c.check_listed.ensures ∙ c.in-Refused.is))).1.1;
+      answer = p.1 ∙ ap Err p.2 ∙ told.0;
+      image = told.1.0;
+      slots = told.1.1;
     }
 
-pub returns-in-Fit : goal.returns-in-Fit
+pub returns : goal.returns
 unfolding choose
-returns-in-Fit c =
+returns c =
+    let done = listed-done _ _ _ _ (told_fit _ _ _ (sym c.check_listed.ensures ∙ c.in_ok-rises.was)).0 c.work_and_list.ensures.tally c.work_and_list.ensures.image c.work_and_list.ensures.slots in
     record {
-      answer = (listed-done _ _ _ _ (told_fit _ _ _ (sym c.check_listed.ensures ∙ c.in-Fit.is)).0 c.work_and_list.ensures.tally c.work_and_list.ensures.image c.work_and_list.ensures.slots).0;
-      image = (listed-done _ _ _ _ (told_fit _ _ _ (sym c.check_listed.ensures ∙ c.in-Fit.is)).0 c.work_and_list.ensures.tally c.work_and_list.ensures.image c.work_and_list.ensures.slots).1.0;
-      slots = (listed-done _ _ _ _ (told_fit _ _ _ (sym c.check_listed.ensures ∙ c.in-Fit.is)).0 c.work_and_list.ensures.tally c.work_and_list.ensures.image c.work_and_list.ensures.slots).1.1;
+      answer = done.0;
+      image = done.1.0;
+      slots = done.1.1;
     }

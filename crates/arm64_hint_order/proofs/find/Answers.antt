@@ -1,24 +1,16 @@
--- `find` meets its contract: what is left of the pass stays the same as long as no hint of it is met.
-use mathlib.Core.Path.{refl, sym, ◌∙◌}
-use native.Mathlib.Omega.{arith}
+-- `find` meets its contract: the pass has nothing before the position that is found, and nothing at all where none is.
+use Rattle.std.proofs.Common.{◌≡◌, true, false, rules}
+use Rattle.std.proofs.lemmas.Iterator.{first_from_Range}
 use Rattle.arm64_hint_order.specs.Lists.{in_pass}
 use Rattle.arm64_hint_order.specs.Cursor.{object_at, late_at}
-use Rattle.arm64_hint_order.proofs.Lists.{sel-skip}
+use Rattle.arm64_hint_order.proofs.Walk.{found-first}
 use Rattle.arm64_hint_order.proofs.find.Goals as goal
-
-pub loop-k-init : goal.loop-k-init
-loop-k-init c =
-    refl
-
-pub returns-then-in_pass : goal.returns-then-in_pass
-returns-then-in_pass c =
-    record { skipped = c.loop-k.invariant; stops = λ _. sym c.in_pass.ensures ∙ c.if-in_pass.true }
-
-pub loop-k-preserved : goal.loop-k-preserved
-loop-k-preserved c =
-    sym (sel-skip (in_pass (object_at c.args.hints.now) (late_at c.args.hints.now) c.args.o c.args.late) c.loop-k.k c.args.to c.loop-k-test.true
-    (sym c.in_pass.ensures ∙ c.if-in_pass.false)) ∙ c.loop-k.invariant
 
 pub returns : goal.returns
 returns c =
-    record { skipped = c.loop-k.invariant; stops = λ h. absurd (omega arith) }
+    let s = c.args.hints.now in
+    let p = in_pass (object_at s) (late_at s) c.args.o c.args.late in
+    found-first s c.args.o c.args.late c.args.from c.args.to c.find.result
+    (first_from_Range _ _ _ _ (λ k. p k ≡ true) (λ k. p k ≡ false) c.find.ensures.ran
+    (λ x q k. search rules)
+    (λ x q k. (search rules, search rules)))

@@ -1,13 +1,7 @@
 -- `put_lines` meets its contract: after k turns the lines of the first k indices are there. Assumes nothing.
-use mathlib.Core.Path.{◌≡◌}
-use Prim.Native.Nat.{◌-◌, ◌≤◌}
-use lib.ListN.{length}
-use Rattle.util.specs.Puts.{Puts}
+use Rattle.text.specs.Prints.{Prints}
 use Rattle.ldst_table_text.specs.Text.{entry_lines}
 use Rattle.ldst_table_text.proofs.put_lines.Given as goal
 
 abbrev pub invariant-loop-k : goal.invariant-loop-k
-invariant-loop-k l = (l.k ≤ 1024) × (length l.out ≡ length l.initial.out) × Puts l.initial.out l.at (entry_lines l.k) l.next l.out
-
-abbrev pub decreases-loop-k : goal.decreases-loop-k
-decreases-loop-k l = 1024 - l.k
+invariant-loop-k l = Prints l.initial.page (entry_lines l.k) l.page

@@ -1,10 +1,10 @@
--- `put_line` meets its contract: three texts, one after another. Assumes nothing.
+-- `put_line` meets its contract: four texts, one after another. Assumes nothing.
+use Rattle.text.proofs.Prints.{prints_then}
 use Rattle.lister_text.specs.Text.{line_of}
-use Rattle.util.proofs.Puts.{put_then}
 use Rattle.lister_text.proofs.put_line.Goals as goal
 
 pub returns : goal.returns
 unfolding line_of
 returns c =
-    rw (← c.hex-left.ensures, ← c.hex-right.ensures, ← c.class_of.ensures)
-    (put_then c.put-first.ensures (put_then c.put-second.ensures c.put_class.ensures))
+    rw (← c.hex.ensures, ← c.hex-2.ensures, ← c.class_of.ensures)
+    (prints_then c.put.ensures (prints_then c.put-2.ensures (prints_then c.put_class.ensures c.put-3.ensures)))

@@ -6,19 +6,19 @@ use Rattle.lister_text.proofs.text.Goals as goal
 
 pub put_refused-requires : goal.put_refused-requires
 put_refused-requires c =
-    (search rules, one-digit c.args.input.now c.args.out.now (search rules) _ _ (c.list.ensures.answer, c.list.ensures.out) c.in-Refused.is _ c.number.ensures)
+    (search rules, one-digit c.args.input.now c.args.out.now (search rules) _ _ (c.list.ensures.answer, c.list.ensures.out) c.in-Err.is _ c.number.ensures)
 
-pub returns-in-Refused : goal.returns-in-Refused
-returns-in-Refused c =
-    let p = text-refused c.args.input.now c.args.out.now (search rules) _ _ (c.list.ensures.answer, c.list.ensures.out) c.in-Refused.is _ c.number.ensures c.put_refused.ensures in
+pub returns-in-Err : goal.returns-in-Err
+returns-in-Err c =
+    let p = text-refused c.args.input.now c.args.out.now (search rules) _ _ (c.list.ensures.answer, c.list.ensures.out) c.in-Err.is _ c.number.ensures c.put_refused.ensures.puts in
     record {
       puts = p;
       upper_bound = counts _ p;
     }
 
-pub returns-in-Filled : goal.returns-in-Filled
-returns-in-Filled c =
-    let p = text-filled c.args.input.now c.args.out.now (search rules) _ _ (c.list.ensures.answer, c.list.ensures.out) c.in-Filled.is in
+pub returns-in-Ok : goal.returns-in-Ok
+returns-in-Ok c =
+    let p = text-filled c.args.input.now c.args.out.now (search rules) _ _ (c.list.ensures.answer, c.list.ensures.out) c.in-Ok.is in
     record {
       puts = p;
       upper_bound = counts _ p;

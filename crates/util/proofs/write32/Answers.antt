@@ -1,21 +1,11 @@
--- `write32`: `put 4` computes to the four stores.
-use Rattle.std.proofs.Common.{add-zero, div-one, arith, length-set}
-use Rattle.util.specs.Word.{put}
+-- `write32`: the bytes that are copied are those of `put 4`.
+use Rattle.std.proofs.Common.{◌∙◌, div-one}
+use Rattle.util.specs.Word.{bytes}
+use Rattle.util.proofs.Part.{put_copied}
 use Rattle.util.proofs.write32.Goals as goal
 
-pub bounds-s-at-2 : goal.bounds-s-at-2
-bounds-s-at-2 c =
-    simp length-set (omega arith)
-
-pub bounds-s-at-3 : goal.bounds-s-at-3
-bounds-s-at-3 c =
-    simp length-set (omega arith)
-
-pub bounds-s-at-4 : goal.bounds-s-at-4
-bounds-s-at-4 c =
-    simp length-set (omega arith)
-
 pub returns : goal.returns
-unfolding put
+unfolding bytes
 returns c =
-    simp (add-zero, div-one)
+    put_copied 4 c.args.s.now c.copy_from_slice.new.self c.args.at c.args.v c.requires
+    (c.copy_from_slice.ensures.after ∙ c.to_le_bytes.ensures ∙ simp div-one)

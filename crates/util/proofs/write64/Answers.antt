@@ -1,8 +1,11 @@
--- `write64`: storing 4 + 4 bytes is storing the low word, then the high one.
-use Rattle.util.proofs.Word.{put-add, put_low}
-use Rattle.std.proofs.Common.{arith}
+-- `write64`: the bytes that are copied are those of `put 8`.
+use Rattle.std.proofs.Common.{◌∙◌, div-one}
+use Rattle.util.specs.Word.{bytes}
+use Rattle.util.proofs.Part.{put_copied}
 use Rattle.util.proofs.write64.Goals as goal
 
 pub returns : goal.returns
+unfolding bytes
 returns c =
-    cc (put-add 4 4 c.args.s.now c.args.at c.args.v, put_low 4 4 c.args.s.now c.args.at c.args.v (omega arith))
+    put_copied 8 c.args.s.now c.copy_from_slice.new.self c.args.at c.args.v c.requires
+    (c.copy_from_slice.ensures.after ∙ c.to_le_bytes.ensures ∙ simp div-one)

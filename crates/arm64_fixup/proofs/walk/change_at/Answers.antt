@@ -8,34 +8,12 @@ use Rattle.arm64_fixup_entry.specs.Target.{width_of}
 use Rattle.arm64_fixup_entry.proofs.ByType.{authenticated-is}
 use Rattle.arm64_fixup_entry.proofs.Sound.{sound, followed}
 use Rattle.arm64_fixup_entry.proofs.Width.{wide}
-use borrow.Author.Tests.{eq-eqb, ne_eqb}
-use Rattle.arm64_fixup_entry.specs.Change.{change_of}
-use Rattle.util.specs.Choice.{choose}
+use borrow.Author.Tests.{ne_eqb}
 use Rattle.arm64_fixup.proofs.walk.change_at.Goals as goal
 
 pub returns-then-e-eq-ARM64_RELOC_AUTHENTICATED_POINTER : goal.returns-then-e-eq-ARM64_RELOC_AUTHENTICATED_POINTER
 returns-then-e-eq-ARM64_RELOC_AUTHENTICATED_POINTER c =
     c.authenticated_change.ensures ∙ sym (authenticated-is _ _ _ _ _ _ _ c.if-e-eq-ARM64_RELOC_AUTHENTICATED_POINTER.true)
-
-pub returns-then-width_of-eq0 : goal.returns-then-width_of-eq0
-unfolding change_of choose
-returns-then-width_of-eq0 c =
-    simp (
-      c.silent.ensures,
-      eq-eqb _ _ c.if-width_of-eq0.true,
-      ← c.width_of.ensures,
-    )
-
-pub returns-then-e-eq-ARM64_RELOC_UNSIGNED : goal.returns-then-e-eq-ARM64_RELOC_UNSIGNED
-unfolding change_of choose
-returns-then-e-eq-ARM64_RELOC_UNSIGNED c =
-    simp (
-      c.silent-then-e-eq-ARM64_RELOC_UNSIGNED.ensures,
-      c.unsigned_value.ensures,
-      eq-eqb _ _ c.if-e-eq-ARM64_RELOC_UNSIGNED.true,
-      ne_eqb _ _ c.if-width_of-eq0.false,
-      ← c.width_of.ensures,
-    )
 
 pub read-next-requires : goal.read-next-requires
 read-next-requires c =
@@ -44,22 +22,6 @@ read-next-requires c =
 pub read-next_target-requires : goal.read-next_target-requires
 read-next_target-requires c =
     omega (arith, followed _ _ _ _ _ _ c.requires.entries_value (sym c.subtracts.ensures ∙ c.if-subtracts.true) c.requires.i_bound.0)
-
-pub returns-then-subtracts : goal.returns-then-subtracts
-unfolding change_of choose
-returns-then-subtracts c =
-    simp (
-      c.difference.ensures,
-      c.subtractor_value.ensures,
-      c.read-next_target.ensures,
-      c.read-next.ensures,
-      c.if-subtracts.true,
-      ← c.subtracts.ensures,
-      ne_eqb _ _ c.if-e-eq-ARM64_RELOC_UNSIGNED.false,
-      ne_eqb _ _ c.if-width_of-eq0.false,
-      ← c.width_of.ensures,
-      ne_eqb _ _ c.if-e-eq-ARM64_RELOC_AUTHENTICATED_POINTER.false,
-    )
 
 pub overflow_add-s : goal.overflow_add-s
 overflow_add-s c =
@@ -72,17 +34,3 @@ read32-requires c =
     let z : eqb (width_of c.args.e c.args.t) 0 ≡ false =
     ap (λ (n : ℕ). eqb n 0) (sym c.width_of.ensures) ∙ ne_eqb _ _ c.if-width_of-eq0.false in
     omega (arith, wide _ _ z)
-
-pub returns : goal.returns
-unfolding change_of choose
-returns c =
-    simp (
-      c.word_change.ensures,
-      c.read32.ensures,
-      c.if-subtracts.false,
-      ← c.subtracts.ensures,
-      ne_eqb _ _ c.if-e-eq-ARM64_RELOC_UNSIGNED.false,
-      ne_eqb _ _ c.if-width_of-eq0.false,
-      ← c.width_of.ensures,
-      ne_eqb _ _ c.if-e-eq-ARM64_RELOC_AUTHENTICATED_POINTER.false,
-    )

@@ -1,48 +1,11 @@
--- `adrp_add`: each word decoded or not, then `add_at_page`, whose register decoding bounds.
-use mathlib.Core.Path.{sym, ◌∙◌}
-use Rattle.util.specs.Choice.{choose}
+-- `adrp_add`: a decoded ADD has register numbers.
+use Rattle.std.specs.Prelude.{◌≡◌, Some}
+use native.Mathlib.Omega.{arith}
+use Rattle.arm64_insn.specs.Add.{add_of}
 use Rattle.arm64_insn.proofs.Decoded.{decoded-add}
-use Rattle.arm64_hint_adrp.specs.Two.{adrp_add}
 use Rattle.arm64_hint_adrp.proofs.two.adrp_add.Goals as goal
-
-pub returns-then-not-pair : goal.returns-then-not-pair
-unfolding adrp_add choose
-returns-then-not-pair c =
-    simp
-    (c.if-not-pair.true)
-
-pub returns-in_default : goal.returns-in_default
-unfolding adrp_add choose
-returns-in_default c =
-    simp (
-      c.in_default.is,
-      ← c.decode.ensures,
-      c.if-not-pair.false,
-    )
-
-pub returns-in_default-decode : goal.returns-in_default-decode
-unfolding adrp_add choose
-returns-in_default-decode c =
-    simp (
-      c.in_default-decode.is,
-      ← c.decode-2.ensures,
-      c.in-Adrp.is,
-      ← c.decode.ensures,
-      c.if-not-pair.false,
-    )
 
 pub add_at_page-requires : goal.add_at_page-requires
 add_at_page-requires c =
-    (decoded-add _ _ (sym c.decode-2.ensures ∙ c.in-Add.is)).register
-
-pub returns : goal.returns
-unfolding adrp_add choose
-returns c =
-    simp (
-      c.add_at_page.ensures,
-      c.in-Add.is,
-      ← c.decode-2.ensures,
-      c.in-Adrp.is,
-      ← c.decode.ensures,
-      c.if-not-pair.false,
-    )
+    let e : add_of c.args.s.w1 ≡ Some c.in_ok-d.d = grind arith in
+    (decoded-add _ _ e).register

@@ -1,34 +1,15 @@
--- `Cursor::step_in` meets its contract: one more of the pass at hand, or the first of the second pass.
-use native.Mathlib.Omega.{arith}
-use Rattle.arm64_hint_order.proofs.Walk.{take_in, take_second, ended-late, ended-both}
+-- `Cursor::step_in` meets its contract: the first of the second pass, or the end of the object's hints.
+use Rattle.arm64_hint_order.proofs.Walk.{take_second, ended-late, ended-both}
 use Rattle.arm64_hint_order.proofs.Cursor.step_in.Goals as goal
 
-pub returns-then-k-self : goal.returns-then-k-self
-returns-then-k-self c =
-    record {
-      step = take_in _ c.args.self c.find-k.result c.find-k.ensures c.if-k-self.true;
-      sound = (omega (arith, c.requires.ends), record { ends = c.requires.ends; holds = c.requires.holds; cut = c.requires.cut });
-    }
+pub returns-then-self-clause-step : goal.returns-then-self-clause-step
+returns-then-self-clause-step c =
+    ended-late _ c.args.self c.in_default.ensures c.if-self.true
 
-pub returns-then-self : goal.returns-then-self
-returns-then-self c =
-    record {
-      step = ended-late _ c.args.self c.find-k.result c.find-k.ensures c.if-k-self.false c.if-self.true;
-      sound = tt;
-    }
+pub returns-in_err-k-clause-step : goal.returns-in_err-k-clause-step
+returns-in_err-k-clause-step c =
+    rw c.from_residual.ensures (ended-both _ c.args.self c.in_default.ensures c.if-self.false (rw c.in_err-k.was at c.find-2.ensures))
 
-pub returns-then-m-self : goal.returns-then-m-self
-returns-then-m-self c =
-    record {
-      step = take_second _ c.args.self c.find-k.result c.find-m.result c.find-k.ensures c.if-k-self.false c.if-self.false
-          c.find-m.ensures c.if-m-self.true;
-      sound = (omega (arith, c.requires.ends), record { ends = c.requires.ends; holds = c.requires.holds; cut = c.requires.cut });
-    }
-
-pub returns : goal.returns
-returns c =
-    record {
-      step = ended-both _ c.args.self c.find-k.result c.find-m.result c.find-k.ensures c.if-k-self.false c.if-self.false
-          c.find-m.ensures c.if-m-self.false;
-      sound = tt;
-    }
+pub returns-clause-step : goal.returns-clause-step
+returns-clause-step c =
+    take_second _ c.args.self c.in_ok-k.k c.in_default.ensures c.if-self.false (rw c.in_ok-k.was at c.find-2.ensures)

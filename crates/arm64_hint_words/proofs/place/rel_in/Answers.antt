@@ -18,6 +18,6 @@ returns-then-i-n c =
     ∙ sym (ap (rel_at c.args.entries.now) (first-at (λ i. i.rel) no_entry c.args.insns c.args.n c.args.i c.if-i-n.true
     (omega (arith, c.well_formed.1.0.1.0.1, c.requires.i_bound))))
 
-pub returns : goal.returns
-returns c =
+pub returns-else-i-n : goal.returns-else-i-n
+returns-else-i-n c =
     sym (rel-past c.args.entries.now c.args.insns c.args.n c.args.i c.if-i-n.false)

@@ -1,6 +1,6 @@
 -- `set_words`: after each store what fits still fits, and the three stores are those of the places in their order.
+use Rattle.std.specs.Prelude.{Option}
 use Rattle.std.proofs.Common.{ℕ, List, sym, ap, ◌∙◌, subst, arith}
-use Rattle.arm64_hint_terms.specs.declared.answer.NewWord.{NewWord}
 use Rattle.arm64_hint_words.specs.Place.{Fits, set_in}
 use Rattle.arm64_hint_words.specs.Held.{holding}
 use Rattle.arm64_hint_words.specs.declared.hint.Hint.{Hint}
@@ -9,7 +9,7 @@ use Rattle.arm64_hint_words.proofs.Stores.{still-fits, stores}
 use Rattle.arm64_hint_words.proofs.words.set_words.Goals as goal
 
 -- a hint with a new word at one of its places
-abbrev stored : Hint → ℕ → NewWord → Hint
+abbrev stored : Hint → ℕ → Option ℕ → Hint
 stored h i w = holding h (set_in h.buf.now h.insns h.n i w)
 
 pub set-requires-2 : goal.set-requires-2

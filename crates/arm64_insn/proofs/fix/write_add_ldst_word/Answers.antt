@@ -1,4 +1,5 @@
 -- `write_add_ldst_word` meets its contract: the mask keeps the fields beside imm12, and the page offset has room there. Assumes nothing.
+use Rattle.std.specs.Prelude.{Ok}
 use mathlib.Core.Path.{ap}
 use Prim.Native.Nat.{◌%◌, ◌^◌}
 use native.Mathlib.Omega.{arith}
@@ -8,7 +9,6 @@ use lib.Pow.{pow_pos, pow_mono}
 use Rattle.util.specs.Choice.{choose}
 use Rattle.util.proofs.Diagram.{kept}
 use Rattle.arm64_insn.specs.Fix.{scale_of, offset_with}
-use Rattle.arm64_insn.specs.declared.fix.OffsetWord.TheVariants.{Word}
 use Rattle.arm64_insn.proofs.Scale.{scale-le, scaled}
 use Rattle.arm64_insn.proofs.Kept.{beside_imm12}
 use Rattle.arm64_insn.proofs.fix.write_add_ldst_word.Goals as goal
@@ -54,4 +54,4 @@ pub returns : goal.returns
 unfolding offset_with choose
 returns c =
     let e = scaled c.args.insn c.scale_of.result c.scale_of.ensures in
-    rw (e, eq-eqb _ _ (rw e at c.if-val-size-ne0.false), kept beside_imm12 c.args.insn) (ap Word (omega arith))
+    rw (e, eq-eqb _ _ (rw e at c.if-val-size-ne0.false), kept beside_imm12 c.args.insn) (ap Ok (omega arith))

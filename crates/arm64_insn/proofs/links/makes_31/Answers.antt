@@ -88,7 +88,7 @@ returns-in_default c =
 pub returns-then-not-ls : goal.returns-then-not-ls
 unfolding makes choose
 returns-then-not-ls c =
-    let l = access-loads c.args.insn _ (sym c.decode.ensures ∙ c.in-LoadStore.is) in
+    let l = access-loads c.args.insn _ (sym c.decode.ensures ∙ c.in-Some.is) in
     rw (
       div-one,
       c.if-insn-ne31.false,
@@ -105,7 +105,7 @@ returns-then-not-ls c =
 pub returns-else-not-ls : goal.returns-else-not-ls
 unfolding makes choose
 returns-else-not-ls c =
-    let l = access-loads c.args.insn _ (sym c.decode.ensures ∙ c.in-LoadStore.is) in
+    let l = access-loads c.args.insn _ (sym c.decode.ensures ∙ c.in-Some.is) in
     rw (
       div-one,
       c.if-insn-ne31.false,

@@ -36,12 +36,15 @@ returns-then-j-records c =
     let rs = records_of c.args.records.now in
     let h = offset-within c.args.contents.now c.record_at-first.ensures c.if-contents-offset.false in
     let l = own-there c.args.records.now c.args.i c.own_number-j.ensures c.if-j-records.true in
+    let own = c.at-own.ensures in
     simp (
-      c.read_record.ensures,
+      c.read.ensures,
       c.given_addend.ensures,
-      c.is_subtracted-subtracted-then-j-records.ensures,
-      c.record_at-own.ensures,
-      c.contents_from-loc.ensures,
+      c.contents_from.ensures,
+      own.0,
+      own.1,
+      own.2,
+      own.3,
       c.own_number-j.ensures,
       c.record_at-first.ensures,
     )

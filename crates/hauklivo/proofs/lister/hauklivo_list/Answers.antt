@@ -1,14 +1,15 @@
 -- The answer of list, handed on.
+use Rattle.std.specs.Prelude.{ℕ, Result}
 use mathlib.Core.Path.{ap, ◌∙◌}
 use Rattle.macho.specs.Refusal.{answer_number}
-use Rattle.macho.specs.declared.refusal.Answer.{Answer}
+use Rattle.macho.specs.declared.refusal.Refusal.{Refusal}
 use Rattle.hauklivo.proofs.Lent.{count_same}
 use Rattle.hauklivo.proofs.lister.hauklivo_list.Goals as goal
 
 pub returns : goal.returns
 returns c =
     record {
-      number = c.counted.ensures.number ∙ ap (λ (a : Answer). answer_number a) c.list-answer.ensures.answer;
-      count = c.counted.ensures.count ∙ count_same _ c.list-answer.ensures.answer;
+      number = c.settle.ensures.number ∙ ap (λ (a : Result ℕ Refusal). answer_number a) c.list-answer.ensures.answer;
+      count = c.settle.ensures.lent ∙ count_same _ c.list-answer.ensures.answer;
       out = c.list-answer.ensures.out;
     }

@@ -1,14 +1,15 @@
 -- The answer of the x86_64 reader, handed on.
+use Rattle.std.specs.Prelude.{ℕ, Result}
 use mathlib.Core.Path.{ap, ◌∙◌}
 use Rattle.macho.specs.Refusal.{answer_number}
-use Rattle.macho.specs.declared.refusal.Answer.{Answer}
+use Rattle.macho.specs.declared.refusal.Refusal.{Refusal}
 use Rattle.hauklivo.proofs.Lent.{count_same}
 use Rattle.hauklivo.proofs.reader.hauklivo_read_relocs_x86_64.Goals as goal
 
 pub returns : goal.returns
 returns c =
     record {
-      number = c.counted.ensures.number ∙ ap (λ (a : Answer). answer_number a) c.read_relocs-answer.ensures.answer;
-      count = c.counted.ensures.count ∙ count_same _ c.read_relocs-answer.ensures.answer;
+      number = c.settle.ensures.number ∙ ap (λ (a : Result ℕ Refusal). answer_number a) c.read_relocs-answer.ensures.answer;
+      count = c.settle.ensures.lent ∙ count_same _ c.read_relocs-answer.ensures.answer;
       slots = c.read_relocs-answer.ensures.slots;
     }

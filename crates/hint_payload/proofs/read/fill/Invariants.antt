@@ -9,10 +9,6 @@ use Rattle.hint_payload.proofs.Turns.{FirstFrom}
 use Rattle.hint_payload.proofs.read.fill.Given as goal
 
 abbrev pub invariant-loop-i : goal.invariant-loop-i
-invariant-loop-i l = (l.i ≤ l.count)
-    × (l.at ≤ length l.payload)
+invariant-loop-i l = (l.at ≤ length l.payload)
     × (length l.slots ≡ length l.initial.slots)
     × (sets l.slots l.i (FirstFrom l.payload (l.count - l.i) l.at) ≡ sets l.initial.slots 0 (first_values l.count (values_of l.payload)))
-
-abbrev pub decreases-loop-i : goal.decreases-loop-i
-decreases-loop-i l = l.count - l.i

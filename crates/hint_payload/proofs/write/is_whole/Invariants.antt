@@ -1,13 +1,9 @@
 -- From value to value: what comes after what is left is what comes after the row.
 use mathlib.Core.Path.{◌≡◌}
-use Prim.Native.Nat.{◌-◌, ◌≤◌}
-use lib.ListN.{length, drop}
+use lib.ListN.{drop}
 use Rattle.hint_payload.specs.Row.{expected_in}
 use Rattle.hint_payload.specs.declared.expected.Expected.TheVariants.{Kind}
 use Rattle.hint_payload.proofs.write.is_whole.Given as goal
 
-abbrev pub invariant-loop-i : goal.invariant-loop-i
-invariant-loop-i l = (l.i ≤ length l.row) × (expected_in l.expected (drop l.i l.row) ≡ expected_in Kind l.row)
-
-abbrev pub decreases-loop-i : goal.decreases-loop-i
-decreases-loop-i l = length l.row - l.i
+abbrev pub invariant-loop-value : goal.invariant-loop-value
+invariant-loop-value l = expected_in l.expected (drop l.value-index l.row) ≡ expected_in Kind l.row

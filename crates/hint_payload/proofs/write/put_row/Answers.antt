@@ -10,29 +10,27 @@ use Rattle.util.proofs.Puts.{put_then}
 use Rattle.uleb.specs.Shortest.{ulebs_of}
 use Rattle.uleb.proofs.Spelled.{ten-bytes}
 use Rattle.hint_payload.proofs.Turns.{ulebs-next}
-use borrow.Author.Rules.{rules}
 use Rattle.hint_payload.proofs.write.put_row.Goals as goal
 
-pub loop-i-init : goal.loop-i-init
+pub loop-value-init : goal.loop-value-init
 unfolding ulebs_of
-loop-i-init c =
-    (search rules, search rules, refl, record { ends = omega arith; stored = refl })
+loop-value-init c =
+    (omega arith, refl, record { ends = omega arith; stored = refl })
 
 pub write_uleb-at-requires : goal.write_uleb-at-requires
 write_uleb-at-requires c =
     omega arith
 
-pub loop-i-preserved : goal.loop-i-preserved
-loop-i-preserved c =
-    let more = ulebs-next c.args.row.now c.loop-i.i c.loop-i-test.true in (
-      search rules,
-      omega (arith, c.write_uleb-at.ensures.ends, ten-bytes (get_or c.args.row.now c.loop-i.i 0)),
-      c.write_uleb-at.auto.out ∙ c.loop-i.invariant.2,
-      subst (λ (l : List ℕ). Puts c.args.out.now 0 l c.write_uleb-at.result c.write_uleb-at.new.out) more (put_then c.loop-i.invariant.3 c.write_uleb-at.ensures),
+pub loop-value-preserved : goal.loop-value-preserved
+loop-value-preserved c =
+    let more = ulebs-next c.args.row.now c.loop-value.value-index c.loop-value-test.true in (
+      omega (arith, c.write_uleb-at.ensures.ends, ten-bytes (get_or c.args.row.now c.loop-value.value-index 0)),
+      c.write_uleb-at.auto.out ∙ c.loop-value.invariant.1,
+      subst (λ (l : List ℕ). Puts c.args.out.now 0 l c.write_uleb-at.result c.write_uleb-at.new.out) more (put_then c.loop-value.invariant.2 c.write_uleb-at.ensures),
     )
 
 pub returns : goal.returns
 returns c =
-    let e : c.loop-i.i ≡ length c.args.row.now = omega arith in
+    let e : c.loop-value.value-index ≡ length c.args.row.now = omega arith in
     let all = ap (λ (n : ℕ). take n c.args.row.now) e ∙ take-length c.args.row.now in
-    subst (λ (l : List ℕ). Puts c.args.out.now 0 (ulebs_of l) c.loop-i.at c.loop-i.out) all c.loop-i.invariant.3
+    subst (λ (l : List ℕ). Puts c.args.out.now 0 (ulebs_of l) c.loop-value.at c.loop-value.out) all c.loop-value.invariant.2

@@ -1,5 +1,4 @@
 -- `read16`: two bytes below 256 are the word `le 2` of their place.
-use mathlib.Core.Path.{sym, ◌∙◌}
 use native.Mathlib.Omega.{arith}
 use native.Mathlib.Nat.{mod-eq_of_lt, add-zero}
 use Prim.Native.Nat.{ℕ, ◌+◌, ◌<◌}
@@ -11,4 +10,4 @@ pub returns : goal.returns
 unfolding le
 returns c =
     let byte : (i : ℕ) → get_or c.args.s.now i 0 < 256 = λ i. omega (arith, c.type_inv.s i) in
-    c.from_le_bytes.ensures ∙ sym (simp (add-zero, mod-eq_of_lt (byte c.args.at), mod-eq_of_lt (byte (c.args.at + 1))) (omega arith))
+    simp (add-zero, mod-eq_of_lt (byte c.args.at), mod-eq_of_lt (byte (c.args.at + 1))) (omega (arith, c.from_le_bytes.ensures))

@@ -13,7 +13,7 @@ returns-then-slots-records c =
 
 pub loop-i-init : goal.loop-i-init
 loop-i-init c =
-    (search rules, λ k l. omega arith)
+    λ k l. omega arith
 
 pub returns-then-slots-i : goal.returns-then-slots-i
 returns-then-slots-i c =
@@ -21,8 +21,8 @@ returns-then-slots-i c =
 
 pub loop-i-preserved : goal.loop-i-preserved
 loop-i-preserved c =
-    (search rules, due-more c.args.slots.now c.args.records.now c.loop-i.i c.loop-i.invariant.1 (c.if-slots-i.false ∙ c.due.ensures))
+    due-more c.args.slots.now c.args.records.now c.loop-i.i c.loop-i.invariant (c.if-slots-i.false ∙ c.due.ensures)
 
 pub returns : goal.returns
 returns c =
-    (λ q. (search rules, λ k l. c.loop-i.invariant.1 k (omega arith)), λ h. refl)
+    (λ q. (search rules, λ k l. c.loop-i.invariant k (omega arith)), λ h. refl)

@@ -10,13 +10,13 @@ use Rattle.replay_list.proofs.lent.put_pattern.Goals as goal
 
 pub loop-i-init : goal.loop-i-init
 loop-i-init c =
-    (search rules, refl, λ k l. omega arith)
+    (refl, λ k l. omega arith)
 
 pub loop-i-preserved : goal.loop-i-preserved
 loop-i-preserved c =
     let byte = c.pattern.ensures ∙ sym (due-pattern c.loop-i.i) in
-    (search rules, simp length-set c.loop-i.invariant.1, due-stored c.loop-i.slots [] c.loop-i.i _ (omega (arith, c.loop-i.invariant.1)) c.loop-i.invariant.2 byte)
+    (simp length-set c.loop-i.invariant.0, due-stored c.loop-i.slots [] c.loop-i.i _ (omega (arith, c.loop-i.invariant.0)) c.loop-i.invariant.1 byte)
 
 pub returns : goal.returns
 returns c =
-    (c.loop-i.invariant.1, (search rules, λ k l. c.loop-i.invariant.2 k (omega arith)))
+    (c.loop-i.invariant.0, (search rules, λ k l. c.loop-i.invariant.1 k (omega arith)))

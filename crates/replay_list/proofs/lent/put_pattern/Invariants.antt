@@ -1,5 +1,4 @@
 -- `put_pattern`: up to place i the slots hold the pattern (Slots); one more store keeps that.
-use Prim.Native.Nat.{◌-◌, ◌≤◌}
 use mathlib.Core.List.{[]}
 use mathlib.Core.Path.{◌≡◌}
 use lib.ListN.{length}
@@ -7,7 +6,4 @@ use Rattle.replay_list.proofs.Slots.{Due}
 use Rattle.replay_list.proofs.lent.put_pattern.Given as goal
 
 abbrev pub invariant-loop-i : goal.invariant-loop-i
-invariant-loop-i l = (l.i ≤ length l.initial.slots) × (length l.slots ≡ length l.initial.slots) × Due l.slots [] l.i
-
-abbrev pub decreases-loop-i : goal.decreases-loop-i
-decreases-loop-i l = length l.initial.slots - l.i
+invariant-loop-i l = (length l.slots ≡ length l.initial.slots) × Due l.slots [] l.i

@@ -1,18 +1,15 @@
--- `Add::decode` meets its contract: the masked word is the fixed bits just where the diagram matches. Assumes nothing.
-use mathlib.Core.Path.{refl}
+-- `Add::decode` meets its contract: the test decides the choice. Assumes nothing.
 use native.Mathlib.Nat.{div-one}
 use Rattle.util.specs.Choice.{choose}
-use Rattle.util.proofs.Diagram.{matched, unmatched}
-use Rattle.arm64_insn.specs.Encoding.{add}
 use Rattle.arm64_insn.specs.Add.{add_of}
 use Rattle.arm64_insn.proofs.add.Add.decode.Goals as goal
 
-pub returns-then-insn-eq-FIXED : goal.returns-then-insn-eq-FIXED
+pub returns-then-is_add : goal.returns-then-is_add
 unfolding add_of choose
-returns-then-insn-eq-FIXED c =
-    rw (matched add c.args.insn refl c.if-insn-eq-FIXED.true, div-one)
+returns-then-is_add c =
+    rw (← c.is_add.ensures, c.if-is_add.true, div-one)
 
-pub returns-else-insn-eq-FIXED : goal.returns-else-insn-eq-FIXED
+pub returns-else-is_add : goal.returns-else-is_add
 unfolding add_of choose
-returns-else-insn-eq-FIXED c =
-    rw (unmatched add c.args.insn refl c.if-insn-eq-FIXED.false)
+returns-else-is_add c =
+    rw (← c.is_add.ensures, c.if-is_add.false)

@@ -17,16 +17,17 @@ returns-then-insn-ne-FIXED c =
 
 pub overflow_mul-result : goal.overflow_mul-result
 overflow_mul-result c =
-    let e = sym c.access_of.ensures ∙ c.in-Of.is in
+    let e = sym c.access_of.ensures ∙ c.in_ok-access.was in
     let m = split_moves c.args.insn _ (matched load_store c.args.insn refl c.if-insn-ne-FIXED.false) e in
     record { fits = lt_of_le_of_lt (mul-le-mul_left _ (decoded-load-store c.args.insn _ m).most) (omega arith) }
 
-pub returns-in-Of : goal.returns-in-Of
-returns-in-Of c =
-    let e = sym c.access_of.ensures ∙ c.in-Of.is in
+pub returns : goal.returns
+returns c =
+    let e = sym c.access_of.ensures ∙ c.in_ok-access.was in
     rw div-one at (sym (split_moves c.args.insn _ (matched load_store c.args.insn refl c.if-insn-ne-FIXED.false) e))
 
-pub returns-in-Neither : goal.returns-in-Neither
-returns-in-Neither c =
-    let e = sym c.access_of.ensures ∙ c.in-Neither.is in
-    sym (split_moves c.args.insn _ (matched load_store c.args.insn refl c.if-insn-ne-FIXED.false) e)
+pub returns-in_err-access : goal.returns-in_err-access
+returns-in_err-access c =
+    let e = sym c.access_of.ensures ∙ c.in_err-access.was in
+    let f = split_moves c.args.insn _ (matched load_store c.args.insn refl c.if-insn-ne-FIXED.false) e in
+    cc

@@ -1,5 +1,5 @@
 -- `Seen::print`: the text that the call writes is that of the definition, for either value of the flag.
-use Rattle.std.proofs.Common.{◌≡◌, ℕ, ◌∷◌, [], ◌++◌, Bool, true, false, refl, subst, OnOk, codes}
+use Rattle.std.proofs.Common.{◌≡◌, ℕ, ◌∷◌, [], ◌++◌, Bool, true, false, refl, ◌∙◌, subst, OnOk, codes}
 use Rattle.std.specs.Fmt.{decimal}
 use Rattle.std.specs.Io.KnownBytes.{Appends}
 use mathlib.Core.Bool.{not}
@@ -17,4 +17,4 @@ returns g c =
     let P : ℕ → Type 0 =
     λ n. OnOk c.writeln.result (Appends (g.W.Write.contents c.args.to.now) (g.W.Write.contents c.writeln.new.self) (decimal c.args.self.held ++ (codes " answers, " ++ (decimal n ++ (codes " differences" ++ (10 ∷ []))))))
     in
-    subst P (differences c.args.self.is_whole) c.writeln.ensures.bytes
+    subst P (c.from-differences.ensures ∙ differences c.args.self.is_whole) c.writeln.ensures.bytes

@@ -1,9 +1,0 @@
--- `adr_first`: the word made is the ADR's.
-use Rattle.arm64_hint_terms.proofs.plans.adr_first.Goals as goal
-
-pub returns : goal.returns
-returns c =
-    simp (
-      c.rewritten.ensures,
-      c.adr-word.ensures,
-    )
