@@ -36,5 +36,13 @@ pub fn reloc_form(pcrel: bool, p2size: u32, ext: bool) -> u16
 pub fn has_reloc_form(r: MachRel, forms: u16) -> bool
     ensures { result ≡ has_bit forms (form_of r.bits) }
 {
+    // the constants are forms by `reloc_form`, too
+    prove!(SECTION_4 == reloc_form(false, 2, false));
+    prove!(SECTION_8 == reloc_form(false, 3, false));
+    prove!(SYMBOL_4 == reloc_form(false, 2, true));
+    prove!(SYMBOL_8 == reloc_form(false, 3, true));
+    prove!(PCREL_SECTION_4 == reloc_form(true, 2, false));
+    prove!(PCREL_SYMBOL_4 == reloc_form(true, 2, true));
+    prove!(PCREL_SYMBOL_1 == reloc_form(true, 0, true));
     (forms >> r.form()) % 2 == 1
 }

@@ -61,7 +61,7 @@ fn check_all(len: usize, bases: Bases, entries: &[u8], targets: &[u8]) -> Result
         let e = Reloc::read(entries, Reloc::SIZE * i);
         let t = Resolved::read(targets, Resolved::SIZE * i);
         check_entry(len, bases, e, t, i + 1 == n)?;
-        i += taken(e.ty);
+        i += taken(e.ty); // what a SUBTRACTOR takes is not looked at
     }
     Ok(())
 }

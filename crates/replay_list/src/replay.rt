@@ -1,7 +1,9 @@
 // Replaying a list.
-ghost use Rattle.std.specs.Prelude.{true, ◌≡◌, ◌<◌, IfOk, OnErr};
+ghost use Rattle.std.specs.Prelude.{true, ◌≡◌, ◌<◌, IfOk, OnErr, OnOk};
+ghost use Rattle.std.specs.Io.KnownBytes.{Appends};
 ghost use Rattle.macho.specs.Refusal.{answer_number};
-ghost use Rattle.replay_list.specs.Seen.{Bounded};
+ghost use Rattle.replay_list.specs.Replay.{Turn, IsTurn, Replayed, turn_text};
+ghost use Rattle.replay_list.specs.Seen.{Bounded, after};
 
 use crate::head::Head;
 use crate::list::{BODY, next};
@@ -32,12 +34,15 @@ fn replay_next<R: Read, W: Write, F: Fn(Head, &[u8]) -> bool>(
 ) -> io::Result<Seen>
     requires bounded { Bounded seen × (0 < seen.left) }
     requires callable { F.IsAlwaysCallable holds.now }
-    ensures { IfOk result (λ s. Bounded s × (s.left < seen.left)) }
+    ensures fewer { IfOk result (λ s. Bounded s × (s.left < seen.left)) }
+    ensures turn { IfOk result (λ s. (t : Turn) × (s ≡ after seen t.head.what t.holds)
+        × IsTurn (F.post holds.now) (R.remaining from.old) (R.remaining from.new) t
+        × Appends (W.contents to.old) (W.contents to.new) (turn_text seen t)) }
 {
     let mut body = [0u8; BODY];
     let head = next(from, to, &mut body)?;
     let len = head.len as usize;
-    seen.after(to, head.what, holds(head, &body[0..len]))
+    seen.after(to, head.what, holds(head, &body[..len]))
 }
 
 // Replays a list, of whose records `holds` says whether each is an answer that the port gives, too.
@@ -47,6 +52,7 @@ pub fn replay<R: Read, W: Write, F: Fn(Head, &[u8]) -> bool>(
     holds: F,
 ) -> io::Result<()>
     requires { F.IsAlwaysCallable holds }
+    ensures { OnOk result (Replayed (F.post holds) (R.remaining from.old) (R.remaining from.new) (W.contents to.old) (W.contents to.new)) }
 {
     let mut seen = Seen::none();
     while seen.left > 0 {
