@@ -7,6 +7,7 @@ use arm64_fixup::walk::apply_reloc_alloc;
 use macho::refusal::settle;
 
 // Fixes a section's bytes by its entries and their resolved targets; `count` gets the number of reports.
+#[tactic(auto, using(crate::proofs::Lent::count_same))]
 pub fn hauklivo_apply_reloc_alloc(
     buf: &mut [u8],
     base: u64,

@@ -7,6 +7,7 @@ use lister_text::list;
 use macho::refusal::settle;
 
 // Lists words with their offsets and classes at the start of `out`; `count` gets how many bytes that is.
+#[tactic(auto, using(crate::proofs::Lent::count_same))]
 pub fn hauklivo_list(words: &[u8], out: &mut [u8], count: &mut usize) -> u8
     ensures number { result ≡ number_to words.now out.old }
     ensures count { count.new ≡ count_to words.now out.old count.old }

@@ -8,6 +8,7 @@ use hint_payload::write::write_hints;
 use macho::refusal::settle;
 
 // Reads a payload into a row of values, kind, count and addresses for each hint; `count` gets how many.
+#[tactic(auto, using(crate::proofs::Lent::count_same))]
 pub fn hauklivo_read_hints(payload: &[u8], slots: &mut [u64], count: &mut usize) -> u8
     ensures number { result ≡ read_number_to payload.now slots.old }
     ensures count { count.new ≡ read_count_to payload.now slots.old count.old }
@@ -18,6 +19,7 @@ pub fn hauklivo_read_hints(payload: &[u8], slots: &mut [u64], count: &mut usize)
 }
 
 // Writes such a row as a payload, each value in its shortest spelling; `count` gets how many bytes that is.
+#[tactic(auto, using(crate::proofs::Lent::count_same))]
 pub fn hauklivo_write_hints(row: &[u64], out: &mut [u8], count: &mut usize) -> u8
     ensures number { result ≡ write_number_to row.now out.old }
     ensures count { count.new ≡ write_count_to row.now out.old count.old }

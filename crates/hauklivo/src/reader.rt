@@ -10,6 +10,7 @@ use macho::refusal::settle;
 use x86_64_reader::read::read_relocs as read_relocs_of_x86_64;
 
 // Reads relocation records of arm64 into entries; `count` gets how many.
+#[tactic(auto, using(crate::proofs::Lent::count_same))]
 pub fn hauklivo_read_relocs(
     contents: &[u8],
     records: &[u8],
@@ -27,6 +28,7 @@ pub fn hauklivo_read_relocs(
 }
 
 // Reads relocation records of x86_64 into entries; `address` is that of the section itself, `count` gets how many.
+#[tactic(auto, using(crate::proofs::Lent::count_same))]
 pub fn hauklivo_read_relocs_x86_64(
     contents: &[u8],
     records: &[u8],

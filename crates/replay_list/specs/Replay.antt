@@ -1,7 +1,7 @@
 -- A replay of a list: records read one after the other, and the table that they and the last line make.
 use Rattle.std.specs.Prelude.{ℕ, ◌<◌, Bool, List, [], ◌∷◌, ◌++◌, ◌≡◌, take, Option}
 use Rattle.std.specs.Borrow.{Bor}
-use Rattle.std.specs.Io.KnownBytes.{Appends}
+use Rattle.std.specs.Io.KnownBytes.{Appends, Consumes, IsAtEnd}
 use Rattle.replay_list.specs.Head.{title_text, IsRead}
 use Rattle.replay_list.specs.Seen.{none, after, after_text, last_text}
 use Rattle.replay_list.specs.declared.head.Head.{Head}
@@ -27,15 +27,15 @@ unfoldable pub table : List Turn → List ℕ
 table [] = []
 table (t ∷ ts) = table ts ++ turn_text (seen_after ts) t
 
--- a turn's record was read of the known bytes, and the test said of it what the turn has
+-- of a turn: a record (below 0xfe) was read of the known bytes, at the end (0xfe) none was left, and the test said of it what the turn has
 abbrev pub IsTurn : (Head → Bor (List ℕ) → Bool → Type 0) → Option (List ℕ) → Option (List ℕ) → Turn → Type 0
-IsTurn test old new t = (t.head.what < 0xfe → IsRead old new t.head t.body)
+IsTurn test old new t = (t.head.what < 0xfe → IsRead old new t.head t.body) × (t.head.what ≡ 0xfe → Consumes old new [] × IsAtEnd new)
     × ((lent : Bor (List ℕ)) × (lent.now ≡ take t.head.len t.body) × test t.head lent t.holds)
 
--- so it is of some turns, one after the other
+-- so it is of some turns, one after the other, each while a record might still be read
 unfoldable pub AreTurns : (Head → Bor (List ℕ) → Bool → Type 0) → Option (List ℕ) → Option (List ℕ) → List Turn → Type 0
 AreTurns test old new [] = old ≡ new
-AreTurns test old new (t ∷ ts) = (mid : Option (List ℕ)) × AreTurns test old mid ts × IsTurn test mid new t
+AreTurns test old new (t ∷ ts) = (mid : Option (List ℕ)) × AreTurns test old mid ts × (0 < (seen_after ts).left) × IsTurn test mid new t
 
 -- a list was replayed until no record may be read any more: what was written is the turns' table, and the last line
 abbrev pub Replayed : (Head → Bor (List ℕ) → Bool → Type 0) → Option (List ℕ) → Option (List ℕ) → Option (List ℕ) → Option (List ℕ) → Type 0

@@ -1,6 +1,6 @@
 // Reading a list.
-ghost use Rattle.std.specs.Prelude.{◌≡◌, ◌<◌, ◌≤◌, length, take, IfOk, OnErr};
-ghost use Rattle.std.specs.Io.KnownBytes.{Appends, Consumes};
+ghost use Rattle.std.specs.Prelude.{[], ◌≡◌, ◌<◌, ◌≤◌, length, take, IfOk, OnErr};
+ghost use Rattle.std.specs.Io.KnownBytes.{Appends, Consumes, IsAtEnd};
 ghost use Rattle.replay_list.specs.Head.{title_text, IsRead};
 
 use crate::head::{BROKEN, END, Head, TITLE};
@@ -31,6 +31,7 @@ fn read_body<R: Read, W: Write>(
     ensures fits { IfOk result (λ h. h.len ≤ length body.new) }
     ensures lent { OnErr result (length body.new ≡ length body.old) }
     ensures same { IfOk result (λ h. h.what < END → h ≡ head) }
+    ensures no_end { IfOk result (λ h. h.what ≡ END → ⊥) }
     ensures read { IfOk result (λ h. h.what < END → Consumes (R.remaining from.old) (R.remaining from.new) (take h.len body.new)) }
     ensures title { IfOk result (λ h. Appends (W.contents to.old) (W.contents to.new) (title_text h body.new)) }
 {
@@ -56,6 +57,7 @@ pub fn next<R: Read, W: Write>(from: &mut R, to: &mut W, body: &mut [u8]) -> io:
     ensures fits { IfOk result (λ h. h.len ≤ length body.new) }
     ensures lent { OnErr result (length body.new ≡ length body.old) }
     ensures read { IfOk result (λ h. h.what < END → IsRead (R.remaining from.old) (R.remaining from.new) h body.new) }
+    ensures end { IfOk result (λ h. h.what ≡ END → Consumes (R.remaining from.old) (R.remaining from.new) [] × IsAtEnd (R.remaining from.new)) }
     ensures title { IfOk result (λ h. Appends (W.contents to.old) (W.contents to.new) (title_text h body.new)) }
 {
     let mut bytes = [0u8; 16];

@@ -10,6 +10,6 @@ returns-clause-turn g c =
     (λ s text p. (
       record { head = c.in_ok-head.head; body = c.next.new.body; holds = c.holds.result },
       p.0,
-      (c.in_ok-head.ensures.read, (_, refl, c.holds.ensures)),
+      (c.in_ok-head.ensures.read, c.in_ok-head.ensures.end, (_, refl, c.holds.ensures)),
       Appends-trans _ _ _ _ _ c.in_ok-head.ensures.title text,
     ))
