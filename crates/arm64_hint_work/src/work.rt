@@ -3,12 +3,12 @@ ghost use Rattle.std.specs.Prelude.{◌≡◌, ◌/◌, ◌<◌, length, Ok};
 ghost use Rattle.macho.specs.Hint.{hint_count, hint_of};
 ghost use Rattle.macho.specs.Reloc.{reloc_size};
 ghost use Rattle.image.specs.Steps.{answered, written};
-ghost use Rattle.arm64_hint_places.specs.Hint.{Inside};
+ghost use Rattle.arm64_hint_places.specs.Hint.{Inside, is_skipped};
 ghost use Rattle.arm64_hint_check.specs.Check.{check_hint};
 ghost use Rattle.arm64_hint_rules.specs.Rule.{ruled_in, section_after};
 ghost use Rattle.arm64_hint_work.specs.Step.{steps_of};
 
-use arm64_hint_places::{is_skipped, rels_of};
+use arm64_hint_places::rels_of;
 use arm64_hint_rules::decide::{
     AdrpAdd, AdrpAddLdr, AdrpAddStr, AdrpAdrp, AdrpLdr, AdrpLdrGot, AdrpLdrGotLdr, AdrpLdrGotStr,
 };
@@ -37,6 +37,16 @@ fn apply(section: &mut [u8], h: HintRecord, r: Rels) -> HintOutcome
     }
 }
 
+// What `is_skipped` says, without a branch by the kind, which kinds that come mixed would mispredict: kinds 3 to 6 have three words, the others two.
+#[tactic(auto, unfolding(arm64_hint_places::specs::Hint::is_skipped, macho::specs::Hint::word_count, util::specs::Choice::choose))]
+fn skips(h: HintRecord) -> bool
+    ensures { result ≡ is_skipped h }
+{
+    let third = consts::LOH_ARM64_ADRP_ADD_LDR <= h.kind
+        && h.kind <= consts::LOH_ARM64_ADRP_LDR_GOT_STR;
+    h.kind == 0 || consts::LOH_ARM64_ADRP_LDR_GOT < h.kind || h.n != 2 + u8::from(third)
+}
+
 // Works hint k on the image: lends its part to the rule of its kind.
 pub fn work(image: &mut [u8], hints: &[u8], entries: &[u8], k: usize) -> HintOutcome
     requires { (k < hint_count hints.now) × (check_hint (length image.old) (length entries.now / reloc_size) (hint_of hints.now k) ≡ Ok tt) }
@@ -45,7 +55,7 @@ pub fn work(image: &mut [u8], hints: &[u8], entries: &[u8], k: usize) -> HintOut
 {
     let at = HintRecord::SIZE * k;
     // Read for the test alone, and whole after it: so a hint that is skipped costs the two fields that are tested.
-    if is_skipped(HintRecord::read(hints, at)) {
+    if skips(HintRecord::read(hints, at)) {
         return None;
     }
     let h = HintRecord::read(hints, at);

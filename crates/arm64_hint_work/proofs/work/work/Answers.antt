@@ -13,33 +13,33 @@ use Rattle.arm64_hint_work.proofs.work.work.Goals as goal
 same_test : {a b h : HintRecord} → a ≡ h → b ≡ h → is_skipped b ≡ false → is_skipped a ≡ false
 same_test p q t = subst (λ x. is_skipped x ≡ false) (q ∙ sym p) t
 
-pub returns-then-is_skipped : goal.returns-then-is_skipped
-returns-then-is_skipped c =
+pub returns-then-skips : goal.returns-then-skips
+returns-then-skips c =
     let step = skipped-step c.args.hints.now c.args.entries.now c.args.image.now c.args.k _ c.read.ensures
-    (sym c.is_skipped.ensures ∙ c.if-is_skipped.true)
+    (sym c.skips.ensures ∙ c.if-skips.true)
     in
     record { outcome = step.0; image = step.1 }
 
 pub rels_of-r-requires : goal.rels_of-r-requires
 rels_of-r-requires c =
-    (ready _ _ _ _ c.read-h.ensures c.requires.1 (same_test c.read-h.ensures c.read.ensures (sym c.is_skipped.ensures ∙ c.if-is_skipped.false))).entries
+    (ready _ _ _ _ c.read-h.ensures c.requires.1 (same_test c.read-h.ensures c.read.ensures (sym c.skips.ensures ∙ c.if-skips.false))).entries
 
 pub slice_bounds-apply-end : goal.slice_bounds-apply-end
 slice_bounds-apply-end c =
-    let q = (ready _ _ _ _ c.read-h.ensures c.requires.1 (same_test c.read-h.ensures c.read.ensures (sym c.is_skipped.ensures ∙ c.if-is_skipped.false))).part in
+    let q = (ready _ _ _ _ c.read-h.ensures c.requires.1 (same_test c.read-h.ensures c.read.ensures (sym c.skips.ensures ∙ c.if-skips.false))).part in
     omega arith
 
 pub apply-requires : goal.apply-requires
 apply-requires c =
     let h : HintRecord = c.read-h.result in
-    let q = ready _ _ h _ c.read-h.ensures c.requires.1 (same_test c.read-h.ensures c.read.ensures (sym c.is_skipped.ensures ∙ c.if-is_skipped.false)) in
+    let q = ready _ _ h _ c.read-h.ensures c.requires.1 (same_test c.read-h.ensures c.read.ensures (sym c.skips.ensures ∙ c.if-skips.false)) in
     let e : (h.start + h.len) - h.start ≡ h.len = omega arith in
     inside-part c.args.image.now h _ e q.part q.words
 
 pub returns : goal.returns
 returns c =
     let h : HintRecord = c.read-h.result in
-    let q = ready _ _ h _ c.read-h.ensures c.requires.1 (same_test c.read-h.ensures c.read.ensures (sym c.is_skipped.ensures ∙ c.if-is_skipped.false)) in
+    let q = ready _ _ h _ c.read-h.ensures c.requires.1 (same_test c.read-h.ensures c.read.ensures (sym c.skips.ensures ∙ c.if-skips.false)) in
     let j : ℕ = (h.start + h.len) - h.start in
     let e : j ≡ h.len = omega arith in
     record {
